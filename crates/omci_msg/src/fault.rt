@@ -1,0 +1,38 @@
+//! Why bytes are no request.
+
+use thiserror::Error;
+
+/// What is wrong with the bytes of a message. Where several things are, it is the one that stands
+/// first here.
+#[derive(Clone, Copy, Debug, PartialEq, Eq, Error)]
+pub enum MsgFault {
+    /// There are neither 48 bytes nor 44, a message without its last four.
+    #[error("message of {0} bytes, expected 48 or 44")]
+    Length(usize),
+    /// The destination bit is 1 (bit 8 of the message type; ITU-T G.988, clause 11.2.2).
+    #[error("destination bit 1, expected 0")]
+    Destination,
+    /// The bit AK is 1: this is an answer.
+    #[error("acknowledgement bit 1, expected 0 of a request")]
+    NotRequest,
+    /// The device identifier isn't that of the baseline message set (clause 11.2.3).
+    #[error("device identifier {0}, expected 10")]
+    Device(u8),
+}
+
+impl MsgFault {
+    ghost use Rattle.std.specs.Prelude.{◌≡◌};
+    ghost use Rattle.omci_msg.specs.Fault.{number_of_fault};
+
+    /// The number under which the fault is reported.
+    pub fn code(self) -> u8
+        ensures { result ≡ number_of_fault self }
+    {
+        match self {
+            MsgFault::Length(_) => 1,
+            MsgFault::Destination => 2,
+            MsgFault::NotRequest => 3,
+            MsgFault::Device(_) => 4,
+        }
+    }
+}
