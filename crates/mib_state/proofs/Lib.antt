@@ -1,0 +1,12 @@
+pub mod Bits
+pub mod Masks
+pub mod Written
+pub mod Padded
+pub mod Gathered
+pub mod Returned
+pub mod Place
+pub mod Edits
+pub mod Counted
+pub mod Answered
+pub mod Accepted
+mod Examples

@@ -1,0 +1,49 @@
+-- The entities after a list of requests.
+use Rattle.std.specs.Prelude.{ℕ, ◌≡◌, Bool, true, false, ◌&&◌, ◌==◌, List, [], ◌∷◌, if◌then◌else◌, slice_index}
+use Rattle.omci_msg.specs.declared.Request.{Request}
+use Rattle.omci_msg.specs.declared.Action.{Action}
+use Rattle.omci_msg.specs.declared.Action.TheVariants.{Create, Delete, Set, Get, GetNext, MibUpload, MibUploadNext, MibReset, Other}
+use Rattle.mib_state.specs.Answer.{success_code}
+use Rattle.mib_state.specs.Entities.{Entities, nothing}
+use Rattle.mib_state.specs.Step.{carried_out, step}
+
+-- the entities after each request in turn
+abbrev pub after_from : Entities → List Request → Entities
+after_from e [] = e
+after_from e (q ∷ rest) = after_from (step e q).1 rest
+
+-- the same, from no instance and sync 0
+abbrev pub after : List Request → Entities
+after requests = after_from nothing requests
+
+-- the actions that may change the entities
+abbrev pub may_change : Action → Bool
+may_change Create = true
+may_change Delete = true
+may_change Set = true
+may_change Get = false
+may_change GetNext = false
+may_change MibUpload = false
+may_change MibUploadNext = false
+may_change MibReset = true
+may_change (Other code) = false
+
+-- the result that a request is answered: the first byte of the contents
+abbrev pub result_of : Entities → Request → ℕ
+result_of e q = slice_index (carried_out q.action e q).0 0
+
+-- a request is accepted where it may change the entities and its result is success
+abbrev pub is_accepted : Entities → Request → Bool
+is_accepted e q = may_change q.action && result_of e q == success_code
+
+-- the requests of a list that are accepted, each where it comes
+abbrev pub accepted_from : Entities → List Request → List Request
+accepted_from e [] = []
+accepted_from e (q ∷ rest) = if is_accepted e q then q ∷ accepted_from (step e q).1 rest else accepted_from (step e q).1 rest
+
+abbrev pub accepted : List Request → List Request
+accepted requests = accepted_from nothing requests
+
+-- the entities after a list of requests are those after its accepted requests alone
+abbrev pub AcceptedSuffice : Type 0
+AcceptedSuffice = (requests : List Request) → after (accepted requests) ≡ after requests

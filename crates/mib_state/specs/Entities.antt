@@ -1,0 +1,111 @@
+-- The managed entities as one value.
+use Rattle.std.specs.Prelude.{ℕ, zero, suc, ◌<◌, ◌≤◌, ◌≡◌, ◌==◌, nat_lt, List, [], ◌∷◌, Option, Some, None, if◌then◌else◌, length, slice_get, slice_index, slice_index_or}
+use Rattle.byteorder.specs.Endian.{big_number}
+use Rattle.mib_state.specs.declared.attribute.Attribute.{Attribute}
+use Rattle.mib_state.specs.Class.{table_at}
+
+-- one instance of a class: its number, the bytes of each attribute in ascending order, none of the table, and the
+-- table's entries
+pub record Instance : Type 0 where
+  pub number : ℕ
+  pub values : List (List ℕ)
+  pub entries : List (List ℕ)
+
+-- the MIB data sync, and the instances of each class by ascending number; together they are the map from class and
+-- instance to attributes
+pub record Entities : Type 0 where
+  pub sync : ℕ
+  pub mappers : List Instance
+  pub vlans : List Instance
+  pub interworks : List Instance
+  pub gem_ports : List Instance
+
+-- no instance, and sync 0
+abbrev pub nothing : Entities
+nothing = record { sync = 0; mappers = []; vlans = []; interworks = []; gem_ports = [] }
+
+-- ONU data has one instance, number 0, whose one attribute is the sync
+abbrev pub onu_data : ℕ → Instance
+onu_data sync = record { number = 0; values = (sync ∷ []) ∷ []; entries = [] }
+
+-- the instances of a class
+abbrev pub instances_of : Entities → ℕ → List Instance
+instances_of e class =
+    if class == 2 then onu_data e.sync ∷ []
+    else (if class == 130 then e.mappers
+    else (if class == 171 then e.vlans
+    else (if class == 266 then e.interworks
+    else (if class == 268 then e.gem_ports else []))))
+
+-- the sync that the instances of ONU data hold: the byte of the first one's first attribute
+abbrev pub sync_of : List Instance → ℕ
+sync_of [] = 0
+sync_of (i ∷ rest) = slice_index (slice_index_or i.values 0 []) 0
+
+-- the entities with other instances of a class
+abbrev pub with_instances : Entities → ℕ → List Instance → Entities
+with_instances e class instances =
+    if class == 2 then record e { sync = sync_of instances }
+    else (if class == 130 then record e { mappers = instances }
+    else (if class == 171 then record e { vlans = instances }
+    else (if class == 266 then record e { interworks = instances }
+    else (if class == 268 then record e { gem_ports = instances } else e))))
+
+-- an instance by its parts
+abbrev pub shown_as : ℕ → List (List ℕ) → List (List ℕ) → Instance
+shown_as n values entries = record { number = n; values = values; entries = entries }
+
+-- ---- the instances of one class
+
+-- the instance of a number
+abbrev pub find : ℕ → List Instance → Option Instance
+find n [] = None
+find n (i ∷ rest) = if i.number == n then Some i else find n rest
+
+-- with a new instance, before those of greater numbers
+abbrev pub insert : Instance → List Instance → List Instance
+insert new [] = new ∷ []
+insert new (i ∷ rest) = if nat_lt new.number i.number then new ∷ i ∷ rest else i ∷ insert new rest
+
+-- without the instance of a number
+abbrev pub remove : ℕ → List Instance → List Instance
+remove n [] = []
+remove n (i ∷ rest) = if i.number == n then rest else i ∷ remove n rest
+
+abbrev pub blank : Instance
+blank = record { number = 0; values = []; entries = [] }
+
+-- the number of the instance at a place
+abbrev pub number_at : List Instance → ℕ → ℕ
+number_at l i = let instance = slice_index_or l i blank in instance.number
+
+-- the numbers rise
+abbrev pub IsAscending : List Instance → Type 0
+IsAscending l = (i j : ℕ) → i < j → j < length l → number_at l i < number_at l j
+
+-- the instance at place i has the number
+pub record IsAt (l : List Instance) (n i : ℕ) : Type 0 where
+  pub in_range : i < length l
+  pub has_number : number_at l i ≡ n
+
+-- the number would go at place i: smaller numbers before it, and greater ones from it on
+pub record IsGapFor (l : List Instance) (n i : ℕ) : Type 0 where
+  pub in_range : i ≤ length l
+  pub smaller_before : (j : ℕ) → j < i → number_at l j < n
+  pub greater_after : (j : ℕ) → i ≤ j → j < length l → n < number_at l j
+
+-- ---- the attributes of an instance
+
+-- the bytes of the attribute at a place; None for what isn't there and for the table
+abbrev pub value_at : List Attribute → ℕ → Option Instance → Option (List ℕ)
+value_at layout place None = None
+value_at layout place (Some i) = if table_at layout place then None else slice_get i.values place
+
+-- the bytes of attribute n, numbered from 1
+abbrev pub attribute_of : List Attribute → ℕ → Option Instance → Option (List ℕ)
+attribute_of layout zero i = None
+attribute_of layout (suc place) i = value_at layout place i
+
+-- the number that bytes spell, the highest first
+abbrev pub number_of : List ℕ → ℕ
+number_of bytes = big_number (length bytes) bytes

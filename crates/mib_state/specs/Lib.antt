@@ -1,0 +1,8 @@
+pub mod Class
+pub mod Supported
+pub mod Entities
+pub mod Mask
+pub mod Answer
+pub mod Shown
+pub mod Step
+pub mod After

@@ -1,0 +1,157 @@
+-- One step: what a request is answered, and the entities that it leaves (ITU-T G.988, clauses 11.2 and A.2). Each
+-- action is one definition over the attributes of a class. Refusals come in the order in which they are written.
+use Rattle.std.specs.Prelude.{ℕ, suc, ◌+◌, ◌-◌, ◌*◌, not, ◌&&◌, List, [], ◌∷◌, ◌++◌, Option, Some, None, is_some, if◌then◌else◌, ◌==◌, nat_le, length, take, drop, map, Result, Ok, Err}
+use Rattle.byteorder.specs.Endian.{big_bytes, big_number}
+use Rattle.omci_msg.specs.declared.Request.{Request}
+use Rattle.omci_msg.specs.declared.Reply.{Reply}
+use Rattle.omci_msg.specs.declared.Action.{Action}
+use Rattle.omci_msg.specs.declared.Action.TheVariants.{Create, Delete, Set, Get, GetNext, MibUpload, MibUploadNext, MibReset, Other}
+use Rattle.mib_state.specs.declared.attribute.Attribute.{Attribute}
+use Rattle.mib_state.specs.declared.refusal.Refusal.{Refusal}
+use Rattle.mib_state.specs.declared.refusal.Refusal.TheVariants.{ProcessingError, NotSupported, ParameterError, UnknownEntity, UnknownInstance, InstanceExists}
+use Rattle.mib_state.specs.Class.{attributes_of, room_of, initial_value, initial_entries, is_table}
+use Rattle.mib_state.specs.Supported.{is_carried_out, is_known, returns_attributes}
+use Rattle.mib_state.specs.Entities.{Entities, Instance, nothing, instances_of, with_instances, find, insert, remove}
+use Rattle.mib_state.specs.Mask.{bit_of, names, unknown_of, given_mask}
+use Rattle.mib_state.specs.Answer.{padded, success_code, partial_code, refused, left_by, answer_to, told}
+
+-- ---- Create
+
+-- the values after those of the attributes that a mask names are taken from the bytes, one after another; the table
+-- has none
+abbrev pub written : ℕ → ℕ → List Attribute → List ℕ → List (List ℕ) → List (List ℕ)
+written mask place [] bytes values = values
+written mask place (a ∷ rest) bytes [] = []
+written mask place (a ∷ rest) bytes (v ∷ values) =
+    if names mask place then (if is_table a.access then v else take a.width bytes) ∷ written mask (suc place) rest (drop a.width bytes) values
+    else v ∷ written mask (suc place) rest bytes values
+
+-- an instance after Create: its set-by-create attributes are those of the contents
+abbrev pub created : List Attribute → ℕ → List ℕ → Instance
+created layout n contents = record {
+  number = n;
+  values = written (given_mask 0 layout) 0 layout contents (map initial_value layout);
+  entries = initial_entries layout;
+}
+
+-- the instances of a class after Create
+unfoldable pub create_in : List Attribute → ℕ → ℕ → List ℕ → List Instance → Result (List Instance) Refusal
+create_in layout room n contents instances =
+    if n == 65535 then Err ParameterError
+    else (if is_some (find n instances) then Err InstanceExists
+    else (if nat_le room (length instances) then Err ProcessingError
+    else Ok (insert (created layout n contents) instances)))
+
+-- ---- Delete
+
+-- the instances of a class after Delete
+unfoldable pub delete_in : ℕ → List Instance → Result (List Instance) Refusal
+delete_in n instances = if is_some (find n instances) then Ok (remove n instances) else Err UnknownInstance
+
+-- ---- Get
+
+-- what a Get gathers: the mask of what is returned, that of what doesn't fit, and the bytes of what is returned
+pub record Gathered : Type 0 where
+  pub returned : ℕ
+  pub left_out : ℕ
+  pub bytes : List ℕ
+
+-- in ascending order, each named attribute that fits in what is left of the room, in bytes
+abbrev pub gathered : ℕ → ℕ → ℕ → List (List ℕ) → Gathered
+gathered mask place room [] = record { returned = 0; left_out = 0; bytes = [] }
+gathered mask place room (v ∷ values) =
+    if not (names mask place) then gathered mask (suc place) room values
+    else (if nat_le (length v) room
+    then (let rest = gathered mask (suc place) (room - length v) values in
+    record rest { returned = bit_of place + rest.returned; bytes = v ++ rest.bytes })
+    else (let rest = gathered mask (suc place) room values in record rest { left_out = bit_of place + rest.left_out }))
+
+-- what is returned of each attribute: of the table its size in bytes, in four bytes
+abbrev pub returned_values : List Attribute → List (List ℕ) → List (List ℕ) → List (List ℕ)
+returned_values [] values entries = []
+returned_values (a ∷ rest) [] entries = []
+returned_values (a ∷ rest) (v ∷ values) entries =
+    (if is_table a.access then big_bytes 4 (16 * length entries) else v) ∷ returned_values rest values entries
+
+-- the answer to a Get of an instance of so many attributes: the result, the mask of what is returned, its 25 bytes, the
+-- optional-attribute mask of what is unknown, and the attribute execution mask of what doesn't fit
+unfoldable pub get_contents : ℕ → ℕ → List (List ℕ) → List ℕ
+get_contents count mask values =
+    let got = gathered mask 0 25 values in
+    let unknown = unknown_of mask count in
+    (if unknown == 0 && got.left_out == 0 then success_code else partial_code)
+    ∷ big_bytes 2 got.returned ++ padded 25 got.bytes ++ big_bytes 2 unknown ++ big_bytes 2 got.left_out
+
+-- the answer to a Get in a class, by the instance that is found
+abbrev pub get_found : List Attribute → ℕ → Option Instance → Result (List ℕ) Refusal
+get_found layout mask None = Err UnknownInstance
+get_found layout mask (Some i) = Ok (get_contents (length layout) mask (returned_values layout i.values i.entries))
+
+-- the mask of a Get or a Set: its first two bytes
+unfoldable pub mask_of : List ℕ → ℕ
+mask_of contents = big_number 2 contents
+
+unfoldable pub get : Entities → Request → Result (List ℕ) Refusal
+get e q =
+    if not (is_known q.class) then Err UnknownEntity
+    else (if not (returns_attributes q.class) then Err NotSupported
+    else get_found (attributes_of q.class) (mask_of q.contents) (find q.instance (instances_of e q.class)))
+
+-- ---- what a change of a class leaves
+
+-- 255 is followed by 1
+abbrev pub next_sync : ℕ → ℕ
+next_sync sync = if sync == 255 then 1 else sync + 1
+
+-- the entities after a change of the instances of a class: the sync counts it, but a write of the sync itself
+abbrev pub counted : Entities → ℕ → Result (List Instance) Refusal → Result Entities Refusal
+counted e class (Ok instances) =
+    Ok (if class == 2 then with_instances e class instances else record (with_instances e class instances) { sync = next_sync e.sync })
+counted e class (Err refusal) = Err refusal
+
+-- the entities, counting a change if it was one
+abbrev pub counted_if : Result (Unit {0}) Refusal → Entities → Entities
+counted_if (Ok done) e = record e { sync = next_sync e.sync }
+counted_if (Err refusal) e = e
+
+unfoldable pub create : Entities → Request → Result Entities Refusal
+create e q =
+    if not (is_known q.class) then Err UnknownEntity
+    else (if q.class == 2 then Err NotSupported
+    else counted e q.class (create_in (attributes_of q.class) (room_of q.class) q.instance q.contents (instances_of e q.class)))
+
+unfoldable pub delete : Entities → Request → Result Entities Refusal
+delete e q =
+    if not (is_known q.class) then Err UnknownEntity
+    else (if q.class == 2 then Err NotSupported
+    else counted e q.class (delete_in q.instance (instances_of e q.class)))
+
+-- ---- the step
+
+-- the contents of the answer to a change, and what it leaves: a refused one leaves the entities
+abbrev pub changed : Entities → Result Entities Refusal → List ℕ × Entities
+changed e r = (answer_to r, left_by e r)
+
+-- the same of an action that is carried out
+abbrev pub effect_of : Action → Entities → Request → List ℕ × Entities
+effect_of Create e q = changed e (create e q)
+effect_of Delete e q = changed e (delete e q)
+effect_of Set e q = (refused NotSupported, e)
+effect_of Get e q = (told (get e q), e)
+effect_of GetNext e q = (refused NotSupported, e)
+effect_of MibUpload e q = (refused NotSupported, e)
+effect_of MibUploadNext e q = (refused NotSupported, e)
+effect_of MibReset e q = changed e (Ok nothing)
+effect_of (Other code) e q = (refused NotSupported, e)
+
+-- the same of any action
+abbrev pub carried_out : Action → Entities → Request → List ℕ × Entities
+carried_out action e q = if is_carried_out action then effect_of action e q else (refused NotSupported, e)
+
+-- an answer has the identifier, action, class and instance of its request
+abbrev pub reply_to : Request → List ℕ → Reply
+reply_to q contents = record { tci = q.tci; action = q.action; class = q.class; instance = q.instance; contents = contents }
+
+-- the reply to a request, and the entities that it leaves
+abbrev pub step : Entities → Request → Reply × Entities
+step e q = let done = carried_out q.action e q in (reply_to q done.0, done.1)

@@ -1,0 +1,137 @@
+//! The instances of a class, by ascending number, in room that is reserved.
+ghost use Rattle.std.specs.Prelude.{◌≡◌, [], map, option_map, IfOk, IfErr, vec_len, vec_capacity, ◌≤◌};
+ghost use Rattle.mib_state.specs.Class.{table_at};
+ghost use Rattle.mib_state.specs.Entities.{find, shown_as, value_at, IsAt, IsGapFor};
+ghost use Rattle.mib_state.specs.Answer.{outcome_of, left_by};
+ghost use Rattle.mib_state.specs.Step.{get_found, create_in};
+
+use crate::bytes::Bytes;
+use crate::entity::ManagedEntity;
+use crate::get::get_contents;
+use crate::refusal::Refusal;
+use crate::write::create;
+use std::alloc::{AllocError, Global};
+use std::marker::Model;
+
+/// An instance with its number.
+#[derive(Drop)]
+struct Row<E> {
+    number: u16,
+    entity: E,
+}
+
+/// The instances of a class, and those that stand ready to be created.
+#[derive(Drop)]
+pub struct Instances<E: ManagedEntity> {
+    rows: Vec<Row<E>>,
+    spare: Vec<E>,
+}
+
+impl<E: ManagedEntity> Model for Instances<E> {
+    ghost use Rattle.std.specs.Prelude.{List, map, vec_capacity, vec_len, ◌≤◌, ◌≡◌, ◌+◌};
+    ghost use Rattle.mib_state.specs.Entities.{Instance, IsAscending, shown_as};
+
+    ghost Value = { List Instance };
+
+    ghost view = { λ s. map (λ row. shown_as row.number (E.values row.entity) (E.entries row.entity)) s.rows.items };
+
+    ghost invariant = { λ s.
+        IsAscending (map (λ row. shown_as row.number (E.values row.entity) (E.entries row.entity)) s.rows.items)
+        × (E.ROOM ≤ vec_capacity s.rows) × (E.ROOM ≤ vec_capacity s.spare) × (vec_len s.rows + vec_len s.spare ≡ E.ROOM) };
+}
+
+impl<E: ManagedEntity> Instances<E> {
+    /// None, with room for all.
+    pub fn new(alloc: Global) -> Result<Self, AllocError>
+        ensures { IfOk result (λ instances. instances ≡ []) }
+    {
+        Ok(Instances {
+            rows: Vec::with_capacity(alloc, E::ROOM)?,
+            spare: spare(alloc)?,
+        })
+    }
+
+    /// Where the number is, or where it would go.
+    fn search(&self, number: u16) -> Result<usize, usize>
+        ensures found { IfOk result (IsAt self.now number) }
+        ensures absent { IfErr result (IsGapFor self.now number) }
+    {
+        self.rows.binary_search_by_key(&number, |row| row.number)
+    }
+
+    /// The instance of a number.
+    pub fn get(&self, number: u16) -> Option<&E>
+        ensures { option_map (λ (entity : _). shown_as number (E.values entity.now) (E.entries entity.now)) result ≡ find number self.now }
+    {
+        match self.search(number) {
+            Ok(at) => Some(&self.rows[at].entity),
+            Err(_) => None,
+        }
+    }
+
+    /// The attribute at a place of the instance of a number; None for the table.
+    #[tactic(auto, using(crate::proofs::Returned::plain_values))]
+    pub fn attribute(&self, number: u16, place: usize) -> Option<Bytes>
+        ensures { option_map (λ (bytes : _). bytes.items) result ≡ value_at E.layout place (find number self.now) }
+    {
+        let entity = self.get(number)?;
+        if is_table::<E>(place) {
+            return None;
+        }
+        entity.returned(place)
+    }
+
+    /// The answer to a Get of the instance of a number.
+    pub fn read(&self, number: u16, mask: u16) -> Result<[u8; 32], Refusal>
+        ensures { result ≡ get_found E.layout mask (find number self.now) }
+    {
+        match self.get(number) {
+            Some(entity) => Ok(get_contents(entity, mask)),
+            None => Err(Refusal::UnknownInstance),
+        }
+    }
+
+    /// Creates an instance.
+    #[tactic(auto, unfolding(crate::specs::Step::create_in))]
+    pub fn create(&mut self, number: u16, contents: &[u8; 32]) -> Result<(), Refusal>
+        ensures outcome { result ≡ outcome_of (create_in E.layout E.ROOM number contents.now self.old) }
+        ensures after { self.new ≡ left_by self.old (create_in E.layout E.ROOM number contents.now self.old) }
+    {
+        if number == u16::MAX {
+            return Err(Refusal::ParameterError);
+        }
+        match self.search(number) {
+            Ok(_) => Err(Refusal::InstanceExists),
+            Err(at) => match self.spare.pop() {
+                None => Err(Refusal::ProcessingError),
+                Some(mut entity) => {
+                    create(&mut entity, contents);
+                    let _ = self.rows.insert(at, Row { number, entity });
+                    Ok(())
+                }
+            },
+        }
+    }
+}
+
+/// Whether the attribute at a place is the table.
+fn is_table<E: ManagedEntity>(place: usize) -> bool
+    ensures { result ≡ table_at E.layout place }
+{
+    let layout = E::layout();
+    if place >= layout.len() {
+        return false;
+    }
+    layout[place].access.is_table()
+}
+
+/// As many instances as a class may have, to be created later.
+fn spare<E: ManagedEntity>(alloc: Global) -> Result<Vec<E>, AllocError>
+    ensures { IfOk result (λ spare. (vec_len spare ≡ E.ROOM) × (E.ROOM ≤ vec_capacity spare)) }
+{
+    let mut spare = Vec::with_capacity(alloc, E::ROOM)?;
+    for _n in 0..E::ROOM {
+        spare.push(E::new(alloc)?)?;
+    }
+    Ok(spare)
+}

@@ -1,0 +1,27 @@
+//! Attribute masks (ITU-T G.988, clause A.2).
+ghost use Rattle.std.specs.Prelude.{◌≡◌, ◌≤◌, ◌<◌};
+ghost use Rattle.mib_state.specs.Mask.{bit_of, names, unknown_of};
+
+/// Whether a mask names the attribute at a place.
+pub fn names(mask: u16, place: usize) -> bool
+    requires { place < 16 }
+    ensures { result ≡ names mask place }
+{
+    (mask >> (15 - place)) % 2 == 1
+}
+
+/// The bit of the attribute at a place.
+pub fn bit(place: usize) -> u16
+    requires { place < 16 }
+    ensures { result ≡ bit_of place }
+{
+    1 << (15 - place)
+}
+
+/// What a mask names beyond so many attributes.
+pub fn unknown(mask: u16, count: usize) -> u16
+    requires { count ≤ 16 }
+    ensures { result ≡ unknown_of mask count }
+{
+    (mask as u32 % (1 << (16 - count))) as u16
+}
