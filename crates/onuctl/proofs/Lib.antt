@@ -1,0 +1,8 @@
+pub mod Answering
+pub mod Cutting
+pub mod Ends
+pub mod Finished
+pub mod Held
+pub mod Messages
+pub mod Replaying
+pub mod Turns

@@ -1,0 +1,71 @@
+-- The answers to a script.
+use Rattle.std.specs.Prelude.{ℕ, suc, List, [], ◌∷◌, ◌++◌, Option, Some, None, option_map, Result, Ok, Err, if◌then◌else◌, map, codes}
+use Rattle.std.specs.Fmt.{decimal}
+use Rattle.hex.specs.Hex.{encode_lower}
+use Rattle.omci_msg.specs.Fault.{number_of_fault}
+use Rattle.omci_msg.specs.Message.{request_of, reply_spelling}
+use Rattle.omci_msg.specs.declared.fault.MsgFault.{MsgFault}
+use Rattle.omci_msg.specs.declared.request.Request.{Request}
+use Rattle.omci_msg.specs.declared.reply.Reply.{Reply}
+use Rattle.mib_state.specs.Entities.{Entities, nothing}
+use Rattle.mib_state.specs.Step.{step}
+use Rattle.onuctl.specs.Line.{Asked, asked_by}
+use Rattle.onuctl.specs.Line.Asked.{Message, Nothing}
+use Rattle.onuctl.specs.Text.{lines_of}
+
+-- the line of a reply
+abbrev pub reply_line : Reply → List ℕ
+reply_line reply = codes "r " ++ encode_lower (reply_spelling reply) ++ 10 ∷ []
+
+-- the line where no answer was wanted
+abbrev pub unanswered_line : List ℕ
+unanswered_line = 45 ∷ 10 ∷ []
+
+-- the line of a message with a fault
+abbrev pub fault_line : MsgFault → List ℕ
+fault_line fault = codes "m " ++ decimal (number_of_fault fault) ++ 10 ∷ []
+
+-- the line of a request that was carried out
+abbrev pub request_line : Request → Reply → List ℕ
+request_line request reply = if request.wants_answer then reply_line reply else unanswered_line
+
+-- the answer to a message under given entities, and what it leaves: one with a fault leaves them
+abbrev pub message_answer : Entities → Result Request MsgFault → List ℕ × Entities
+message_answer e (Ok request) = let done = step e request in (request_line request done.0, done.1)
+message_answer e (Err fault) = (fault_line fault, e)
+
+-- the same of a line that isn't bad
+abbrev pub answer : Entities → Asked → List ℕ × Entities
+answer e (Message bytes) = message_answer e (request_of bytes)
+answer e Nothing = ([], e)
+
+-- the same of any line: a bad one has no answer
+abbrev pub line_answer : Entities → Option Asked → List ℕ × Entities
+line_answer e None = ([], e)
+line_answer e (Some asked) = answer e asked
+
+-- the answers to lines in turn, up to the first bad one
+abbrev pub answers_from : Entities → List (Option Asked) → List ℕ
+answers_from e [] = []
+answers_from e (None ∷ lines) = []
+answers_from e (Some asked ∷ lines) = let done = answer e asked in done.0 ++ answers_from done.1 lines
+
+-- the entities after them
+abbrev pub entities_from : Entities → List (Option Asked) → Entities
+entities_from e [] = e
+entities_from e (None ∷ lines) = e
+entities_from e (Some asked ∷ lines) = entities_from (answer e asked).1 lines
+
+-- how many lines stand before the first bad one, if there is one
+abbrev pub before_bad : List (Option Asked) → Option ℕ
+before_bad [] = None
+before_bad (None ∷ lines) = Some 0
+before_bad (Some asked ∷ lines) = option_map suc (before_bad lines)
+
+-- what the lines of a text ask for
+abbrev pub script_of : List ℕ → List (Option Asked)
+script_of text = map asked_by (lines_of text)
+
+-- the answers to a text, up to its first bad line
+abbrev pub answers : List ℕ → List ℕ
+answers text = answers_from nothing (script_of text)
