@@ -16,3 +16,6 @@ pub use frame::FrameView;
 pub use laws::law_of_readings;
 pub use tag::Tag;
 pub use viewing::view;
+
+#[cfg(test)]
+mod tests;
