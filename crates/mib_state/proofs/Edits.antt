@@ -1,13 +1,21 @@
--- Create among instances in ascending order, by what a search finds.
+-- Create and Delete among instances in ascending order, by what a search finds.
 use Rattle.std.proofs.Common.{◌≡◌, ℕ, ◌<◌, ◌≤◌, ◌≢◌, List, length, get_or, map, Some, Ok, Err, refl, sym, ap, ◌∙◌}
 use Rattle.std.specs.List as list
 use Rattle.std.proofs.lemmas.Bool.{ne_eqb, le-leb, lt-leb}
 use Rattle.std.proofs.lemmas.List.{get_or-map, length-map}
 use Rattle.mib_state.specs.declared.attribute.Attribute.{Attribute}
-use Rattle.mib_state.specs.declared.refusal.Refusal.TheVariants.{ProcessingError, InstanceExists}
+use Rattle.mib_state.specs.declared.refusal.Refusal.TheVariants.{ProcessingError, UnknownInstance, InstanceExists}
 use Rattle.mib_state.specs.Entities.{blank, Instance, find, IsAscending, IsAt, IsGapFor}
-use Rattle.mib_state.specs.Step.{created, create_in}
-use Rattle.mib_state.proofs.Place.{find_at, find_gap, insert_gap}
+use Rattle.mib_state.specs.Step.{created, create_in, delete_in}
+use Rattle.mib_state.proofs.Place.{find_at, find_gap, insert_gap, remove_at}
+
+pub delete_found : (n : ℕ) (l : List Instance) (i : ℕ) → IsAscending l → IsAt l n i → delete_in n l ≡ Ok (list.remove l i)
+unfolding delete_in
+delete_found n l i up at = rw (find_at l n i up at, remove_at l n i up at) refl
+
+pub delete_missing : (n : ℕ) (l : List Instance) (i : ℕ) → IsGapFor l n i → delete_in n l ≡ Err UnknownInstance
+unfolding delete_in
+delete_missing n l i gap = rw (find_gap l n i gap) refl
 
 module _ (layout : List Attribute) (room n : ℕ) (contents : List ℕ) (l : List Instance) (i : ℕ) (usual : n ≢ 65535) where
   pub create_exists : IsAscending l → IsAt l n i → create_in layout room n contents l ≡ Err InstanceExists

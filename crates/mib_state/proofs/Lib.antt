@@ -8,5 +8,6 @@ pub mod Place
 pub mod Edits
 pub mod Counted
 pub mod Answered
+pub mod Attached
 pub mod Accepted
 mod Examples

@@ -5,11 +5,11 @@ use Rattle.std.specs.List.Sorted.{IsSearchInRange, IsBinarySearchResult, IsNonDe
 use Rattle.std.specs.Ordering.{nat_cmp, ordering_index}
 use Rattle.std.specs.declared.cmp.Ordering.{Ordering}
 use Rattle.std.proofs.lemmas.Cmp.{ranked}
-use Rattle.std.proofs.lemmas.List.Edits.{length-insert, get_or-insert_below, get_or-insert_at, get_or-insert_above}
+use Rattle.std.proofs.lemmas.List.Edits.{length-insert, get_or-insert_below, get_or-insert_at, get_or-insert_above, length-remove, get_or-remove_below, get_or-remove_above}
 use Rattle.std.proofs.lemmas.List.{get_or-map, length-map}
 use Rattle.std.proofs.lemmas.Bool.{lt-ltb, le-ltb, ne_eqb, eq-eqb}
 use Rattle.std.proofs.lemmas.Bool.Decides.{nat_tests}
-use Rattle.mib_state.specs.Entities.{blank, Instance, find, insert, number_at, IsAscending, IsAt, IsGapFor}
+use Rattle.mib_state.specs.Entities.{blank, Instance, find, insert, remove, number_at, IsAscending, IsAt, IsGapFor}
 
 -- ---- the tail, one place lower
 
@@ -23,7 +23,7 @@ tail_gap x l n i gap = record {
   greater_after = λ j le lt. gap.greater_after (suc j) (omega arith) (omega arith);
 }
 
-tail_ascending : (x : Instance) (l : List Instance) → IsAscending (x ∷ l) → IsAscending l
+pub tail_ascending : (x : Instance) (l : List Instance) → IsAscending (x ∷ l) → IsAscending l
 tail_ascending x l up i j lt in_range = up (suc i) (suc j) (omega arith) (omega arith)
 
 -- ---- a number that is there
@@ -37,6 +37,13 @@ find_at (x ∷ l) n zero up at = rw (eq-eqb x.number n at.has_number) refl
 find_at (x ∷ l) n (suc i) up at =
     let smaller = head_smaller x l n i up at in
     rw (ne_eqb x.number n (omega arith)) (find_at l n i (tail_ascending x l up) (tail_at x l n i at))
+
+pub remove_at : (l : List Instance) (n i : ℕ) → IsAscending l → IsAt l n i → remove n l ≡ list.remove l i
+remove_at [] n i up at = absurd (omega (arith, at.in_range))
+remove_at (x ∷ l) n zero up at = rw (eq-eqb x.number n at.has_number) refl
+remove_at (x ∷ l) n (suc i) up at =
+    let smaller = head_smaller x l n i up at in
+    rw (ne_eqb x.number n (omega arith)) (ap (λ rest. x ∷ rest) (remove_at l n i (tail_ascending x l up) (tail_at x l n i at)))
 
 -- ---- a number that isn't
 
@@ -79,6 +86,22 @@ pub map-insert : {R : Type 0} (shown : R → Instance) (rows : List R) (i : ℕ)
 map-insert shown rows zero row = refl
 map-insert shown [] (suc i) row = refl
 map-insert shown (x ∷ rows) (suc i) row = ap (λ rest. shown x ∷ rest) (map-insert shown rows i row)
+
+pub map-remove : {R : Type 0} (shown : R → Instance) (rows : List R) (i : ℕ) → map shown (list.remove rows i) ≡ list.remove (map shown rows) i
+map-remove shown [] zero = refl
+map-remove shown [] (suc i) = refl
+map-remove shown (x ∷ rows) zero = refl
+map-remove shown (x ∷ rows) (suc i) = ap (λ rest. shown x ∷ rest) (map-remove shown rows i)
+
+-- without one, the later ones move down by a place
+pub ascending_remove : (l : List Instance) (at : ℕ) → at < length l → IsAscending l → IsAscending (list.remove l at)
+ascending_remove l at inside up i j lt in_range =
+    let number = λ (x : Instance). x.number in
+    let new = list.remove l at in
+    let length_new = length-remove l at inside in
+    let below : (i : ℕ) → i < at → number_at new i ≡ number_at l i = λ i below. ap number (get_or-remove_below l at blank i below inside) in
+    let above : (i : ℕ) → at ≤ i → number_at new i ≡ number_at l (i + 1) = λ i above. ap number (get_or-remove_above l at blank i above inside) in
+    grind (arith, below i, above i, below j, above j, up i j, up i (j + 1), up (i + 1) (j + 1))
 
 module _ {R : Type 0} (shown : R → Instance) (number : R → ℕ) (same : (row : R) → (shown row).number ≡ number row) (n : ℕ) where
   -- what holds of the comparison at a place holds of the instance that is shown there

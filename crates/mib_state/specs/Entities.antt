@@ -1,5 +1,5 @@
 -- The managed entities as one value.
-use Rattle.std.specs.Prelude.{ℕ, zero, suc, ◌<◌, ◌≤◌, ◌≡◌, ◌==◌, nat_lt, List, [], ◌∷◌, Option, Some, None, if◌then◌else◌, length, slice_get, slice_index, slice_index_or}
+use Rattle.std.specs.Prelude.{ℕ, zero, suc, ◌-◌, ◌<◌, ◌≤◌, ◌≡◌, ◌==◌, nat_lt, List, [], ◌∷◌, Option, Some, None, if◌then◌else◌, length, slice_get, slice_index, slice_index_or}
 use Rattle.byteorder.specs.Endian.{big_number}
 use Rattle.mib_state.specs.declared.attribute.Attribute.{Attribute}
 use Rattle.mib_state.specs.Class.{table_at}
@@ -109,3 +109,7 @@ attribute_of layout (suc place) i = value_at layout place i
 -- the number that bytes spell, the highest first
 abbrev pub number_of : List ℕ → ℕ
 number_of bytes = big_number (length bytes) bytes
+
+-- the number that attribute n spells, numbered from 1
+abbrev pub attribute_number : ℕ → Instance → ℕ
+attribute_number n i = number_of (slice_index_or i.values (n - 1) [])

@@ -6,3 +6,4 @@ pub mod Answer
 pub mod Shown
 pub mod Step
 pub mod After
+pub mod Attached

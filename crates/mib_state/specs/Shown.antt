@@ -1,8 +1,31 @@
 -- The types of the classes as instances: the number, and the bytes of the attributes in ascending order.
-use Rattle.std.specs.Prelude.{ℕ, List, [], ◌∷◌}
+use Rattle.std.specs.Prelude.{ℕ, List, [], ◌∷◌, slice_index}
 use Rattle.byteorder.specs.Endian.{big_bytes}
+use Rattle.mib_state.specs.declared.mapper.Mapper.{Mapper}
+use Rattle.mib_state.specs.declared.interwork.Interwork.{Interwork}
 use Rattle.mib_state.specs.declared.gem_port.GemPort.{GemPort}
 use Rattle.mib_state.specs.Entities.{Instance}
+
+abbrev pub mapper_values : Mapper → List (List ℕ)
+mapper_values m =
+    big_bytes 2 m.tp_pointer
+    ∷ big_bytes 2 (slice_index m.interwork_tp_pointers 0) ∷ big_bytes 2 (slice_index m.interwork_tp_pointers 1)
+    ∷ big_bytes 2 (slice_index m.interwork_tp_pointers 2) ∷ big_bytes 2 (slice_index m.interwork_tp_pointers 3)
+    ∷ big_bytes 2 (slice_index m.interwork_tp_pointers 4) ∷ big_bytes 2 (slice_index m.interwork_tp_pointers 5)
+    ∷ big_bytes 2 (slice_index m.interwork_tp_pointers 6) ∷ big_bytes 2 (slice_index m.interwork_tp_pointers 7)
+    ∷ (m.unmarked_frame_option ∷ []) ∷ m.dscp_to_p_bit_mapping ∷ (m.default_p_bit_assumption ∷ []) ∷ (m.tp_type ∷ []) ∷ []
+
+abbrev pub mapper_instance : ℕ → Mapper → Instance
+mapper_instance n m = record { number = n; values = mapper_values m; entries = [] }
+
+abbrev pub interwork_values : Interwork → List (List ℕ)
+interwork_values t =
+    big_bytes 2 t.gem_port_pointer ∷ (t.interworking_option ∷ []) ∷ big_bytes 2 t.service_profile_pointer
+    ∷ big_bytes 2 t.interworking_tp_pointer ∷ (t.pptp_counter ∷ []) ∷ (t.operational_state ∷ [])
+    ∷ big_bytes 2 t.gal_profile_pointer ∷ (t.gal_loopback_configuration ∷ []) ∷ []
+
+abbrev pub interwork_instance : ℕ → Interwork → Instance
+interwork_instance n t = record { number = n; values = interwork_values t; entries = [] }
 
 abbrev pub gem_port_values : GemPort → List (List ℕ)
 gem_port_values p =

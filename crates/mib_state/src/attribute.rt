@@ -57,6 +57,13 @@ impl Attribute {
         initial: 0,
     };
 
+    /// 24 bytes, writable, 0 after Create.
+    pub const WRITABLE_24: Attribute = Attribute {
+        width: 24,
+        access: Access::Writable,
+        initial: 0,
+    };
+
     /// One byte, read only, 0.
     pub const READ_ONLY_1: Attribute = Attribute {
         width: 1,

@@ -43,3 +43,20 @@ pub fn number(bytes: &[u8]) -> u16
 {
     u16::from_be_bytes([bytes[0], bytes[1]])
 }
+
+/// The bytes of a mapping of 24 bytes.
+pub fn whole(mapping: &[u8; 24]) -> Bytes
+    ensures { result.items ≡ mapping.now }
+{
+    ArrayVec::from(*mapping)
+}
+
+/// The mapping that 24 bytes are.
+pub fn mapping(bytes: &[u8]) -> [u8; 24]
+    requires { length bytes.now ≡ 24 }
+    ensures { result ≡ bytes.now }
+{
+    let mut mapping = [0; 24];
+    mapping.copy_from_slice(bytes);
+    mapping
+}

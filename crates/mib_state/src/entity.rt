@@ -71,3 +71,15 @@ pub trait ManagedEntity: Drop {
     /// What Create is given fits into the contents of a request.
     ghost given_fits: { named_width GIVEN 0 layout ≤ 32 };
 }
+
+/// A class whose instances may be attached to a port.
+pub trait PortEntity: ManagedEntity {
+    ghost use Rattle.std.specs.Prelude.{Bool};
+    ghost use Rattle.mib_state.specs.Entities.{Instance, shown_as};
+
+    /// Whether an instance is attached to a port, by its attributes.
+    ghost is_of_port: { ℕ → Instance → Bool };
+
+    fn is_of_port(&self, port: u16) -> bool
+        ensures { (n : ℕ) → result ≡ is_of_port port (shown_as n (Self.values self.now) (Self.entries self.now)) };
+}

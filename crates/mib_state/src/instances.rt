@@ -2,11 +2,12 @@
 ghost use Rattle.std.specs.Prelude.{◌≡◌, [], map, option_map, IfOk, IfErr, vec_len, vec_capacity, ◌≤◌};
 ghost use Rattle.mib_state.specs.Class.{table_at};
 ghost use Rattle.mib_state.specs.Entities.{find, shown_as, value_at, IsAt, IsGapFor};
+ghost use Rattle.mib_state.specs.Attached.{least_instance};
 ghost use Rattle.mib_state.specs.Answer.{outcome_of, left_by};
-ghost use Rattle.mib_state.specs.Step.{get_found, create_in};
+ghost use Rattle.mib_state.specs.Step.{get_found, create_in, delete_in};
 
 use crate::bytes::Bytes;
-use crate::entity::ManagedEntity;
+use crate::entity::{ManagedEntity, PortEntity};
 use crate::get::get_contents;
 use crate::refusal::Refusal;
 use crate::write::create;
@@ -111,6 +112,36 @@ impl<E: ManagedEntity> Instances<E> {
                 }
             },
         }
+    }
+
+    /// Deletes an instance.
+    #[tactic(auto, unfolding(crate::specs::Step::delete_in))]
+    pub fn delete(&mut self, number: u16) -> Result<(), Refusal>
+        ensures outcome { result ≡ outcome_of (delete_in number self.old) }
+        ensures after { self.new ≡ left_by self.old (delete_in number self.old) }
+    {
+        match self.search(number) {
+            Ok(at) => {
+                let Row { number: _, entity } = self.rows.remove(at);
+                let _ = self.spare.push(entity);
+                Ok(())
+            }
+            Err(_) => Err(Refusal::UnknownInstance),
+        }
+    }
+}
+
+impl<E: PortEntity> Instances<E> {
+    /// The least number of an instance that is attached to a port.
+    pub fn of_port(&self, port: u16) -> Option<u16>
+        ensures { result ≡ least_instance (E.is_of_port port) self.now }
+    {
+        for row in &self.rows {
+            if row.entity.is_of_port(port) {
+                return Some(row.number);
+            }
+        }
+        None
     }
 }
 

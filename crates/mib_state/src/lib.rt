@@ -23,6 +23,8 @@ mod entity;
 mod gem_port;
 mod get;
 mod instances;
+mod interwork;
+mod mapper;
 mod mask;
 mod mib;
 mod onu_data;
@@ -30,6 +32,8 @@ mod refusal;
 mod write;
 
 pub use gem_port::GemPort;
+pub use interwork::Interwork;
+pub use mapper::Mapper;
 pub use mib::Mib;
 
 /// The entities after a list of requests are those after its accepted requests alone.

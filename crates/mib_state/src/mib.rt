@@ -2,14 +2,17 @@
 ghost use Rattle.std.specs.Prelude.{◌≡◌, IfOk, option_map};
 ghost use Rattle.mib_state.specs.Class.{attributes_of};
 ghost use Rattle.mib_state.specs.Entities.{nothing, instances_of, find, attribute_of};
+ghost use Rattle.mib_state.specs.Attached.{mapper_of_port};
 ghost use Rattle.mib_state.specs.Answer.{outcome_of, left_by, answer_to, told};
-ghost use Rattle.mib_state.specs.Shown.{gem_port_instance};
-ghost use Rattle.mib_state.specs.Step.{create, get, step, counted_if, mask_of, carried_out};
+ghost use Rattle.mib_state.specs.Shown.{mapper_instance, interwork_instance, gem_port_instance};
+ghost use Rattle.mib_state.specs.Step.{create, delete, get, step, counted_if, mask_of, carried_out};
 
 use crate::bytes::Bytes;
 use crate::entity::ManagedEntity;
 use crate::gem_port::GemPort;
 use crate::instances::Instances;
+use crate::interwork::Interwork;
+use crate::mapper::Mapper;
 use crate::onu_data::OnuData;
 use crate::refusal::Refusal;
 use arrayvec::ArrayVec;
@@ -21,6 +24,12 @@ use std::marker::Model;
 /// The class of ONU data.
 const ONU_DATA: u16 = 2;
 
+/// The class of 802.1p mapper service profiles.
+const MAPPER: u16 = 130;
+
+/// The class of GEM interworking termination points.
+const INTERWORK: u16 = 266;
+
 /// The class of GEM port network CTPs.
 const GEM_PORT: u16 = 268;
 
@@ -28,6 +37,8 @@ const GEM_PORT: u16 = 268;
 #[derive(Drop)]
 pub struct Mib {
     onu_data: OnuData,
+    mappers: Instances<Mapper>,
+    interworks: Instances<Interwork>,
     gem_ports: Instances<GemPort>,
 }
 
@@ -37,16 +48,18 @@ impl Model for Mib {
 
     ghost Value = { Entities };
 
-    ghost view = { λ m. record { sync = m.onu_data.sync; mappers = []; vlans = []; interworks = []; gem_ports = m.gem_ports } };
+    ghost view = { λ m. record { sync = m.onu_data.sync; mappers = m.mappers; vlans = []; interworks = m.interworks; gem_ports = m.gem_ports } };
 }
 
 impl Mib {
-    /// No instance and sync 0, with room for 256 instances of class 268.
+    /// No instance and sync 0, with room for 32 instances of class 130 and 256 each of classes 266 and 268.
     pub fn new(alloc: Global) -> Result<Self, AllocError>
         ensures { IfOk result (λ mib. mib ≡ nothing) }
     {
         Ok(Mib {
             onu_data: OnuData { sync: 0 },
+            mappers: Instances::new(alloc)?,
+            interworks: Instances::new(alloc)?,
             gem_ports: Instances::new(alloc)?,
         })
     }
@@ -66,9 +79,25 @@ impl Mib {
         let place = (n as usize).checked_sub(1)?;
         match class {
             ONU_DATA if instance == 0 => self.onu_data.returned(place),
+            MAPPER => self.mappers.attribute(instance, place),
+            INTERWORK => self.interworks.attribute(instance, place),
             GEM_PORT => self.gem_ports.attribute(instance, place),
             _ => None,
         }
+    }
+
+    /// The 802.1p mapper service profile of a number.
+    pub fn mapper(&self, instance: u16) -> Option<&Mapper>
+        ensures { option_map (λ (mapper : _). mapper_instance instance mapper.now) result ≡ find instance self.now.mappers }
+    {
+        self.mappers.get(instance)
+    }
+
+    /// The GEM interworking termination point of a number.
+    pub fn interwork(&self, instance: u16) -> Option<&Interwork>
+        ensures { option_map (λ (point : _). interwork_instance instance point.now) result ≡ find instance self.now.interworks }
+    {
+        self.interworks.get(instance)
     }
 
     /// The GEM port network CTP of a number.
@@ -76,6 +105,14 @@ impl Mib {
         ensures { option_map (λ (port : _). gem_port_instance instance port.now) result ≡ find instance self.now.gem_ports }
     {
         self.gem_ports.get(instance)
+    }
+
+    /// The number of the mapper of a port (ITU-T G.988, clause 9.3.10). Of several, it is the one of least number, which is
+    /// a choice of this project.
+    pub fn mapper_of_port(&self, port: u16) -> Option<u16>
+        ensures { result ≡ mapper_of_port self.now port }
+    {
+        self.mappers.of_port(port)
     }
 
     /// Counts a change, if it was one.
@@ -94,8 +131,38 @@ impl Mib {
         ensures after { self.new ≡ left_by self.old (create self.old request.now) }
     {
         match request.class {
+            MAPPER => {
+                let outcome = self.mappers.create(request.instance, &request.contents);
+                self.counted(outcome)
+            }
+            INTERWORK => {
+                let outcome = self.interworks.create(request.instance, &request.contents);
+                self.counted(outcome)
+            }
             GEM_PORT => {
                 let outcome = self.gem_ports.create(request.instance, &request.contents);
+                self.counted(outcome)
+            }
+            _ => Err(Refusal::UnknownEntity),
+        }
+    }
+
+    #[tactic(auto, using(crate::proofs::Counted::counts), unfolding(crate::specs::Step::delete))]
+    fn delete(&mut self, request: &Request) -> Result<(), Refusal>
+        ensures outcome { result ≡ outcome_of (delete self.old request.now) }
+        ensures after { self.new ≡ left_by self.old (delete self.old request.now) }
+    {
+        match request.class {
+            MAPPER => {
+                let outcome = self.mappers.delete(request.instance);
+                self.counted(outcome)
+            }
+            INTERWORK => {
+                let outcome = self.interworks.delete(request.instance);
+                self.counted(outcome)
+            }
+            GEM_PORT => {
+                let outcome = self.gem_ports.delete(request.instance);
                 self.counted(outcome)
             }
             _ => Err(Refusal::UnknownEntity),
@@ -108,6 +175,7 @@ impl Mib {
     {
         let mask = mask_of(&request.contents);
         match request.class {
+            MAPPER | INTERWORK => Err(Refusal::NotSupported),
             GEM_PORT => self.gem_ports.read(request.instance, mask),
             _ => Err(Refusal::UnknownEntity),
         }
@@ -121,6 +189,7 @@ impl Mib {
     {
         match request.action {
             Action::Create => answer_to(self.create(request)),
+            Action::Delete => answer_to(self.delete(request)),
             Action::Get => told(self.get(request)),
             _ => Refusal::NotSupported.contents(),
         }

@@ -1,4 +1,4 @@
-use crate::{GemPort, Mib};
+use crate::{GemPort, Interwork, Mapper, Mib};
 use omci_msg::{Action, OtherCode, Reply, Request};
 use std::test::Fail;
 
@@ -21,6 +21,26 @@ fn request(action: Action, class: u16, instance: u16, bytes: &[u8]) -> Request {
 /// The creation of a GEM port network CTP: port-ID 1024, T-CONT 0x8001, both directions.
 fn create_gem_port(instance: u16) -> Request {
     request(Action::Create, 268, instance, &[4, 0, 0x80, 1, 3])
+}
+
+/// The creation of a GEM interworking termination point to GEM port network CTP 0x0401.
+fn create_interwork(instance: u16) -> Request {
+    request(Action::Create, 266, instance, &[4, 1, 5, 6, 1])
+}
+
+/// The creation of a mapper of a port, whose pointers are all the same; option 1, default 0, TP type 1.
+fn create_mapper(instance: u16, port: u16, pointer: u16) -> Request {
+    let [port_high, port_low] = port.to_be_bytes();
+    let [high, low] = pointer.to_be_bytes();
+    request(
+        Action::Create,
+        130,
+        instance,
+        &[
+            port_high, port_low, high, low, high, low, high, low, high, low, high, low, high, low,
+            high, low, high, low, 1, 0, 1,
+        ],
+    )
 }
 
 #[test]
@@ -79,6 +99,7 @@ fn refusals_have_their_results(rt: HostRuntime) -> Result<(), Fail> {
     let other = Action::Other(OtherCode { code: 25 });
     for (action, class, instance, wanted, what) in [
         (Action::Create, 45, 1, 4, "a class that isn't known"),
+        (Action::Delete, 45, 1, 4, "a Delete of such a class"),
         (Action::Get, 45, 1, 4, "a Get of such a class"),
         (
             Action::Create,
@@ -88,16 +109,30 @@ fn refusals_have_their_results(rt: HostRuntime) -> Result<(), Fail> {
             "the instance that means none",
         ),
         (Action::Create, 268, 0x0401, 7, "an instance that exists"),
-        (Action::Get, 268, 0x0999, 5, "an instance that doesn't"),
-        (Action::Delete, 268, 0x0401, 2, "Delete"),
         (
             Action::Delete,
-            45,
-            1,
+            268,
+            0x0999,
+            5,
+            "a Delete of one that doesn't",
+        ),
+        (Action::Get, 268, 0x0999, 5, "a Get of one that doesn't"),
+        (Action::Get, 130, 0x0999, 2, "a Get of a mapper"),
+        (
+            Action::Get,
+            266,
+            0x0999,
             2,
-            "Delete of a class that isn't known",
+            "a Get of an interworking point",
         ),
         (Action::Set, 268, 0x0401, 2, "Set"),
+        (
+            Action::Set,
+            45,
+            0x0401,
+            2,
+            "Set of a class that isn't known",
+        ),
         (Action::GetNext, 268, 0x0401, 2, "Get next"),
         (Action::MibUpload, 2, 0, 2, "MIB upload"),
         (Action::MibUploadNext, 2, 0, 2, "MIB upload next"),
@@ -157,5 +192,148 @@ fn attributes_are_shown_by_number(rt: HostRuntime) -> Result<(), Fail> {
             "attribute {n} of {class} {instance}"
         );
     }
+    Ok(())
+}
+
+#[test]
+fn points_and_mappers_are_created_shown_and_deleted(rt: HostRuntime) -> Result<(), Fail> {
+    let mut mib = Mib::new(rt.alloc())?;
+    let mapper = Mapper {
+        tp_pointer: 257,
+        interwork_tp_pointers: [0x0501; 8],
+        unmarked_frame_option: 1,
+        tp_type: 1,
+        ..Mapper::default()
+    };
+    let point = Interwork {
+        gem_port_pointer: 0x0401,
+        interworking_option: 5,
+        service_profile_pointer: 0x0601,
+        ..Interwork::default()
+    };
+    let mut port = GemPort {
+        port_id: 1024,
+        t_cont_pointer: 0x8001,
+        direction: 3,
+        ..GemPort::default()
+    };
+    for (set_up, what) in [
+        (create_gem_port(0x0401), "GEM port network CTP"),
+        (
+            create_interwork(0x0501),
+            "GEM interworking termination point",
+        ),
+        (create_mapper(0x0601, 257, 0x0501), "mapper"),
+        (create_mapper(0x0602, 258, 0xffff), "mapper of another port"),
+    ] {
+        assert_eq!(rt;
+            mib.step(&set_up).contents,
+            [0; 32],
+            "the answer to the creation of a {what}"
+        );
+    }
+    assert_eq!(rt; mib.gem_port(0x0401).copied(), Some(port));
+    assert_eq!(rt; mib.interwork(0x0501).copied(), Some(point));
+    assert_eq!(rt; mib.mapper(0x0601).copied(), Some(mapper));
+    assert_eq!(rt; mib.mapper_of_port(257), Some(0x0601));
+    assert_eq!(rt; mib.mapper_of_port(258), Some(0x0602));
+    assert_eq!(rt; mib.mapper_of_port(259), None);
+    let again = request(Action::Create, 268, 0x0401, &[4, 0, 0x80, 1, 2]);
+    port.direction = 2;
+    for (change, what) in [
+        (
+            request(Action::Delete, 268, 0x0401, &[]),
+            "GEM port network CTP's deletion",
+        ),
+        (again, "GEM port network CTP's second creation"),
+        (
+            request(Action::Delete, 266, 0x0501, &[]),
+            "GEM interworking termination point's deletion",
+        ),
+        (
+            request(Action::Delete, 130, 0x0601, &[]),
+            "mapper's deletion",
+        ),
+    ] {
+        assert_eq!(rt;
+            mib.step(&change).contents,
+            [0; 32],
+            "the answer to the {what}"
+        );
+    }
+    assert_eq!(rt; mib.gem_port(0x0401).copied(), Some(port));
+    assert_eq!(rt; mib.interwork(0x0501).copied(), None);
+    assert_eq!(rt; mib.mapper(0x0601).copied(), None);
+    assert_eq!(rt; mib.mapper_of_port(257), None);
+    assert_eq!(rt; mib.mapper_of_port(258), Some(0x0602));
+    assert_eq!(rt; mib.sync(), 8);
+    Ok(())
+}
+
+#[test]
+fn of_two_mappers_of_a_port_the_least_is_its_own(rt: HostRuntime) -> Result<(), Fail> {
+    let mut mib = Mib::new(rt.alloc())?;
+    let bridge = request(Action::Create, 130, 0x0500, &[1, 1]);
+    for (change, wanted, what) in [
+        (
+            create_mapper(0x0601, 257, 0x0501),
+            Some(0x0601),
+            "the first is made",
+        ),
+        (
+            create_mapper(0x0600, 257, 0xffff),
+            Some(0x0600),
+            "a lesser one is made",
+        ),
+        (
+            create_mapper(0x0602, 257, 0xffff),
+            Some(0x0600),
+            "a greater one is made",
+        ),
+        (bridge, Some(0x0600), "one with another TP type is made"),
+        (
+            request(Action::Delete, 130, 0x0600, &[]),
+            Some(0x0601),
+            "the least is deleted",
+        ),
+        (
+            request(Action::Delete, 130, 0x0601, &[]),
+            Some(0x0602),
+            "the next is deleted",
+        ),
+        (
+            request(Action::Delete, 130, 0x0602, &[]),
+            None,
+            "the last is deleted",
+        ),
+    ] {
+        assert_eq!(rt;
+            mib.step(&change).contents,
+            [0; 32],
+            "the answer where {what}"
+        );
+        assert_eq!(rt; mib.mapper_of_port(257), wanted, "the mapper after {what}");
+    }
+    Ok(())
+}
+
+#[test]
+fn a_class_has_room_of_its_own_and_a_deletion_gives_it_back(rt: HostRuntime) -> Result<(), Fail> {
+    let mut mib = Mib::new(rt.alloc())?;
+    for number in 0..32 {
+        let reply = mib.step(&create_mapper(number, 257, 0x0501));
+        assert_eq!(rt; reply.contents[0], 0, "the answer to mapper {number}");
+    }
+    assert_eq!(rt; mib.step(&create_mapper(32, 257, 0x0501)).contents[0], 1);
+    for number in 0..256 {
+        let reply = mib.step(&create_interwork(number));
+        assert_eq!(rt; reply.contents[0], 0, "the answer to point {number}");
+    }
+    assert_eq!(rt; mib.step(&create_interwork(256)).contents[0], 1);
+    let delete = request(Action::Delete, 130, 7, &[]);
+    assert_eq!(rt; mib.step(&delete).contents[0], 0);
+    assert_eq!(rt; mib.step(&delete).contents[0], 5);
+    assert_eq!(rt; mib.step(&create_mapper(32, 257, 0x0501)).contents[0], 0);
+    assert_eq!(rt; mib.step(&create_mapper(33, 257, 0x0501)).contents[0], 1);
     Ok(())
 }

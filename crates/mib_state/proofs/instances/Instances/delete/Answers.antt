@@ -1,0 +1,31 @@
+use Rattle.std.proofs.Common.{◌≡◌, is_ok, true, sym, ap, subst, arith}
+use Rattle.mib_state.specs.Entities.{IsAscending}
+use Rattle.mib_state.specs.Answer.{outcome_of, left_by}
+use Rattle.mib_state.proofs.Place.{map-remove, ascending_remove}
+use Rattle.mib_state.proofs.Edits.{delete_found, delete_missing}
+use Rattle.mib_state.proofs.instances.Instances.delete.Goals as goal
+
+pub invariant_of-self : goal.invariant_of-self
+invariant_of-self g c =
+    let inside = rw (← c.self.view_is) at c.in-Ok.ensures.found.in_range in
+    let all = c.self.invariant.3 in
+    let shorter = c.remove-entity.ensures.len in
+    let fits : is_ok c.push.result ≡ true = c.push.ensures.succeeds (omega (arith, all, shorter, c.self.invariant.2)) in (
+      rw (c.remove-entity.ensures.items, map-remove) (ascending_remove _ _ inside c.self.invariant.0),
+      omega (arith, c.remove-entity.ensures.capacity, c.self.invariant.1),
+      omega (arith, c.push.ensures.capacity, c.self.invariant.2),
+      omega (arith, all, shorter, rw fits at c.push.ensures.len),
+    )
+
+pub returns-in-Ok-clause-outcome : goal.returns-in-Ok-clause-outcome
+returns-in-Ok-clause-outcome g c = sym (ap outcome_of (delete_found _ _ _ (subst IsAscending c.self.view_is c.self.invariant.0) c.in-Ok.ensures.found))
+
+pub returns-in-Ok-clause-after : goal.returns-in-Ok-clause-after
+returns-in-Ok-clause-after g c =
+    rw (c.remove-entity.ensures.items, map-remove, c.self.view_is) (sym (ap (left_by c.args.self.now) (delete_found _ _ _ (subst IsAscending c.self.view_is c.self.invariant.0) c.in-Ok.ensures.found)))
+
+pub returns-in-Err-clause-outcome : goal.returns-in-Err-clause-outcome
+returns-in-Err-clause-outcome g c = sym (ap outcome_of (delete_missing _ _ _ c.in-Err.ensures.absent))
+
+pub returns-in-Err-clause-after : goal.returns-in-Err-clause-after
+returns-in-Err-clause-after g c = sym (ap (left_by c.args.self.now) (delete_missing _ _ _ c.in-Err.ensures.absent))
