@@ -3,13 +3,15 @@ use Rattle.std.specs.Prelude.{ℕ, ◌+◌, ◌*◌, ◌≤◌, length}
 use Rattle.onuctl.specs.Line.{Asked}
 use Rattle.onuctl.specs.Line as asked
 use Rattle.onuctl.specs.declared.line.Line.{Line}
-use Rattle.onuctl.specs.declared.line.Line.TheVariants.{Message, Nothing}
+use Rattle.onuctl.specs.declared.line.Line.TheVariants.{Message, Frame, Nothing}
 
 abbrev pub shown : Line → Asked
 shown (Message bytes) = asked.Message bytes.now
+shown (Frame port bytes) = asked.Frame port bytes.now
 shown Nothing = asked.Nothing
 
--- the bytes that a line of n bytes spells are at most half as many, and two less
+-- the digits of what a line of n bytes spells stand behind two bytes or four
 abbrev pub IsSpelledWithin : ℕ → Line → Type 0
 IsSpelledWithin n (Message bytes) = 2 * length bytes.now + 2 ≤ n
+IsSpelledWithin n (Frame port bytes) = 2 * length bytes.now + 4 ≤ n
 IsSpelledWithin n Nothing = Unit {0}

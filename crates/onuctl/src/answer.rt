@@ -82,6 +82,7 @@ pub fn answer_line(mib: &mut Mib, line: &[u8], buffer: &mut [u8], answers: &mut 
             answer_message(mib, bytes, answers);
             false
         }
+        Some(Line::Frame(_, _)) => true,
         Some(Line::Nothing) => false,
         None => true,
     }

@@ -1,6 +1,6 @@
 //! Lines of a script.
-ghost use Rattle.std.specs.Prelude.{◌≡◌, IfSome, length, option_map};
-ghost use Rattle.onuctl.specs.Line.{asked_by};
+ghost use Rattle.std.specs.Prelude.{◌≡◌, ◌≤◌, ◌+◌, ◌*◌, ◌==◌, IfSome, length, option_map, position};
+ghost use Rattle.onuctl.specs.Line.{asked_by, content_of, frame_asked_by, letter_asked_by, port_of, spelled_bytes};
 ghost use Rattle.onuctl.specs.Shown.{IsSpelledWithin, shown};
 
 /// The most bytes that a line may have, without its line feed.
@@ -14,8 +14,83 @@ pub const MESSAGE_LIMIT: usize = 10_000;
 pub enum Line<'a> {
     /// A message, by its bytes.
     Message(&'a [u8]),
+    /// A frame that comes in at a port, by the port and its bytes.
+    Frame(u16, &'a [u8]),
     /// Nothing, as an empty line or a comment.
     Nothing,
+}
+
+// The bytes that hexadecimal digits spell, put into the buffer.
+fn read_bytes<'a>(digits: &[u8], buffer: &'a mut [u8]) -> Option<&'a [u8]>
+    requires { length digits.now ≤ 2 * length buffer.old }
+    ensures bytes { option_map (λ (bytes : _). bytes.now) result ≡ spelled_bytes digits.now }
+    ensures within { IfSome result (λ bytes. 2 * length bytes.now ≤ length digits.now) }
+{
+    let bytes = &mut buffer[..digits.len() / 2];
+    hex::decode_to_slice(digits, bytes).ok()?;
+    Some(bytes)
+}
+
+// The port that decimal digits spell.
+fn port_of(digits: &[u8]) -> Option<u16>
+    ensures { result ≡ port_of digits.now }
+{
+    if digits.is_empty() || digits.len() > 5 {
+        return None;
+    }
+    let mut port = 0;
+    for digit in digits {
+        if !digit.is_ascii_digit() {
+            return None;
+        }
+        port = 10 * port + u32::from(*digit - b'0');
+    }
+    u16::try_from(port).ok()
+}
+
+// Where the first space stands.
+fn space_in(parts: &[u8]) -> Option<usize>
+    ensures { result ≡ position (λ b. b == 32) parts.now }
+{
+    parts.iter().position(|byte| *byte == b' ')
+}
+
+// The port and the frame of a line, behind its `f` and the space.
+fn read_frame<'a>(parts: &[u8], buffer: &'a mut [u8]) -> Option<Line<'a>>
+    requires { length parts.now ≤ 2 * length buffer.old }
+    ensures asked { option_map shown result ≡ frame_asked_by parts.now }
+    ensures within { IfSome result (IsSpelledWithin (length parts.now + 2)) }
+{
+    let space = space_in(parts)?;
+    let port = port_of(parts.split_at(space).0)?;
+    let (_, digits) = parts.split_at(space + 1);
+    let bytes = read_bytes(digits, buffer)?;
+    Some(Line::Frame(port, bytes))
+}
+
+// A line that is neither empty nor a comment.
+fn read_asked<'a>(content: &[u8], buffer: &'a mut [u8]) -> Option<Line<'a>>
+    requires { length content.now ≤ 2 * length buffer.old }
+    ensures asked { option_map shown result ≡ letter_asked_by content.now }
+    ensures within { IfSome result (IsSpelledWithin (length content.now)) }
+{
+    if let Some(digits) = content.strip_prefix(b"o ") {
+        return Some(Line::Message(read_bytes(digits, buffer)?));
+    }
+    let parts = content.strip_prefix(b"f ")?;
+    read_frame(parts, buffer)
+}
+
+// A line without the CR at its end.
+fn read_content<'a>(content: &[u8], buffer: &'a mut [u8]) -> Option<Line<'a>>
+    requires { length content.now ≤ 2 * length buffer.old }
+    ensures asked { option_map shown result ≡ content_of content.now }
+    ensures within { IfSome result (IsSpelledWithin (length content.now)) }
+{
+    if content.is_empty() || content.starts_with(b"#") {
+        return Some(Line::Nothing);
+    }
+    read_asked(content, buffer)
 }
 
 /// Reads a line without its line feed, None where it is bad. The bytes that it spells are put
@@ -30,11 +105,5 @@ pub fn read_line<'a>(line: &[u8], buffer: &'a mut [u8]) -> Option<Line<'a>>
         return None;
     }
     let content = line.strip_suffix(b"\r").unwrap_or(line);
-    if content.is_empty() || content.starts_with(b"#") {
-        return Some(Line::Nothing);
-    }
-    let digits = content.strip_prefix(b"o ")?;
-    let bytes = &mut buffer[..digits.len() / 2];
-    hex::decode_to_slice(digits, bytes).ok()?;
-    Some(Line::Message(bytes))
+    read_content(content, buffer)
 }
