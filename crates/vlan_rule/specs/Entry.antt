@@ -1,9 +1,13 @@
 -- An entry of the received frame VLAN tagging operation table (ITU-T G.988, 9.3.13), as the list of
 -- its 16 bytes: its fields, its kind, and why it is refused.
-use Rattle.std.specs.Prelude.{ℕ, ◌+◌, ◌-◌, ◌*◌, ◌/◌, ◌%◌, ◌^◌, Bool, true, false, not, ◌&&◌, ◌||◌, List, Option, Some, None, if◌then◌else◌, ◌==◌, nat_lt, nat_le}
+use Rattle.std.specs.Prelude.{ℕ, ◌+◌, ◌-◌, ◌*◌, ◌/◌, ◌%◌, ◌^◌, Bool, true, false, not, ◌&&◌, ◌||◌, List, [], ◌∷◌, ◌++◌, Option, Some, None, if◌then◌else◌, ◌==◌, nat_lt, nat_le}
 use Rattle.std.specs.Int.{is_in_range}
+use Rattle.std.specs.List.{list_any}
+use Rattle.std.specs.Option.{option_or}
 use Rattle.byteorder.specs.Endian.{big_number}
-use Rattle.vlan_rule.specs.declared.entry.Field.{Field}
+use Rattle.vlan_rule.specs.declared.layout.Field.{Field}
+use Rattle.vlan_rule.specs.declared.layout.TagCodes.{TagCodes}
+use Rattle.vlan_rule.specs.declared.layout.TagFields.{TagFields}
 use Rattle.vlan_rule.specs.declared.fault.RuleFault.{RuleFault}
 use Rattle.vlan_rule.specs.declared.fault.RuleFault.TheVariants.{Priority, Mixed, Vid, Tpid, Ethertype, TreatPriority, TreatVid, TreatTpid}
 use Rattle.vlan_rule.specs.declared.kind.Kind.{Kind}
@@ -20,26 +24,18 @@ abbrev pub bits : ℕ → ℕ → ℕ → Field
 bits word high low = record { word = word; high = high; low = low }
 
 -- the value of a field: the entry's number without the bits below it, and of that the field's width
-abbrev pub value_of : Field → List ℕ → ℕ
+unfoldable pub value_of : Field → List ℕ → ℕ
 value_of at entry = number_of entry / 2 ^ (32 * (4 - at.word) + at.low) % 2 ^ (at.high + 1 - at.low)
 
-abbrev pub filter_outer_priority : Field
-filter_outer_priority = bits 1 31 28
+-- where the priority, the VID and the TPID/DE of one filter or treatment lie
+abbrev pub fields : Field → Field → Field → TagFields
+fields priority vid tpid = record { priority = priority; vid = vid; tpid = tpid }
 
-abbrev pub filter_outer_vid : Field
-filter_outer_vid = bits 1 27 15
+abbrev pub filter_outer : TagFields
+filter_outer = fields (bits 1 31 28) (bits 1 27 15) (bits 1 14 12)
 
-abbrev pub filter_outer_tpid : Field
-filter_outer_tpid = bits 1 14 12
-
-abbrev pub filter_inner_priority : Field
-filter_inner_priority = bits 2 31 28
-
-abbrev pub filter_inner_vid : Field
-filter_inner_vid = bits 2 27 15
-
-abbrev pub filter_inner_tpid : Field
-filter_inner_tpid = bits 2 14 12
+abbrev pub filter_inner : TagFields
+filter_inner = fields (bits 2 31 28) (bits 2 27 15) (bits 2 14 12)
 
 abbrev pub filter_ethertype : Field
 filter_ethertype = bits 2 3 0
@@ -47,23 +43,15 @@ filter_ethertype = bits 2 3 0
 abbrev pub tags_to_remove : Field
 tags_to_remove = bits 3 31 30
 
-abbrev pub treatment_outer_priority : Field
-treatment_outer_priority = bits 3 19 16
+abbrev pub treatment_outer : TagFields
+treatment_outer = fields (bits 3 19 16) (bits 3 15 3) (bits 3 2 0)
 
-abbrev pub treatment_outer_vid : Field
-treatment_outer_vid = bits 3 15 3
+abbrev pub treatment_inner : TagFields
+treatment_inner = fields (bits 4 19 16) (bits 4 15 3) (bits 4 2 0)
 
-abbrev pub treatment_outer_tpid : Field
-treatment_outer_tpid = bits 3 2 0
-
-abbrev pub treatment_inner_priority : Field
-treatment_inner_priority = bits 4 19 16
-
-abbrev pub treatment_inner_vid : Field
-treatment_inner_vid = bits 4 15 3
-
-abbrev pub treatment_inner_tpid : Field
-treatment_inner_tpid = bits 4 2 0
+-- the codes that an entry has in the three fields of a filter or a treatment
+abbrev pub codes_of : TagFields → List ℕ → TagCodes
+codes_of at entry = record { priority = value_of at.priority entry; vid = value_of at.vid entry; tpid = value_of at.tpid entry }
 
 -- ---- kinds
 
@@ -78,7 +66,7 @@ kind_by outer inner =
     else TwoTag)))
 
 unfoldable pub kind_of : List ℕ → Kind
-kind_of entry = kind_by (value_of filter_outer_priority entry) (value_of filter_inner_priority entry)
+kind_of entry = kind_by (value_of filter_outer.priority entry) (value_of filter_inner.priority entry)
 
 -- whether the filters of the outer tag count
 abbrev pub outer_counts : Kind → Bool
@@ -96,69 +84,82 @@ inner_counts OneTag = true
 inner_counts TwoTagDefault = false
 inner_counts TwoTag = true
 
+-- the codes of the filters that count, the outer tag's first
+abbrev pub counted : Kind → List ℕ → List TagCodes
+counted kind entry =
+    (if outer_counts kind then codes_of filter_outer entry ∷ [] else [])
+    ++ (if inner_counts kind then codes_of filter_inner entry ∷ [] else [])
+
+abbrev pub filters_of : List ℕ → List TagCodes
+filters_of entry = counted (kind_of entry) entry
+
+-- ---- treatments
+
+-- whether the frame is dropped
+abbrev pub discards : List ℕ → Bool
+discards entry = value_of tags_to_remove entry == 3
+
+-- the codes of a treatment that adds a tag
+abbrev pub added : TagCodes → List TagCodes
+added codes = if codes.priority == 15 then [] else codes ∷ []
+
+-- the codes of the tags that are added, the outer tag's first
+abbrev pub additions_of : List ℕ → List TagCodes
+additions_of entry =
+    if discards entry then []
+    else added (codes_of treatment_outer entry) ++ added (codes_of treatment_inner entry)
+
 -- ---- refusals
 
--- whether one of the filter fields that count has a refused value
-abbrev pub has_filter : (ℕ → Bool) → Field → Field → List ℕ → Bool
-has_filter refused outer inner entry =
-    (outer_counts (kind_of entry) && refused (value_of outer entry))
-    || (inner_counts (kind_of entry) && refused (value_of inner entry))
-
--- whether the treatments count: the frame isn't dropped
-abbrev pub treats : List ℕ → Bool
-treats entry = not (value_of tags_to_remove entry == 3)
-
--- whether the treatment whose priority is there adds a tag
-abbrev pub adds_tag : Field → List ℕ → Bool
-adds_tag priority entry = treats entry && not (value_of priority entry == 15)
-
--- whether one of the treatment fields that count has a refused value
-abbrev pub has_treatment : (ℕ → Bool) → Field → Field → List ℕ → Bool
-has_treatment refused outer inner entry =
-    (adds_tag treatment_outer_priority entry && refused (value_of outer entry))
-    || (adds_tag treatment_inner_priority entry && refused (value_of inner entry))
-
 -- an inner filter priority of 9 to 13, or an outer one where the inner isn't 15
-abbrev pub has_bad_priority : List ℕ → Bool
-has_bad_priority entry =
-    is_in_range 9 13 (value_of filter_inner_priority entry)
-    || (is_in_range 9 13 (value_of filter_outer_priority entry) && not (value_of filter_inner_priority entry == 15))
+abbrev pub bad_priorities : ℕ → ℕ → Bool
+bad_priorities outer inner = is_in_range 9 13 inner || (is_in_range 9 13 outer && not (inner == 15))
 
 -- an outer filter priority of 0 to 8 with an inner one of 14
-abbrev pub is_mixed : List ℕ → Bool
-is_mixed entry = nat_le (value_of filter_outer_priority entry) 8 && value_of filter_inner_priority entry == 14
+abbrev pub mixed_priorities : ℕ → ℕ → Bool
+mixed_priorities outer inner = nat_le outer 8 && inner == 14
 
--- the values of each field that are refused
-abbrev pub bad_vid : ℕ → Bool
-bad_vid code = nat_lt 4096 code
+-- what is refused in the codes of a filter
+abbrev pub has_bad_vid : TagCodes → Bool
+has_bad_vid filter = nat_lt 4096 filter.vid
 
-abbrev pub bad_tpid : ℕ → Bool
-bad_tpid code = is_in_range 1 3 code
+abbrev pub has_bad_tpid : TagCodes → Bool
+has_bad_tpid filter = is_in_range 1 3 filter.tpid
 
-abbrev pub bad_ethertype : ℕ → Bool
-bad_ethertype code = nat_lt 5 code
+-- what is refused in the codes of a tag that is added
+abbrev pub adds_bad_priority : TagCodes → Bool
+adds_bad_priority tag = is_in_range 11 14 tag.priority
 
-abbrev pub bad_added_priority : ℕ → Bool
-bad_added_priority code = is_in_range 11 14 code
+abbrev pub adds_bad_vid : TagCodes → Bool
+adds_bad_vid tag = tag.vid == 4095 || nat_lt 4097 tag.vid
 
-abbrev pub bad_added_vid : ℕ → Bool
-bad_added_vid code = code == 4095 || nat_lt 4097 code
+abbrev pub adds_bad_tpid : TagCodes → Bool
+adds_bad_tpid tag = tag.tpid == 5
 
-abbrev pub bad_added_tpid : ℕ → Bool
-bad_added_tpid code = code == 5
+-- why the filters are refused: the first that holds
+abbrev pub filter_refusal : ℕ → ℕ → List TagCodes → ℕ → Option RuleFault
+filter_refusal outer inner filters ethertype =
+    if bad_priorities outer inner then Some Priority
+    else (if mixed_priorities outer inner then Some Mixed
+    else (if list_any has_bad_vid filters then Some Vid
+    else (if list_any has_bad_tpid filters then Some Tpid
+    else (if nat_lt 5 ethertype then Some Ethertype
+    else None))))
 
--- why an entry is refused: the first that holds
+-- why the tags that are added are refused: the first that holds
+abbrev pub treatment_refusal : List TagCodes → Option RuleFault
+treatment_refusal additions =
+    if list_any adds_bad_priority additions then Some TreatPriority
+    else (if list_any adds_bad_vid additions then Some TreatVid
+    else (if list_any adds_bad_tpid additions then Some TreatTpid
+    else None))
+
+-- why an entry is refused: the first that holds, of the filters and then of the treatments
 unfoldable pub refusal_of : List ℕ → Option RuleFault
 refusal_of entry =
-    if has_bad_priority entry then Some Priority
-    else (if is_mixed entry then Some Mixed
-    else (if has_filter bad_vid filter_outer_vid filter_inner_vid entry then Some Vid
-    else (if has_filter bad_tpid filter_outer_tpid filter_inner_tpid entry then Some Tpid
-    else (if bad_ethertype (value_of filter_ethertype entry) then Some Ethertype
-    else (if has_treatment bad_added_priority treatment_outer_priority treatment_inner_priority entry then Some TreatPriority
-    else (if has_treatment bad_added_vid treatment_outer_vid treatment_inner_vid entry then Some TreatVid
-    else (if has_treatment bad_added_tpid treatment_outer_tpid treatment_inner_tpid entry then Some TreatTpid
-    else None)))))))
+    option_or
+    (filter_refusal (value_of filter_outer.priority entry) (value_of filter_inner.priority entry) (filters_of entry) (value_of filter_ethertype entry))
+    (treatment_refusal (additions_of entry))
 
 -- the number of a refusal
 abbrev pub rule_fault_code : RuleFault → ℕ

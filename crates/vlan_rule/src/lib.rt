@@ -5,6 +5,7 @@
 pub mod entry;
 pub mod fault;
 pub mod kind;
+pub mod layout;
 pub mod put;
 
 pub use entry::Entry;
