@@ -7,7 +7,7 @@ use Rattle.vlan_rule.specs.declared.fault.TableFault.TheVariants.{Bad, Full}
 use Rattle.vlan_rule.specs.declared.put.Put.{Put}
 use Rattle.vlan_rule.specs.declared.put.Put.TheVariants.{Added, Replaced, Deleted, Absent}
 use Rattle.vlan_rule.specs.declared.kind.Kind.TheVariants.{NoTag, OneTagDefault, OneTag, TwoTagDefault, TwoTag}
-use Rattle.vlan_rule.specs.Entry.{refusal_of, kind_of, value_of}
+use Rattle.vlan_rule.specs.Entry.{refusal_of, kind_of, value_of, number_of}
 use Rattle.vlan_rule.specs.Table.{key_of, is_deletion, entry_of, predefined, put, told_by, left_by, room}
 
 -- what puts are told, one after another, and the entries that they leave
@@ -37,19 +37,19 @@ in_turn =
 
 what_is_told : told_in_turn predefined in_turn
     ≡ Ok Added ∷ Ok Added ∷ Ok Replaced ∷ Ok Replaced ∷ Ok Deleted ∷ Ok Absent ∷ Ok Added ∷ []
-unfolding told_in_turn in_turn a b deletion put key_of is_deletion refusal_of kind_of value_of
+unfolding told_in_turn in_turn a b deletion put key_of is_deletion refusal_of kind_of value_of number_of
 what_is_told = refl
 
 -- a key that was deleted and is set again goes last
 what_is_left : left_in_turn predefined in_turn ≡ predefined ++ b 0x000f000000000964 ∷ a 0x000f000000000324 ∷ []
-unfolding left_in_turn in_turn a b deletion put key_of is_deletion refusal_of kind_of value_of
+unfolding left_in_turn in_turn a b deletion put key_of is_deletion refusal_of kind_of value_of number_of
 what_is_left = refl
 
 -- ---- refusals
 
 what_is_refused : told_in_turn predefined (a 0x000f000000007ffc ∷ entry_of 0xf800000098000000 0x000f0000000f0000 ∷ entry_of 0x38000000e8000000 0x000f0000000f0000 ∷ [])
     ≡ Err (Bad TreatVid) ∷ Err (Bad Priority) ∷ Err (Bad Mixed) ∷ []
-unfolding told_in_turn a put key_of is_deletion refusal_of kind_of value_of
+unfolding told_in_turn a put key_of is_deletion refusal_of kind_of value_of number_of
 what_is_refused = refl
 
 -- a deletion is one whatever its key
@@ -62,7 +62,7 @@ deleted_before_refused = refl
 what_does_not_count : map refusal_of (
     entry_of 0xd8009000f8009000 0x000f0000000f0000 ∷ a 0x000f7ffd000f7ffd ∷ a 0xc00b7ffd000b7ffd ∷ [])
     ≡ None ∷ None ∷ None ∷ []
-unfolding refusal_of kind_of value_of a
+unfolding refusal_of kind_of value_of number_of a
 what_does_not_count = refl
 
 -- ---- room
@@ -76,16 +76,16 @@ full : List (List ℕ)
 full = left_in_turn predefined (run_of 61 1)
 
 when_full : told_in_turn full (run_of 1 62 ++ entry_of 0xf8000000801e8000 0xc00f0000000f0000 ∷ []) ≡ Err Full ∷ Ok Replaced ∷ []
-unfolding full run_of left_in_turn told_in_turn put key_of is_deletion refusal_of kind_of value_of
+unfolding full run_of left_in_turn told_in_turn put key_of is_deletion refusal_of kind_of value_of number_of
 when_full = refl
 
 how_full : length full ≡ room
-unfolding full run_of left_in_turn put key_of is_deletion refusal_of kind_of value_of
+unfolding full run_of left_in_turn put key_of is_deletion refusal_of kind_of value_of number_of
 how_full = refl
 
 -- ---- kinds
 
 kinds : map (λ key. kind_of (entry_of key 0)) (0xd8000000f8000000 ∷ 0xf8000000e8000000 ∷ 0xf800000088000000 ∷ 0xe800000088000000 ∷ 0x0000000088000000 ∷ [])
     ≡ NoTag ∷ OneTagDefault ∷ OneTag ∷ TwoTagDefault ∷ TwoTag ∷ []
-unfolding kind_of value_of
+unfolding kind_of value_of number_of
 kinds = refl

@@ -16,7 +16,7 @@ use Rattle.vlan_rule.specs.declared.kind.Kind.TheVariants.{NoTag, OneTagDefault,
 -- ---- fields
 
 -- the entry's number of 128 bits
-abbrev pub number_of : List ℕ → ℕ
+unfoldable pub number_of : List ℕ → ℕ
 number_of entry = big_number 16 entry
 
 -- the field in the bits high to low of a word; words are counted from 1, and bit 31 is a word's highest
