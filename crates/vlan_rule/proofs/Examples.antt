@@ -7,8 +7,8 @@ use Rattle.vlan_rule.specs.declared.fault.TableFault.TheVariants.{Bad, Full}
 use Rattle.vlan_rule.specs.declared.put.Put.{Put}
 use Rattle.vlan_rule.specs.declared.put.Put.TheVariants.{Added, Replaced, Deleted, Absent}
 use Rattle.vlan_rule.specs.declared.kind.Kind.TheVariants.{NoTag, OneTagDefault, OneTag, TwoTagDefault, TwoTag}
-use Rattle.vlan_rule.specs.Entry.{refusal_of, kind_of, value_of, number_of}
-use Rattle.vlan_rule.specs.Table.{key_of, is_deletion, entry_of, predefined, put, told_by, left_by, room}
+use Rattle.vlan_rule.specs.Entry.{refusal_of, kind_of, value_of, number_of, key_of, entry_of}
+use Rattle.vlan_rule.specs.Table.{is_deletion, predefined, put, told_by, left_by, room}
 
 -- what puts are told, one after another, and the entries that they leave
 told_in_turn : List (List ℕ) → List (List ℕ) → List (Result Put TableFault)

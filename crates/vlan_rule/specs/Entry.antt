@@ -1,7 +1,7 @@
 -- An entry of the received frame VLAN tagging operation table (ITU-T G.988, 9.3.13), as the list of
 -- its 16 bytes: its fields, its kind, and why it is refused.
-use Rattle.std.specs.Prelude.{ℕ, ◌+◌, ◌-◌, ◌*◌, ◌/◌, ◌%◌, ◌^◌, Bool, true, false, not, ◌&&◌, ◌||◌, List, [], ◌∷◌, ◌++◌, Option, Some, None, if◌then◌else◌, ◌==◌, nat_lt, nat_le}
-use Rattle.std.specs.Int.{is_in_range}
+use Rattle.std.specs.Prelude.{◌≡◌, ◌<◌, ◌≤◌, ℕ, ◌+◌, ◌-◌, ◌*◌, ◌/◌, ◌%◌, ◌^◌, Bool, true, false, not, ◌&&◌, ◌||◌, List, [], ◌∷◌, ◌++◌, Option, Some, None, if◌then◌else◌, ◌==◌, nat_lt, nat_le}
+use Rattle.std.specs.Int.{is_in_range, to_be_bytes, w64}
 use Rattle.std.specs.List.{list_any}
 use Rattle.std.specs.Option.{option_or}
 use Rattle.byteorder.specs.Endian.{big_number}
@@ -12,6 +12,14 @@ use Rattle.vlan_rule.specs.declared.fault.RuleFault.{RuleFault}
 use Rattle.vlan_rule.specs.declared.fault.RuleFault.TheVariants.{Priority, Mixed, Vid, Tpid, Ethertype, TreatPriority, TreatVid, TreatTpid}
 use Rattle.vlan_rule.specs.declared.kind.Kind.{Kind}
 use Rattle.vlan_rule.specs.declared.kind.Kind.TheVariants.{NoTag, OneTagDefault, OneTag, TwoTagDefault, TwoTag}
+
+-- the key of an entry: the number in its first eight bytes, padding among them
+unfoldable pub key_of : List ℕ → ℕ
+key_of entry = big_number 8 entry
+
+-- an entry by its first eight and its last eight bytes, each as a number
+abbrev pub entry_of : ℕ → ℕ → List ℕ
+entry_of key rest = to_be_bytes w64 key ++ to_be_bytes w64 rest
 
 -- ---- fields
 
@@ -27,9 +35,25 @@ bits word high low = record { word = word; high = high; low = low }
 unfoldable pub value_of : Field → List ℕ → ℕ
 value_of at entry = number_of entry / 2 ^ (32 * (4 - at.word) + at.low) % 2 ^ (at.high + 1 - at.low)
 
+-- the field lies within one of the four words, and has 16 bits at most
+pub record IsField (at : Field) : Type 0 where
+  pub first : 1 ≤ at.word
+  pub last : at.word ≤ 4
+  pub ordered : at.low ≤ at.high
+  pub high : at.high < 32
+  pub narrow : at.high < at.low + 16
+
 -- where the priority, the VID and the TPID/DE of one filter or treatment lie
 abbrev pub fields : Field → Field → Field → TagFields
 fields priority vid tpid = record { priority = priority; vid = vid; tpid = tpid }
+
+-- the three fields lie so, and the priority and the TPID/DE have 8 bits at most
+pub record AreFields (at : TagFields) : Type 0 where
+  pub priority : IsField at.priority
+  pub short_priority : at.priority.high < at.priority.low + 8
+  pub vid : IsField at.vid
+  pub tpid : IsField at.tpid
+  pub short_tpid : at.tpid.high < at.tpid.low + 8
 
 abbrev pub filter_outer : TagFields
 filter_outer = fields (bits 1 31 28) (bits 1 27 15) (bits 1 14 12)

@@ -1,38 +1,34 @@
 -- The received frame VLAN tagging operation table (ITU-T G.988, 9.3.13) as the list of its entries,
 -- each the list of its 16 bytes.
-use Rattle.std.specs.Prelude.{ℕ, ◌^◌, ◌-◌, Bool, true, false, ◌||◌, List, [], ◌∷◌, ◌++◌, Option, Some, None, Result, Ok, Err, if◌then◌else◌, ◌==◌, nat_le, length}
-use Rattle.std.specs.Int.{to_be_bytes, w64}
-use Rattle.byteorder.specs.Endian.{big_from, big_number}
+use Rattle.std.specs.Prelude.{ℕ, ◌^◌, ◌-◌, Bool, true, false, ◌||◌, List, [], ◌∷◌, ◌++◌, Option, Some, None, Result, Ok, Err, if◌then◌else◌, ◌==◌, nat_le, length, map}
+use Rattle.std.specs.List.{list_any}
+use Rattle.byteorder.specs.Endian.{big_from}
 use Rattle.vlan_rule.specs.declared.fault.RuleFault.{RuleFault}
 use Rattle.vlan_rule.specs.declared.fault.TableFault.{TableFault}
 use Rattle.vlan_rule.specs.declared.fault.TableFault.TheVariants.{Bad, Full}
 use Rattle.vlan_rule.specs.declared.put.Put.{Put}
 use Rattle.vlan_rule.specs.declared.put.Put.TheVariants.{Added, Replaced, Deleted, Absent}
-use Rattle.vlan_rule.specs.Entry.{refusal_of}
+use Rattle.vlan_rule.specs.Entry.{entry_of, key_of, refusal_of}
 
 -- most entries that a table holds, the predefined ones among them
 abbrev pub room : ℕ
 room = 64
 
--- the key of an entry: the number in its first eight bytes, padding among them
-unfoldable pub key_of : List ℕ → ℕ
-key_of entry = big_number 8 entry
-
 -- whether an entry deletes the entry of its key: its last eight bytes are all 0xFF
 unfoldable pub is_deletion : List ℕ → Bool
 is_deletion entry = big_from 8 8 entry == 0xFFFFFFFFFFFFFFFF
 
--- an entry by its first eight and its last eight bytes, each as a number
-abbrev pub entry_of : ℕ → ℕ → List ℕ
-entry_of key rest = to_be_bytes w64 key ++ to_be_bytes w64 rest
+-- the keys of the entries of a new table, in their order
+abbrev pub predefined_keys : List ℕ
+predefined_keys = 0xF0000000F0000000 ∷ 0xF0000000E0000000 ∷ 0xE0000000E0000000 ∷ []
 
 -- the entries of a new table, by which every frame is forwarded unchanged
 abbrev pub predefined : List (List ℕ)
-predefined =
-    entry_of 0xF0000000F0000000 0x000F0000000F0000
-    ∷ entry_of 0xF0000000E0000000 0x000F0000000F0000
-    ∷ entry_of 0xE0000000E0000000 0x000F0000000F0000
-    ∷ []
+predefined = map (λ key. entry_of key 0x000F0000000F0000) predefined_keys
+
+-- whether a key is that of one of them
+abbrev pub is_predefined : ℕ → Bool
+is_predefined key = list_any (λ k. k == key) predefined_keys
 
 -- whether an entry of the key is held
 abbrev pub holds : ℕ → List (List ℕ) → Bool

@@ -1,6 +1,7 @@
 //! The 16 bytes of an entry, and the values of its fields.
 ghost use Rattle.std.specs.Prelude.{◌≡◌, ◌≤◌, ◌<◌, ◌+◌, ◌-◌, ◌*◌, ◌/◌, ◌%◌, ◌^◌, length};
-ghost use Rattle.vlan_rule.specs.Entry.{codes_of, number_of, value_of};
+ghost use Rattle.vlan_rule.specs.Entry.{codes_of, key_of, number_of, value_of, AreFields, IsField};
+ghost use Rattle.vlan_rule.specs.Table.{is_deletion};
 
 use crate::layout::{Field, TagCodes, TagFields};
 use byteorder::{BigEndian, ByteOrder};
@@ -11,17 +12,41 @@ use byteorder::{BigEndian, ByteOrder};
 pub struct Entry(pub [u8; 16]);
 
 impl Entry {
-    // The value of a field of at most 16 bits.
+    /// Its key: the number of its first eight bytes, padding among them.
+    pub fn key(&self) -> u64
+        ensures { result ≡ key_of self.now.0 }
+    {
+        BigEndian::read_u64(&self.0)
+    }
+
+    /// Whether it deletes the entry of its key: its last eight bytes are all 0xFF.
+    pub fn is_deletion(&self) -> bool
+        ensures { result ≡ is_deletion self.now.0 }
+    {
+        let (_, rest) = self.0.split_at(8);
+        BigEndian::read_u64(rest) == u64::MAX
+    }
+
+    // The value of a field.
     pub(crate) fn value(&self, at: Field) -> u16
-        requires first { 1 ≤ at.word }
-        requires last { at.word ≤ 4 }
-        requires ordered { at.low ≤ at.high }
-        requires high { at.high < 32 }
-        requires width { at.high < at.low + 16 }
-        ensures { result ≡ value_of at self.now.0 }
+        requires { IsField at }
+        ensures value { result ≡ value_of at self.now.0 }
+        ensures bound { result < 2 ^ (at.high + 1 - at.low) }
     {
         let width = at.high + 1 - at.low;
         ((word(&self.0, at.word) >> at.low) % (1 << width)) as u16
+    }
+
+    // The codes of a filter or a treatment.
+    pub(crate) fn codes(&self, at: TagFields) -> TagCodes
+        requires { AreFields at }
+        ensures { result ≡ codes_of at self.now.0 }
+    {
+        TagCodes {
+            priority: self.value(at.priority) as u8,
+            vid: self.value(at.vid),
+            tpid: self.value(at.tpid) as u8,
+        }
     }
 }
 

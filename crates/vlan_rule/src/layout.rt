@@ -20,7 +20,91 @@ pub struct TagFields {
 /// What an entry has in the three fields of a filter or a treatment.
 #[derive(Clone, Copy, Debug, PartialEq, Eq)]
 pub struct TagCodes {
-    pub priority: u16,
+    pub priority: u8,
     pub vid: u16,
-    pub tpid: u16,
+    pub tpid: u8,
 }
+
+pub(crate) const FILTER_OUTER: TagFields = TagFields {
+    priority: Field {
+        word: 1,
+        high: 31,
+        low: 28,
+    },
+    vid: Field {
+        word: 1,
+        high: 27,
+        low: 15,
+    },
+    tpid: Field {
+        word: 1,
+        high: 14,
+        low: 12,
+    },
+};
+
+pub(crate) const FILTER_INNER: TagFields = TagFields {
+    priority: Field {
+        word: 2,
+        high: 31,
+        low: 28,
+    },
+    vid: Field {
+        word: 2,
+        high: 27,
+        low: 15,
+    },
+    tpid: Field {
+        word: 2,
+        high: 14,
+        low: 12,
+    },
+};
+
+pub(crate) const TREATMENT_OUTER: TagFields = TagFields {
+    priority: Field {
+        word: 3,
+        high: 19,
+        low: 16,
+    },
+    vid: Field {
+        word: 3,
+        high: 15,
+        low: 3,
+    },
+    tpid: Field {
+        word: 3,
+        high: 2,
+        low: 0,
+    },
+};
+
+pub(crate) const TREATMENT_INNER: TagFields = TagFields {
+    priority: Field {
+        word: 4,
+        high: 19,
+        low: 16,
+    },
+    vid: Field {
+        word: 4,
+        high: 15,
+        low: 3,
+    },
+    tpid: Field {
+        word: 4,
+        high: 2,
+        low: 0,
+    },
+};
+
+pub(crate) const FILTER_ETHERTYPE: Field = Field {
+    word: 2,
+    high: 3,
+    low: 0,
+};
+
+pub(crate) const TAGS_TO_REMOVE: Field = Field {
+    word: 3,
+    high: 31,
+    low: 30,
+};

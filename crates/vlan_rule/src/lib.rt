@@ -4,11 +4,19 @@
 
 pub mod entry;
 pub mod fault;
+pub mod filter;
 pub mod kind;
 pub mod layout;
 pub mod put;
+pub mod rank;
+pub mod treatment;
 
 pub use entry::Entry;
 pub use fault::{RuleFault, TableFault};
+pub use filter::{EthertypeFilter, Filter, PriorityFilter, TagFilter, TpidFilter, VidFilter};
 pub use kind::Kind;
 pub use put::Put;
+pub use rank::Rank;
+pub use treatment::{
+    AddedTag, EligibleSource, PrioritySource, Retag, TpidSource, Treatment, VidSource,
+};
