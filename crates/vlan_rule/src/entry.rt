@@ -1,9 +1,10 @@
 //! The 16 bytes of an entry, and the values of its fields.
 ghost use Rattle.std.specs.Prelude.{◌≡◌, ◌≤◌, ◌<◌, ◌+◌, ◌-◌, ◌*◌, ◌/◌, ◌%◌, ◌^◌, length};
-ghost use Rattle.vlan_rule.specs.Entry.{codes_of, key_of, number_of, value_of, AreFields, IsField};
+ghost use Rattle.vlan_rule.specs.Entry.{codes_of, key_of, kind_of, number_of, value_of, AreFields, IsField};
 ghost use Rattle.vlan_rule.specs.Table.{is_deletion};
 
-use crate::layout::{Field, TagCodes, TagFields};
+use crate::kind::Kind;
+use crate::layout::{FILTER_INNER, FILTER_OUTER, Field, TagCodes, TagFields};
 use byteorder::{BigEndian, ByteOrder};
 
 /// One entry of the table as it is written and kept, padding among it: four words of 32 bits, the
@@ -25,6 +26,17 @@ impl Entry {
     {
         let (_, rest) = self.0.split_at(8);
         BigEndian::read_u64(rest) == u64::MAX
+    }
+
+    // Its kind.
+    #[tactic(auto, unfolding(crate::specs::Entry::kind_of))]
+    pub(crate) fn kind(&self) -> Kind
+        ensures { result ≡ kind_of self.now.0 }
+    {
+        Kind::of(
+            self.value(FILTER_OUTER.priority),
+            self.value(FILTER_INNER.priority),
+        )
     }
 
     // The value of a field.

@@ -18,7 +18,7 @@ pub struct TagFields {
 }
 
 /// What an entry has in the three fields of a filter or a treatment.
-#[derive(Clone, Copy, Debug, PartialEq, Eq)]
+#[derive(Clone, Copy, Debug, Default, PartialEq, Eq)]
 pub struct TagCodes {
     pub priority: u8,
     pub vid: u16,

@@ -9,6 +9,7 @@ pub mod kind;
 pub mod layout;
 pub mod put;
 pub mod rank;
+mod refusal;
 pub mod treatment;
 
 pub use entry::Entry;
