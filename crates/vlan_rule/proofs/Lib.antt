@@ -1,2 +1,3 @@
 mod Examples
+pub mod Fits
 pub mod Words

@@ -7,7 +7,7 @@ use Rattle.std.specs.Option.{option_or}
 use Rattle.byteorder.specs.Endian.{big_number}
 use Rattle.vlan_rule.specs.declared.layout.Field.{Field}
 use Rattle.vlan_rule.specs.declared.layout.TagCodes.{TagCodes}
-use Rattle.vlan_rule.specs.declared.layout.TagFields.{TagFields}
+use Rattle.vlan_rule.specs.declared.layout.TagLayout.{TagLayout}
 use Rattle.vlan_rule.specs.declared.fault.RuleFault.{RuleFault}
 use Rattle.vlan_rule.specs.declared.fault.RuleFault.TheVariants.{Priority, Mixed, Vid, Tpid, Ethertype, TreatPriority, TreatVid, TreatTpid}
 use Rattle.vlan_rule.specs.declared.kind.Kind.{Kind}
@@ -44,21 +44,21 @@ pub record IsField (at : Field) : Type 0 where
   pub narrow : at.high < at.low + 16
 
 -- where the priority, the VID and the TPID/DE of one filter or treatment lie
-abbrev pub fields : Field → Field → Field → TagFields
+abbrev pub fields : Field → Field → Field → TagLayout
 fields priority vid tpid = record { priority = priority; vid = vid; tpid = tpid }
 
 -- the three fields lie so, and the priority and the TPID/DE have 8 bits at most
-pub record AreFields (at : TagFields) : Type 0 where
+pub record IsTagLayout (at : TagLayout) : Type 0 where
   pub priority : IsField at.priority
   pub short_priority : at.priority.high < at.priority.low + 8
   pub vid : IsField at.vid
   pub tpid : IsField at.tpid
   pub short_tpid : at.tpid.high < at.tpid.low + 8
 
-abbrev pub filter_outer : TagFields
+abbrev pub filter_outer : TagLayout
 filter_outer = fields (bits 1 31 28) (bits 1 27 15) (bits 1 14 12)
 
-abbrev pub filter_inner : TagFields
+abbrev pub filter_inner : TagLayout
 filter_inner = fields (bits 2 31 28) (bits 2 27 15) (bits 2 14 12)
 
 abbrev pub filter_ethertype : Field
@@ -67,14 +67,14 @@ filter_ethertype = bits 2 3 0
 abbrev pub tags_to_remove : Field
 tags_to_remove = bits 3 31 30
 
-abbrev pub treatment_outer : TagFields
+abbrev pub treatment_outer : TagLayout
 treatment_outer = fields (bits 3 19 16) (bits 3 15 3) (bits 3 2 0)
 
-abbrev pub treatment_inner : TagFields
+abbrev pub treatment_inner : TagLayout
 treatment_inner = fields (bits 4 19 16) (bits 4 15 3) (bits 4 2 0)
 
 -- the codes that an entry has in the three fields of a filter or a treatment
-abbrev pub codes_of : TagFields → List ℕ → TagCodes
+abbrev pub codes_of : TagLayout → List ℕ → TagCodes
 codes_of at entry = record { priority = value_of at.priority entry; vid = value_of at.vid entry; tpid = value_of at.tpid entry }
 
 -- ---- kinds

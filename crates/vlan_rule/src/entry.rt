@@ -1,16 +1,23 @@
 //! The 16 bytes of an entry, and the values of its fields.
 ghost use Rattle.std.specs.Prelude.{◌≡◌, ◌≤◌, ◌<◌, ◌+◌, ◌-◌, ◌*◌, ◌/◌, ◌%◌, ◌^◌, length};
-ghost use Rattle.vlan_rule.specs.Entry.{codes_of, key_of, kind_of, number_of, value_of, AreFields, IsField};
-ghost use Rattle.vlan_rule.specs.Table.{is_deletion};
+ghost use Rattle.vlan_rule.specs.Entry.{codes_of, key_of, kind_of, number_of, value_of, IsTagLayout, IsField};
+ghost use Rattle.vlan_rule.specs.Table.{is_deletion, is_predefined};
 
 use crate::kind::Kind;
-use crate::layout::{FILTER_INNER, FILTER_OUTER, Field, TagCodes, TagFields};
+use crate::layout::{FILTER_INNER, FILTER_OUTER, Field, TagCodes, TagLayout};
 use byteorder::{BigEndian, ByteOrder};
 
 /// One entry of the table as it is written and kept, padding among it: four words of 32 bits, the
 /// highest byte first (G.988, 9.3.13).
 #[derive(Clone, Copy, Debug, PartialEq, Eq)]
 pub struct Entry(pub [u8; 16]);
+
+// The keys of the entries of a new table.
+const PREDEFINED_KEYS: [u64; 3] = [
+    0xF0000000_F0000000,
+    0xF0000000_E0000000,
+    0xE0000000_E0000000,
+];
 
 impl Entry {
     /// Its key: the number of its first eight bytes, padding among them.
@@ -26,6 +33,13 @@ impl Entry {
     {
         let (_, rest) = self.0.split_at(8);
         BigEndian::read_u64(rest) == u64::MAX
+    }
+
+    // Whether its key is one of the three predefined ones.
+    pub(crate) fn is_predefined(&self) -> bool
+        ensures { result ≡ is_predefined (key_of self.now.0) }
+    {
+        PREDEFINED_KEYS.contains(&self.key())
     }
 
     // Its kind.
@@ -50,8 +64,8 @@ impl Entry {
     }
 
     // The codes of a filter or a treatment.
-    pub(crate) fn codes(&self, at: TagFields) -> TagCodes
-        requires { AreFields at }
+    pub(crate) fn codes(&self, at: TagLayout) -> TagCodes
+        requires { IsTagLayout at }
         ensures { result ≡ codes_of at self.now.0 }
     {
         TagCodes {

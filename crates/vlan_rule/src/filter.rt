@@ -1,4 +1,8 @@
 //! What a rule asks of a frame.
+ghost use Rattle.std.specs.Prelude.{◌≡◌};
+
+use crate::kind::Kind;
+use crate::layout::TagCodes;
 
 /// What the priority of a tag must be.
 #[derive(Clone, Copy, Debug, PartialEq, Eq)]
@@ -67,4 +71,96 @@ pub enum Filter {
     TwoTagDefault,
     /// Two tags.
     TwoTag { outer: TagFilter, inner: TagFilter },
+}
+
+impl PriorityFilter {
+    ghost use Rattle.vlan_rule.specs.Meaning.{priority_filter};
+
+    fn of(code: u8) -> Self
+        ensures { result ≡ priority_filter code }
+    {
+        match code {
+            8 => PriorityFilter::Any,
+            _ => PriorityFilter::Exactly(code),
+        }
+    }
+}
+
+impl VidFilter {
+    ghost use Rattle.vlan_rule.specs.Meaning.{vid_filter};
+
+    fn of(code: u16) -> Self
+        ensures { result ≡ vid_filter code }
+    {
+        match code {
+            4096 => VidFilter::Any,
+            _ => VidFilter::Exactly(code),
+        }
+    }
+}
+
+impl TpidFilter {
+    ghost use Rattle.vlan_rule.specs.Meaning.{tpid_filter};
+
+    fn of(code: u8) -> Self
+        ensures { result ≡ tpid_filter code }
+    {
+        match code {
+            0 => TpidFilter::Any,
+            4 => TpidFilter::Standard,
+            5 => TpidFilter::Input,
+            6 => TpidFilter::InputNotEligible,
+            _ => TpidFilter::InputEligible,
+        }
+    }
+}
+
+impl EthertypeFilter {
+    ghost use Rattle.vlan_rule.specs.Meaning.{ethertype_filter};
+
+    pub(crate) fn of(code: u16) -> Self
+        ensures { result ≡ ethertype_filter code }
+    {
+        match code {
+            0 => EthertypeFilter::Any,
+            1 => EthertypeFilter::Ipv4,
+            2 => EthertypeFilter::Pppoe,
+            3 => EthertypeFilter::Arp,
+            4 => EthertypeFilter::Ipv6,
+            _ => EthertypeFilter::Eapol,
+        }
+    }
+}
+
+impl TagFilter {
+    ghost use Rattle.vlan_rule.specs.Meaning.{tag_filter};
+
+    fn of(codes: TagCodes) -> Self
+        ensures { result ≡ tag_filter codes }
+    {
+        TagFilter {
+            priority: PriorityFilter::of(codes.priority),
+            vid: VidFilter::of(codes.vid),
+            tpid: TpidFilter::of(codes.tpid),
+        }
+    }
+}
+
+impl Filter {
+    ghost use Rattle.vlan_rule.specs.Meaning.{filter_by};
+
+    pub(crate) fn of(kind: Kind, outer: TagCodes, inner: TagCodes) -> Self
+        ensures { result ≡ filter_by kind outer inner }
+    {
+        match kind {
+            Kind::NoTag => Filter::NoTag,
+            Kind::OneTagDefault => Filter::OneTagDefault,
+            Kind::OneTag => Filter::OneTag(TagFilter::of(inner)),
+            Kind::TwoTagDefault => Filter::TwoTagDefault,
+            Kind::TwoTag => Filter::TwoTag {
+                outer: TagFilter::of(outer),
+                inner: TagFilter::of(inner),
+            },
+        }
+    }
 }

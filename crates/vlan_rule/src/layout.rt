@@ -11,7 +11,7 @@ pub struct Field {
 
 /// Where the three fields of a filter or a treatment lie.
 #[derive(Clone, Copy, Debug, PartialEq, Eq)]
-pub struct TagFields {
+pub struct TagLayout {
     pub priority: Field,
     pub vid: Field,
     pub tpid: Field,
@@ -25,7 +25,7 @@ pub struct TagCodes {
     pub tpid: u8,
 }
 
-pub(crate) const FILTER_OUTER: TagFields = TagFields {
+pub(crate) const FILTER_OUTER: TagLayout = TagLayout {
     priority: Field {
         word: 1,
         high: 31,
@@ -43,7 +43,7 @@ pub(crate) const FILTER_OUTER: TagFields = TagFields {
     },
 };
 
-pub(crate) const FILTER_INNER: TagFields = TagFields {
+pub(crate) const FILTER_INNER: TagLayout = TagLayout {
     priority: Field {
         word: 2,
         high: 31,
@@ -61,7 +61,7 @@ pub(crate) const FILTER_INNER: TagFields = TagFields {
     },
 };
 
-pub(crate) const TREATMENT_OUTER: TagFields = TagFields {
+pub(crate) const TREATMENT_OUTER: TagLayout = TagLayout {
     priority: Field {
         word: 3,
         high: 19,
@@ -79,7 +79,7 @@ pub(crate) const TREATMENT_OUTER: TagFields = TagFields {
     },
 };
 
-pub(crate) const TREATMENT_INNER: TagFields = TagFields {
+pub(crate) const TREATMENT_INNER: TagLayout = TagLayout {
     priority: Field {
         word: 4,
         high: 19,

@@ -10,6 +10,7 @@ pub mod layout;
 pub mod put;
 pub mod rank;
 mod refusal;
+pub mod rule;
 pub mod treatment;
 
 pub use entry::Entry;
@@ -18,6 +19,7 @@ pub use filter::{EthertypeFilter, Filter, PriorityFilter, TagFilter, TpidFilter,
 pub use kind::Kind;
 pub use put::Put;
 pub use rank::Rank;
+pub use rule::Rule;
 pub use treatment::{
     AddedTag, EligibleSource, PrioritySource, Retag, TpidSource, Treatment, VidSource,
 };
