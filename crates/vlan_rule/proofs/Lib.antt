@@ -1,3 +1,4 @@
 mod Examples
 pub mod Fits
+pub mod Places
 pub mod Words

@@ -43,7 +43,7 @@ big_from-within a k r n xs e fits =
     let high = big_from 0 a xs in
     let power = pow-add 256 k r in
     let whole : big_from 0 n xs ≡ (big_from 0 a xs * 256 ^ k + big_from a k xs) * 256 ^ r + big_from (a + k) r xs =
-        rw (front, power, back) (omega arith) in
+    rw (front, power, back) (omega arith) in
     let above = div-mul-add (big_from 0 a xs * 256 ^ k + big_from a k xs) (256 ^ r) (big_from (a + k) r xs) low in
     let below = mod-mul-add (big_from 0 a xs) (256 ^ k) (big_from a k xs) within in
     rw (whole, above, below) refl

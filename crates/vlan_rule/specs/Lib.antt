@@ -1,3 +1,4 @@
+pub mod Edit
 pub mod Entry
 pub mod Meaning
 pub mod Rule

@@ -110,7 +110,8 @@ addition codes =
       priority = priority_source codes.priority;
       vid = vid_source codes.vid;
       tpid = tpid_source codes.tpid;
-      eligible = eligible_source codes.tpid })
+      eligible = eligible_source codes.tpid;
+    })
 
 unfoldable pub treatment_of : List ℕ → Treatment
 treatment_of entry =
@@ -118,7 +119,8 @@ treatment_of entry =
     else treatment.Retag (record {
       remove = value_of tags_to_remove entry;
       outer = addition (codes_of treatment_outer entry);
-      inner = addition (codes_of treatment_inner entry) })
+      inner = addition (codes_of treatment_inner entry);
+    })
 
 -- ---- rank
 

@@ -2,6 +2,7 @@
 //! operation table): entries of 16 bytes, the rules that they mean, and the table that holds them.
 #![tactic(auto)]
 
+mod edit;
 pub mod entry;
 pub mod fault;
 pub mod filter;
@@ -11,6 +12,7 @@ pub mod put;
 pub mod rank;
 mod refusal;
 pub mod rule;
+pub mod table;
 pub mod treatment;
 
 pub use entry::Entry;
@@ -20,6 +22,7 @@ pub use kind::Kind;
 pub use put::Put;
 pub use rank::Rank;
 pub use rule::Rule;
+pub use table::RuleTable;
 pub use treatment::{
     AddedTag, EligibleSource, PrioritySource, Retag, TpidSource, Treatment, VidSource,
 };

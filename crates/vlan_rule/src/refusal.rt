@@ -7,8 +7,8 @@ use crate::entry::Entry;
 use crate::fault::RuleFault;
 use crate::kind::Kind;
 use crate::layout::{
-    FILTER_ETHERTYPE, FILTER_INNER, FILTER_OUTER, TAGS_TO_REMOVE, TREATMENT_INNER,
-    TREATMENT_OUTER, TagCodes,
+    FILTER_ETHERTYPE, FILTER_INNER, FILTER_OUTER, TAGS_TO_REMOVE, TREATMENT_INNER, TREATMENT_OUTER,
+    TagCodes,
 };
 use arrayvec::ArrayVec;
 
