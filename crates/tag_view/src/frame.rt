@@ -1,0 +1,62 @@
+//! A frame as slices of its bytes.
+
+use crate::tag::Tag;
+use arrayvec::ArrayVec;
+use byteorder::{BigEndian, ByteOrder};
+use std::marker::Model;
+
+/// A frame that was read: 12 bytes of addresses, at most two tags, and the rest, which begins with
+/// a type. The slices are lent by the frame's bytes, and live as long as these.
+#[derive(Debug, Drop)]
+pub struct FrameView<'a> {
+    pub(crate) addresses: &'a [u8],
+    pub(crate) tags: ArrayVec<Tag, 2>,
+    pub(crate) rest: &'a [u8],
+}
+
+impl<'a> Model for FrameView<'a> {
+    ghost use Rattle.std.specs.Prelude.{◌≡◌, ◌≤◌, length};
+    ghost use Rattle.tag_view.specs.Frame.{Reading};
+
+    ghost Value = { Reading };
+
+    ghost view = { λ f. record { addresses = f.addresses.now; tags = f.tags.items; rest = f.rest.now } };
+
+    ghost invariant = { λ f. (length f.addresses.now ≡ 12) × (2 ≤ length f.rest.now) };
+}
+
+impl<'a> FrameView<'a> {
+    ghost use Rattle.std.specs.Prelude.{◌≡◌, ◌≤◌, length};
+    ghost use Rattle.tag_view.specs.Frame.{type_at};
+
+    /// The 12 bytes of the destination's and the source's address.
+    pub fn addresses(&self) -> &'a [u8]
+        ensures value { result.now ≡ self.now.addresses }
+        ensures len { length result.now ≡ 12 }
+    {
+        self.addresses
+    }
+
+    /// The tags that were read, outermost first.
+    pub fn tags(&self) -> &[Tag]
+        ensures value { result.now ≡ self.now.tags }
+        ensures two { length result.now ≤ 2 }
+    {
+        self.tags.as_slice()
+    }
+
+    /// What follows the tags, from the type on.
+    pub fn rest(&self) -> &'a [u8]
+        ensures value { result.now ≡ self.now.rest }
+        ensures len { 2 ≤ length result.now }
+    {
+        self.rest
+    }
+
+    /// The type behind the tags that were read. It may be that of a third tag.
+    pub fn ethertype(&self) -> u16
+        ensures { result ≡ type_at 0 self.now.rest }
+    {
+        BigEndian::read_u16(self.rest)
+    }
+}

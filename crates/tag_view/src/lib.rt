@@ -1,0 +1,21 @@
+//! Ethernet frames (IEEE 802.1Q, clause 9) as slices of their bytes: addresses, at most two VLAN
+//! tags, and the rest. What a frame is read as is defined in `specs/Frame.antt`. No call takes
+//! memory.
+#![tactic(auto)]
+
+pub mod dscp_map;
+pub mod fault;
+pub mod frame;
+pub mod laws;
+pub mod tag;
+pub mod viewing;
+
+pub use dscp_map::DscpMap;
+pub use fault::FrameFault;
+pub use frame::FrameView;
+pub use laws::law_of_readings;
+pub use tag::Tag;
+pub use viewing::view;
+
+#[cfg(test)]
+mod tests;

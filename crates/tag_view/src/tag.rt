@@ -1,0 +1,78 @@
+//! A VLAN tag.
+
+use byteorder::{BigEndian, ByteOrder};
+use std::marker::Model;
+
+/// A VLAN tag (IEEE 802.1Q, 9.6).
+#[derive(Clone, Copy, Debug, PartialEq, Eq)]
+pub struct Tag {
+    /// The tag protocol identifier.
+    pub tpid: u16,
+    /// The priority code point, under 8.
+    pub pcp: u8,
+    /// The drop eligible indicator.
+    pub dei: bool,
+    /// The VLAN identifier, under 4096.
+    pub vid: u16,
+}
+
+impl Model for Tag {
+    ghost use Rattle.std.specs.Prelude.{◌<◌};
+    ghost use Rattle.tag_view.specs.Tag.{TagFields};
+
+    ghost Value = { TagFields };
+
+    ghost view = { λ t. record { tpid = t.tpid; pcp = t.pcp; dei = t.dei; vid = t.vid } };
+
+    ghost invariant = { λ t. (t.pcp < 8) × (t.vid < 4096) };
+
+    ghost inverse = { λ t. record { tpid = t.tpid; pcp = t.pcp; dei = t.dei; vid = t.vid } };
+}
+
+impl Default for Tag {
+    fn default() -> Tag {
+        Tag {
+            tpid: 0,
+            pcp: 0,
+            dei: false,
+            vid: 0,
+        }
+    }
+}
+
+impl Tag {
+    ghost use Rattle.std.specs.Prelude.{◌≡◌, ◌≤◌, length};
+    ghost use Rattle.tag_view.specs.Tag.{control_of, tag_bytes};
+    ghost use Rattle.tag_view.specs.Frame.{tag_at};
+
+    /// The tag in the first four bytes.
+    pub(crate) fn read(bytes: &[u8]) -> Tag
+        requires { 4 ≤ length bytes.now }
+        ensures { result ≡ tag_at 0 bytes.now }
+    {
+        let control = BigEndian::read_u16(&bytes[2..]);
+        Tag {
+            tpid: BigEndian::read_u16(bytes),
+            pcp: (control >> 13) as u8,
+            dei: control >> 12 & 1 == 1,
+            vid: control & 0x0fff,
+        }
+    }
+
+    /// The tag control information.
+    fn control(&self) -> u16
+        ensures { result ≡ control_of self.now }
+    {
+        u16::from(self.pcp) << 13 | u16::from(self.dei) << 12 | self.vid
+    }
+
+    /// The four bytes of the tag.
+    pub fn bytes(&self) -> [u8; 4]
+        ensures { result ≡ tag_bytes self.now }
+    {
+        let mut bytes = [0; 4];
+        BigEndian::write_u16(&mut bytes[..2], self.tpid);
+        BigEndian::write_u16(&mut bytes[2..], self.control());
+        bytes
+    }
+}
