@@ -1,3 +1,4 @@
+pub mod Choice
 pub mod Edit
 pub mod Entry
 pub mod Meaning

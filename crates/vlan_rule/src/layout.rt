@@ -2,7 +2,7 @@
 
 /// Where a field lies: its word, counted from 1, and there its highest and its lowest bit, of which
 /// 31 is the highest of a word.
-#[derive(Clone, Copy, Debug, PartialEq, Eq)]
+#[derive(Clone, Copy)]
 pub struct Field {
     pub word: usize,
     pub high: u32,
@@ -10,7 +10,7 @@ pub struct Field {
 }
 
 /// Where the three fields of a filter or a treatment lie.
-#[derive(Clone, Copy, Debug, PartialEq, Eq)]
+#[derive(Clone, Copy)]
 pub struct TagLayout {
     pub priority: Field,
     pub vid: Field,
@@ -18,7 +18,7 @@ pub struct TagLayout {
 }
 
 /// What an entry has in the three fields of a filter or a treatment.
-#[derive(Clone, Copy, Debug, Default, PartialEq, Eq)]
+#[derive(Clone, Copy, Default)]
 pub struct TagCodes {
     pub priority: u8,
     pub vid: u16,

@@ -8,10 +8,12 @@ pub mod fault;
 pub mod filter;
 pub mod kind;
 pub mod layout;
+mod matching;
 pub mod put;
 pub mod rank;
 mod refusal;
 pub mod rule;
+pub mod settings;
 pub mod table;
 pub mod treatment;
 
@@ -22,6 +24,7 @@ pub use kind::Kind;
 pub use put::Put;
 pub use rank::Rank;
 pub use rule::Rule;
+pub use settings::TableSettings;
 pub use table::RuleTable;
 pub use treatment::{
     AddedTag, EligibleSource, PrioritySource, Retag, TpidSource, Treatment, VidSource,
