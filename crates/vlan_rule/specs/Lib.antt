@@ -1,3 +1,4 @@
+pub mod Best
 pub mod Choice
 pub mod Edit
 pub mod Entry

@@ -2,9 +2,7 @@
 ghost use Rattle.std.specs.Prelude.{◌≡◌, ◌&&◌};
 ghost use Rattle.vlan_rule.specs.Choice.{are_tags, has_priority, has_tpid, has_type, has_vid, is_tag};
 
-use crate::filter::{
-    EthertypeFilter, Filter, PriorityFilter, TagFilter, TpidFilter, VidFilter,
-};
+use crate::filter::{EthertypeFilter, Filter, PriorityFilter, TagFilter, TpidFilter, VidFilter};
 use crate::rule::Rule;
 use tag_view::Tag;
 

@@ -27,17 +27,17 @@ const PREDEFINED: [Entry; 3] = [
 
 // An entry that is held, with its rule.
 #[derive(Clone, Copy)]
-struct Row {
-    entry: Entry,
-    rule: Rule,
-    ghost read: { IsRuleOf entry.0 rule },
+pub(crate) struct Row {
+    pub(crate) entry: Entry,
+    pub(crate) rule: Rule,
+    pub ghost read: { IsRuleOf entry.0 rule },
 }
 
 /// The received frame VLAN tagging operation table (G.988, 9.3.13): its entries in order, of which
 /// no two have one key, with room for 64.
 #[derive(Drop)]
 pub struct RuleTable {
-    rows: Vec<Row>,
+    pub(crate) rows: Vec<Row>,
 }
 
 impl Model for RuleTable {
