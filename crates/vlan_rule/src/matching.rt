@@ -1,16 +1,19 @@
 //! Which frames a rule is for.
-ghost use Rattle.std.specs.Prelude.{◌≡◌, ◌&&◌};
-ghost use Rattle.vlan_rule.specs.Choice.{are_tags, has_priority, has_tpid, has_type, has_vid, is_tag};
+ghost use Rattle.std.specs.Prelude.{◌≡◌, ◌&&◌, List, ℕ};
+ghost use Rattle.vlan_rule.specs.Choice.{are_tags, has_priority, has_tpid, has_type, has_vid, is_tag, matches};
 
 use crate::filter::{EthertypeFilter, Filter, PriorityFilter, TagFilter, TpidFilter, VidFilter};
 use crate::rule::Rule;
 use tag_view::Tag;
 
 impl Rule {
+    ghost use Rattle.vlan_rule.specs.Rule.{IsRuleOf};
+
     /// Whether the rule is for a frame, of which these are the tags, the outermost first, and the
     /// type behind them.
     pub fn matches(&self, tags: &[Tag], ethertype: u16, input_tpid: u16) -> bool
-        ensures { result ≡ (are_tags input_tpid self.now.filter tags.now && has_type self.now.ethertype ethertype) }
+        ensures value { result ≡ (are_tags input_tpid self.now.filter tags.now && has_type self.now.ethertype ethertype) }
+        ensures of_entry { (entry : List ℕ) → IsRuleOf entry self.now → result ≡ matches input_tpid tags.now ethertype entry }
     {
         self.filter.are_tags(tags, input_tpid) && self.ethertype.is(ethertype)
     }

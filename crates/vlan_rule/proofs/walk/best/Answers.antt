@@ -5,7 +5,7 @@ use Rattle.vlan_rule.specs.Choice.{entry_at, matches, rank_at}
 use Rattle.vlan_rule.specs.Meaning.{rank_number, rank_of}
 use Rattle.vlan_rule.specs.declared.rank.Rank.{Rank}
 use Rattle.vlan_rule.specs.declared.table.Row.{Row}
-use Rattle.vlan_rule.proofs.Chosen.{rule_matches, step}
+use Rattle.vlan_rule.proofs.Chosen.{step}
 use Rattle.vlan_rule.proofs.walk.best.Goals as goal
 
 pub loop-place-preserved : goal.loop-place-preserved
@@ -17,7 +17,7 @@ loop-place-preserved c =
     let test = matches c.args.input_tpid c.args.tags.now c.args.ethertype in
     let here : entry_at entries place ≡ row.entry.0 = get_or-map shown c.args.rows.now place row [] c.loop-place-test.true ∙ ap shown (sym c.index-rows-place.is) in
     let passes : test (entry_at entries place) ≡ c.matches-matches.result =
-    ap test here ∙ rule_matches row.entry.0 row.rule c.args.input_tpid c.args.tags.now c.args.ethertype row.read ∙ sym c.matches-matches.ensures in
+    ap test here ∙ sym (c.matches-matches.ensures.of_entry row.entry.0 row.read) in
     let rank : rank_at entries place ≡ c.number.result =
     ap (λ (e : List ℕ). rank_number (rank_of e)) here ∙ ap rank_number (sym row.read.rank) ∙ sym c.number.ensures in
     let IsBestThen : Option (ℕ × ℕ) → Type 0 = λ best. IsBest test entries (place + 1) best in
