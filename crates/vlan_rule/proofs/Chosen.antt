@@ -1,6 +1,6 @@
 -- The chosen place is one, and is found step by step.
-use Rattle.std.proofs.Common.{◌≡◌, ◌==◌, ℕ, suc, zero, ◌+◌, ◌<◌, ◌≤◌, List, [], Bool, true, false, ◌&&◌, ◌||◌, Option, Some, None, length, refl, ap, sym, ◌∙◌, arith, below_more, nat_eq, nat_lt, if◌then◌else◌}
-use Rattle.std.proofs.lemmas.Bool.{and_from, false_from_ne_true, le-ltb, ltb-false, ltb-true, true≢false}
+use Rattle.std.proofs.Common.{◌≡◌, ◌==◌, ℕ, suc, zero, ◌+◌, ◌<◌, ◌≤◌, List, Bool, true, false, ◌&&◌, ◌||◌, Option, Some, None, length, refl, ap, sym, ◌∙◌, arith, below_more, nat_lt, if◌then◌else◌}
+use Rattle.std.proofs.lemmas.Bool.{ltb-false, ltb-true, true≢false}
 use Rattle.std.proofs.lemmas.Bool.Decides.{nat_tests}
 use Rattle.vlan_rule.specs.declared.filter.EthertypeFilter.{EthertypeFilter}
 use Rattle.vlan_rule.specs.declared.filter.Filter.{Filter}

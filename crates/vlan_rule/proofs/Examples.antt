@@ -1,7 +1,7 @@
 -- Worked examples, computed.
-use Rattle.std.proofs.Common.{◌≡◌, ℕ, ◌+◌, ◌*◌, ◌++◌, suc, zero, List, [], ◌∷◌, Some, None, Ok, Err, refl, map}
+use Rattle.std.proofs.Common.{◌≡◌, ℕ, ◌+◌, ◌*◌, ◌++◌, suc, zero, List, [], ◌∷◌, None, Ok, Err, refl, map}
 use Rattle.std.specs.Prelude.{length, Result}
-use Rattle.vlan_rule.specs.declared.fault.RuleFault.TheVariants.{Priority, Mixed, Vid, TreatVid}
+use Rattle.vlan_rule.specs.declared.fault.RuleFault.TheVariants.{Priority, Mixed, TreatVid}
 use Rattle.vlan_rule.specs.declared.fault.TableFault.{TableFault}
 use Rattle.vlan_rule.specs.declared.fault.TableFault.TheVariants.{Bad, Full}
 use Rattle.vlan_rule.specs.declared.put.Put.{Put}

@@ -1,5 +1,5 @@
 -- What an entry that isn't refused adds can stand in a tag.
-use Rattle.std.proofs.Common.{◌≡◌, ℕ, ◌+◌, ◌-◌, ◌*◌, ◌/◌, ◌%◌, ◌^◌, ◌<◌, ◌≤◌, List, [], ◌∷◌, ◌++◌, Bool, true, false, Some, None, Option, if◌then◌else◌, refl, ap, sym, ◌∙◌, arith, nat_eq, nat_lt, nat_le}
+use Rattle.std.proofs.Common.{◌≡◌, ℕ, ◌+◌, ◌-◌, ◌^◌, ◌<◌, ◌≤◌, List, [], ◌∷◌, ◌++◌, Bool, true, false, Some, None, Option, if◌then◌else◌, refl, sym, ◌∙◌, arith, nat_eq}
 use Rattle.std.specs.List.{list_any}
 use Rattle.std.specs.Option.{option_or}
 use Rattle.std.proofs.lemmas.Nat.{mod_below, pow_pos}
@@ -10,7 +10,7 @@ use Rattle.vlan_rule.specs.declared.fault.RuleFault.TheVariants.{TreatPriority, 
 use Rattle.vlan_rule.specs.declared.layout.Field.{Field}
 use Rattle.vlan_rule.specs.declared.layout.TagCodes.{TagCodes}
 use Rattle.vlan_rule.specs.declared.treatment.Treatment.TheVariants as treatment
-use Rattle.vlan_rule.specs.Entry.{additions_of, added, adds_bad_priority, adds_bad_tpid, adds_bad_vid, codes_of, discards, refusal_of, tags_to_remove, treatment_inner, treatment_outer, treatment_refusal, value_of}
+use Rattle.vlan_rule.specs.Entry.{added, adds_bad_priority, adds_bad_tpid, adds_bad_vid, codes_of, discards, refusal_of, tags_to_remove, treatment_inner, treatment_outer, treatment_refusal, value_of}
 use Rattle.vlan_rule.specs.Meaning.{addition, addition_fits, eligible_source, tpid_source, priority_fits, priority_source, treatment_fits, treatment_of, vid_fits, vid_source}
 
 -- a priority of four bits that is added

@@ -1,6 +1,6 @@
 -- Which entry of a table is used for a frame (ITU-T G.988, 9.3.13). A frame is here the input TPID,
 -- its tags, the outermost first, and the type behind them.
-use Rattle.std.specs.Prelude.{◌≡◌, ◌<◌, ℕ, Bool, true, false, not, ◌&&◌, ◌||◌, List, [], ◌∷◌, Option, Some, None, All, ◌==◌, nat_lt, length, slice_index_or}
+use Rattle.std.specs.Prelude.{◌≡◌, ◌<◌, ℕ, Bool, true, false, not, ◌&&◌, ◌||◌, List, [], ◌∷◌, Option, Some, None, ◌==◌, nat_lt, length, slice_index_or}
 use Rattle.tag_view.specs.Tag.{TagFields}
 use Rattle.vlan_rule.specs.declared.filter.PriorityFilter.{PriorityFilter}
 use Rattle.vlan_rule.specs.declared.filter.PriorityFilter.TheVariants as priority

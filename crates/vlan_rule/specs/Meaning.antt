@@ -25,7 +25,6 @@ use Rattle.vlan_rule.specs.declared.treatment.TpidSource.TheVariants as from_tpi
 use Rattle.vlan_rule.specs.declared.treatment.EligibleSource.{EligibleSource}
 use Rattle.vlan_rule.specs.declared.treatment.EligibleSource.TheVariants as from_eligible
 use Rattle.vlan_rule.specs.declared.treatment.AddedTag.{AddedTag}
-use Rattle.vlan_rule.specs.declared.treatment.Retag.{Retag}
 use Rattle.vlan_rule.specs.declared.treatment.Treatment.{Treatment}
 use Rattle.vlan_rule.specs.declared.treatment.Treatment.TheVariants as treatment
 use Rattle.vlan_rule.specs.Entry.{codes_of, discards, filter_ethertype, filter_inner, filter_outer, key_of, kind_of, refusal_of, tags_to_remove, treatment_inner, treatment_outer, value_of}

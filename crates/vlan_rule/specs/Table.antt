@@ -1,6 +1,6 @@
 -- The received frame VLAN tagging operation table (ITU-T G.988, 9.3.13) as the list of its entries,
 -- each the list of its 16 bytes.
-use Rattle.std.specs.Prelude.{ℕ, ◌^◌, ◌-◌, Bool, true, false, ◌||◌, List, [], ◌∷◌, ◌++◌, Option, Some, None, Result, Ok, Err, if◌then◌else◌, ◌==◌, nat_le, length, map}
+use Rattle.std.specs.Prelude.{ℕ, Bool, true, false, List, [], ◌∷◌, ◌++◌, Option, Some, None, Result, Ok, Err, if◌then◌else◌, ◌==◌, nat_le, length, map}
 use Rattle.std.specs.List.{list_any}
 use Rattle.byteorder.specs.Endian.{big_from}
 use Rattle.vlan_rule.specs.declared.fault.RuleFault.{RuleFault}

@@ -31,3 +31,6 @@ pub use table::RuleTable;
 pub use treatment::{
     AddedTag, EligibleSource, PrioritySource, Retag, TpidSource, Treatment, VidSource,
 };
+
+#[cfg(test)]
+mod tests;

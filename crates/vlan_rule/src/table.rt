@@ -33,8 +33,8 @@ pub(crate) struct Row {
     pub ghost read: { IsRuleOf entry.0 rule },
 }
 
-/// The received frame VLAN tagging operation table (G.988, 9.3.13): its entries in order, of which
-/// no two have one key, with room for 64.
+/// The received frame VLAN tagging operation table (G.988, 9.3.13): its entries in order, with room
+/// for 64.
 #[derive(Drop)]
 pub struct RuleTable {
     pub(crate) rows: Vec<Row>,

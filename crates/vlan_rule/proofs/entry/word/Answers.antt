@@ -1,4 +1,4 @@
-use Rattle.std.proofs.Common.{◌≡◌, ◌+◌, ◌-◌, ◌*◌, ◌/◌, ◌%◌, ◌^◌, ◌<◌, ℕ, arith, ap, sym, slice_index, ◌∙◌}
+use Rattle.std.proofs.Common.{◌≡◌, ◌-◌, ◌*◌, ◌/◌, ◌%◌, ◌^◌, ◌<◌, ℕ, arith, ap, sym, slice_index, ◌∙◌}
 use Rattle.byteorder.specs.Endian.{big_number}
 use Rattle.vlan_rule.specs.Entry.{number_of}
 use Rattle.vlan_rule.proofs.Words.{word_of}

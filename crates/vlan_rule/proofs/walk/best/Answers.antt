@@ -1,9 +1,8 @@
-use Rattle.std.proofs.Common.{◌≡◌, ◌+◌, ℕ, List, [], Bool, Option, ap, map, subst, sym, ◌∙◌}
+use Rattle.std.proofs.Common.{◌≡◌, ◌+◌, ℕ, List, [], Option, ap, map, subst, sym, ◌∙◌}
 use Rattle.std.proofs.lemmas.List.{get_or-map}
 use Rattle.vlan_rule.specs.Best.{IsBest}
 use Rattle.vlan_rule.specs.Choice.{entry_at, matches, rank_at}
 use Rattle.vlan_rule.specs.Meaning.{rank_number, rank_of}
-use Rattle.vlan_rule.specs.declared.rank.Rank.{Rank}
 use Rattle.vlan_rule.specs.declared.table.Row.{Row}
 use Rattle.vlan_rule.proofs.Chosen.{step}
 use Rattle.vlan_rule.proofs.walk.best.Goals as goal

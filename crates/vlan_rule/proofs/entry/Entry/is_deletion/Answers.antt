@@ -1,4 +1,4 @@
-use Rattle.std.proofs.Common.{◌≡◌, ℕ, nat_eq, ap, ◌∙◌}
+use Rattle.std.proofs.Common.{ℕ, nat_eq, ap, ◌∙◌}
 use Rattle.byteorder.specs.Endian.{big_number}
 use Rattle.vlan_rule.proofs.Words.{big_from-drop}
 use Rattle.vlan_rule.specs.Table.{is_deletion}

@@ -1,4 +1,4 @@
-use Rattle.std.proofs.Common.{◌≡◌, ◌+◌, ◌-◌, ◌*◌, ◌/◌, ◌%◌, ◌^◌, ◌<◌, ℕ, arith, ap, sym, ◌∙◌}
+use Rattle.std.proofs.Common.{◌+◌, ◌-◌, ◌/◌, ◌%◌, ◌^◌, ℕ, arith, ap, ◌∙◌}
 use Rattle.std.proofs.lemmas.Nat.{one_shl}
 use Rattle.vlan_rule.proofs.Words.{value_in_word}
 use Rattle.vlan_rule.proofs.entry.Entry.value.Goals as goal

@@ -1,5 +1,5 @@
-use Rattle.std.proofs.Common.{◌≡◌, ◌&&◌, Bool, sym, ap, ◌∙◌}
-use Rattle.vlan_rule.specs.Choice.{are_tags, has_type}
+use Rattle.std.proofs.Common.{◌&&◌, Bool, sym, ap, ◌∙◌}
+use Rattle.vlan_rule.specs.Choice.{has_type}
 use Rattle.vlan_rule.proofs.Chosen.{rule_matches}
 use Rattle.vlan_rule.proofs.rule.Rule.matches.Goals as goal
 

@@ -1,4 +1,4 @@
-use Rattle.std.proofs.Common.{◌≡◌, ◌≤◌, ◌<◌, length, sym, ap, ◌∙◌, arith}
+use Rattle.std.proofs.Common.{◌≤◌, ◌<◌, length, sym, ◌∙◌, arith}
 use Rattle.vlan_rule.proofs.Places.{put-adds, put-deletes, put-finds-none, put-is_full, put-refuses, put-replaces}
 use Rattle.vlan_rule.proofs.table.RuleTable.edit.Goals as goal
 

@@ -1,4 +1,4 @@
-use Rattle.std.proofs.Common.{◌≡◌, ℕ, List, ap, sym, ◌∙◌}
+use Rattle.std.proofs.Common.{ℕ, List, ap, sym, ◌∙◌}
 use Rattle.vlan_rule.specs.Edit.{edited}
 use Rattle.vlan_rule.specs.declared.edit.Edit.{Edit}
 use Rattle.vlan_rule.proofs.Places.{left_by_edit}

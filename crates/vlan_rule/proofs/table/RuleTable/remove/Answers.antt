@@ -1,4 +1,4 @@
-use Rattle.std.proofs.Common.{◌≡◌, List, map, ap, ◌∙◌}
+use Rattle.std.proofs.Common.{List, map, ap, ◌∙◌}
 use Rattle.std.specs.List.{remove}
 use Rattle.vlan_rule.specs.declared.table.Row.{Row}
 use Rattle.vlan_rule.proofs.Places.{map-remove}

@@ -1,4 +1,4 @@
-use Rattle.std.proofs.Common.{◌≡◌, List, map, ap, slice_set, ◌∙◌}
+use Rattle.std.proofs.Common.{List, ap, slice_set, ◌∙◌}
 use Rattle.std.proofs.lemmas.List.{map-set}
 use Rattle.vlan_rule.specs.declared.table.Row.{Row}
 use Rattle.vlan_rule.proofs.table.RuleTable.replace.Goals as goal
