@@ -4,7 +4,7 @@ use byteorder::{BigEndian, ByteOrder};
 use std::marker::Model;
 
 /// A VLAN tag (IEEE 802.1Q, 9.6).
-#[derive(Clone, Copy, Debug, PartialEq, Eq)]
+#[derive(Clone, Copy, Debug, Default, PartialEq, Eq)]
 pub struct Tag {
     /// The tag protocol identifier.
     pub tpid: u16,
@@ -27,17 +27,6 @@ impl Model for Tag {
     ghost invariant = { λ t. (t.pcp < 8) × (t.vid < 4096) };
 
     ghost inverse = { λ t. record { tpid = t.tpid; pcp = t.pcp; dei = t.dei; vid = t.vid } };
-}
-
-impl Default for Tag {
-    fn default() -> Tag {
-        Tag {
-            tpid: 0,
-            pcp: 0,
-            dei: false,
-            vid: 0,
-        }
-    }
 }
 
 impl Tag {

@@ -1,0 +1,7 @@
+pub mod Best
+pub mod Choice
+pub mod Edit
+pub mod Entry
+pub mod Meaning
+pub mod Rule
+pub mod Table
