@@ -7,10 +7,16 @@ use Rattle.omci_msg.specs.Message.{request_of, reply_spelling}
 use Rattle.omci_msg.specs.declared.fault.MsgFault.{MsgFault}
 use Rattle.omci_msg.specs.declared.request.Request.{Request}
 use Rattle.omci_msg.specs.declared.reply.Reply.{Reply}
+use Rattle.forward_plan.specs.Meaning.{meaning}
+use Rattle.forward_plan.specs.Reason.{number_of_reason}
+use Rattle.forward_plan.specs.declared.reason.Reason.{Reason}
+use Rattle.forward_plan.specs.declared.verdict.Verdict.{Verdict}
+use Rattle.forward_plan.specs.declared.verdict.Verdict.TheVariants.{Forward, Drop}
+use Rattle.tag_view.specs.Frame.{Reading, spelled}
 use Rattle.mib_state.specs.Entities.{Entities, nothing}
 use Rattle.mib_state.specs.Step.{step}
 use Rattle.onuctl.specs.Line.{Asked, asked_by}
-use Rattle.onuctl.specs.Line.Asked.{Message, Nothing}
+use Rattle.onuctl.specs.Line.Asked.{Message, Frame, Nothing}
 use Rattle.onuctl.specs.Text.{lines_of}
 
 -- the line of a reply
@@ -29,6 +35,18 @@ fault_line fault = codes "m " ++ decimal (number_of_fault fault) ++ 10 ∷ []
 abbrev pub request_line : Request → Reply → List ℕ
 request_line request reply = if request.wants_answer then reply_line reply else unanswered_line
 
+-- the line of a frame that leaves by a GEM port
+abbrev pub forwarded_line : ℕ → Reading → List ℕ
+forwarded_line gem frame = codes "g " ++ decimal gem ++ 32 ∷ [] ++ encode_lower (spelled frame.addresses frame.tags frame.rest) ++ 10 ∷ []
+
+-- the line of a frame that is dropped
+abbrev pub dropped_line : Reason → List ℕ
+dropped_line reason = codes "d " ++ decimal (number_of_reason reason) ++ 10 ∷ []
+
+abbrev pub verdict_line : Verdict → List ℕ
+verdict_line (Forward gem frame) = forwarded_line gem frame
+verdict_line (Drop reason) = dropped_line reason
+
 -- the answer to a message under given entities, and what it leaves: one with a fault leaves them
 abbrev pub message_answer : Entities → Result Request MsgFault → List ℕ × Entities
 message_answer e (Ok request) = let done = step e request in (request_line request done.0, done.1)
@@ -37,6 +55,7 @@ message_answer e (Err fault) = (fault_line fault, e)
 -- the same of a line that isn't bad
 abbrev pub answer : Entities → Asked → List ℕ × Entities
 answer e (Message bytes) = message_answer e (request_of bytes)
+answer e (Frame port bytes) = (verdict_line (meaning e port bytes), e)
 answer e Nothing = ([], e)
 
 -- the same of any line: a bad one has no answer

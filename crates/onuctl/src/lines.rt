@@ -20,7 +20,7 @@ pub struct Answered {
 }
 
 /// Answers the lines that end in a piece, up to the first bad one. No line ends in the first
-/// `searched` bytes. There is room for twice the piece.
+/// `searched` bytes. There is room for three times the piece.
 pub fn answer_lines(
     mib: &mut Mib,
     piece: &[u8],
@@ -31,7 +31,7 @@ pub fn answer_lines(
     requires buffer { length buffer.old ≡ 10000 }
     requires within { searched ≤ length piece.now }
     requires searched { (k : ℕ) → k < searched → slice_index piece.now k ≢ 10 }
-    requires room { vec_len answers.old + 2 * length piece.now ≤ vec_capacity answers.old }
+    requires room { vec_len answers.old + 3 * length piece.now ≤ vec_capacity answers.old }
     ensures bad { before_bad (map asked_by (cut piece.now).ended) ≡ (if result.is_bad then Some result.lines else None) }
     ensures lines { result.is_bad ≡ false → result.lines ≡ length (cut piece.now).ended }
     ensures within { result.rest ≤ length piece.now }

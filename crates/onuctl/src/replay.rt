@@ -36,7 +36,7 @@ fn finish<W: Write>(
     requires buffer { length buffer.old ≡ 10000 }
     requires empty { vec_len answers.old ≡ 0 }
     requires none { answers.old.items ≡ [] }
-    requires room { 2 * length line.now + 2 ≤ vec_capacity answers.old }
+    requires room { 3 * length line.now + 3 ≤ vec_capacity answers.old }
     requires lines { lines < 2 ^ 63 }
     ensures { Finishes mib.old line.now lines result (W.contents writer.old) (W.contents writer.new) }
 {
@@ -66,7 +66,7 @@ fn replay_through<R: Read, W: Write>(
     requires buffer { length buffer.old ≡ 10000 }
     requires empty { vec_len answers.old ≡ 0 }
     requires none { answers.old.items ≡ [] }
-    requires room { 2 * 85536 ≤ vec_capacity answers.old }
+    requires room { 3 * 85536 ≤ vec_capacity answers.old }
     ensures { IfSome (R.remaining reader.old) (λ text. Replays text result (R.remaining reader.new) (W.contents writer.old) (W.contents writer.new)) }
 {
     let mut total = 0;
@@ -117,14 +117,14 @@ impl Room {
         ensures buffer { IfOk result (λ room. vec_len room.buffer ≡ 10000) }
         ensures empty { IfOk result (λ room. vec_len room.answers ≡ 0) }
         ensures none { IfOk result (λ room. room.answers.items ≡ []) }
-        ensures answers { IfOk result (λ room. 2 * 85536 ≤ vec_capacity room.answers) }
+        ensures answers { IfOk result (λ room. 3 * 85536 ≤ vec_capacity room.answers) }
     {
         Ok(Room {
             mib: Mib::new(alloc)?,
             text: vec![in alloc; 0; TEXT_ROOM]?,
             spare: vec![in alloc; 0; LINE_LIMIT]?,
             buffer: vec![in alloc; 0; MESSAGE_LIMIT]?,
-            answers: Vec::with_capacity(alloc, 2 * TEXT_ROOM)?,
+            answers: Vec::with_capacity(alloc, 3 * TEXT_ROOM)?,
         })
     }
 }

@@ -151,7 +151,6 @@ fn scripts_are_answered_line_by_line(rt: HostRuntime) -> Result<(), Fail> {
         ("no space", "o\n", "", Err(ReplayFault::BadLine(1))),
         ("blank behind", "o 00 \n", "", Err(ReplayFault::BadLine(1))),
         ("prefix", "o 0x00\n", "", Err(ReplayFault::BadLine(1))),
-        ("a frame", "f 1 00\n", "", Err(ReplayFault::BadLine(1))),
     ] {
         let mut written = Vec::new(alloc);
         let mut reader = script.as_bytes();
@@ -274,6 +273,151 @@ fn a_report_has_the_words_and_the_status(rt: HostRuntime) -> Result<(), Fail> {
         assert_eq!(rt; written.as_slice(), words.as_bytes());
         let mut full = make_sink(alloc, 1, 0, true);
         assert_eq!(rt; report_replay(&outcome, &mut full), status, "{words}");
+    }
+    Ok(())
+}
+
+/// A GEM port, an interworking point to it, and the mapper of port 257 to that.
+const PORT_257: [&str; 3] = [
+    CREATE_GEM_PORT,
+    "0002440a010a0501 0401050601",
+    "0003440a00820601 0101 0501050105010501 0501050105010501 010001",
+];
+
+const UNTAGGED: &str = "02000000000102000000000208004500";
+
+#[test]
+fn frame_lines_have_a_port_and_bytes(rt: HostRuntime) -> Result<(), Fail> {
+    let alloc = rt.alloc();
+    for (script, answers, outcome) in [
+        ("f 1 \n", "d 1\n", Ok(())),
+        ("f 00001 \n", "d 1\n", Ok(())),
+        ("f 65535 00\n", "d 1\n", Ok(())),
+        ("f 65536 00\n", "", Err(ReplayFault::BadLine(1))),
+        ("f 000001 00\n", "", Err(ReplayFault::BadLine(1))),
+        ("f 1\n", "", Err(ReplayFault::BadLine(1))),
+        ("f  00\n", "", Err(ReplayFault::BadLine(1))),
+        ("f +1 00\n", "", Err(ReplayFault::BadLine(1))),
+        ("f 1  00\n", "", Err(ReplayFault::BadLine(1))),
+        ("f 1 0\n", "", Err(ReplayFault::BadLine(1))),
+        ("f 1 020000000001020000000002080045\n", "d 5\n", Ok(())),
+    ] {
+        let mut written = Vec::new(alloc);
+        let mut reader = script.as_bytes();
+        assert_eq!(rt;
+            replay(alloc, &mut reader, &mut written),
+            outcome,
+            "{script}"
+        );
+        assert_eq!(rt; written.as_slice(), answers.as_bytes(), "{script}");
+    }
+    Ok(())
+}
+
+#[test]
+fn frames_leave_or_are_dropped_as_the_entities_say(rt: HostRuntime) -> Result<(), Fail> {
+    let alloc = rt.alloc();
+    let mut script = messages(alloc, "o ", &PORT_257)?;
+    let mut answers = messages(
+        alloc,
+        "r ",
+        &[CREATED, "0002240a010a0501 00", "0003240a00820601 00"],
+    )?;
+    for (message, reply, port, frame, answer) in [
+        (
+            "",
+            "",
+            "257",
+            UNTAGGED,
+            "g 1024 02000000000102000000000208004500\n",
+        ),
+        ("", "", "257", "02000000000102000000000208", "d 1\n"),
+        (
+            "",
+            "",
+            "257",
+            "0200000000010200000000020800",
+            "g 1024 0200000000010200000000020800\n",
+        ),
+        ("", "", "257", "0200000000010200000000028100", "d 2\n"),
+        (
+            "",
+            "",
+            "257",
+            "02000000000102000000000281000064 8100",
+            "d 2\n",
+        ),
+        (
+            "0005440a00820602 0102 ffffffffffffffff ffffffffffffffff 010001",
+            "0005240a00820602 00",
+            "258",
+            UNTAGGED,
+            "d 6\n",
+        ),
+        (
+            "0006460a010c0401",
+            "0006260a010c0401 00",
+            "257",
+            UNTAGGED,
+            "d 8\n",
+        ),
+        (
+            "0007440a010c0401 0400800102",
+            "0007240a010c0401 00",
+            "257",
+            UNTAGGED,
+            "d 9\n",
+        ),
+        (
+            "0008460a010a0501",
+            "0008260a010a0501 00",
+            "257",
+            UNTAGGED,
+            "d 7\n",
+        ),
+        (
+            "0009460a00820601",
+            "0009260a00820601 00",
+            "257",
+            UNTAGGED,
+            "d 5\n",
+        ),
+    ] {
+        if !message.is_empty() {
+            push_message(&mut script, "o ", message)?;
+            push_message(&mut answers, "r ", reply)?;
+        }
+        let digits = frame.replace(alloc, " ", "")?;
+        let line = format!(in alloc; "f {port} {digits}\n")?;
+        script.push_str(line.as_str())?;
+        answers.push_str(answer)?;
+    }
+    let mut written = Vec::new(alloc);
+    let mut reader = script.as_bytes();
+    assert_eq!(rt; replay(alloc, &mut reader, &mut written), Ok(()));
+    assert_eq!(rt; written.as_slice(), answers.as_bytes());
+    Ok(())
+}
+
+#[test]
+fn a_frame_that_is_cut_is_dropped_until_it_has_a_type(rt: HostRuntime) -> Result<(), Fail> {
+    let alloc = rt.alloc();
+    let double_tagged = "02000000000102000000000288a80064810000c808004500";
+    for length in 0..=24 {
+        let mut script = messages(alloc, "o ", &PORT_257)?;
+        let (digits, _) = double_tagged.split_at_checked(2 * length).ok_or("short")?;
+        let line = format!(in alloc; "f 257 {digits}\n")?;
+        script.push_str(line.as_str())?;
+        let answer = match length {
+            0..=13 => format!(in alloc; "d 1\n")?,
+            14..=21 => format!(in alloc; "d 2\n")?,
+            _ => format!(in alloc; "g 1024 {digits}\n")?,
+        };
+        let mut written = Vec::new(alloc);
+        let mut reader = script.as_bytes();
+        assert_eq!(rt; replay(alloc, &mut reader, &mut written), Ok(()));
+        let (_, last) = written.as_slice().split_at_checked(3 * 99).ok_or("short")?;
+        assert_eq!(rt; last, answer.as_bytes(), "{length} bytes");
     }
     Ok(())
 }

@@ -14,7 +14,7 @@ invariant-loop g l = record {
   begun : l.begun ≤ 20000;
   empty : vec_len l.answers ≡ 0;
   none : l.answers.items ≡ [];
-  room : 2 * 85536 ≤ vec_capacity l.answers;
+  room : 3 * 85536 ≤ vec_capacity l.answers;
   few : l.total ≤ 85536 * l.counter;
   fewer : l.lines ≤ 85536 * l.counter;
 }

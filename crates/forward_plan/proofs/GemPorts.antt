@@ -1,0 +1,43 @@
+-- What each entity on the way to a GEM port means, by the fields that code keeps it in.
+use Rattle.std.proofs.Common.{◌≡◌, ℕ, ◌^◌, ◌<◌, Bool, true, false, Some, None, Ok, Err, List, refl, ap, sym, ◌∙◌}
+use Rattle.std.specs.Prelude.{ok_or, Result}
+use Rattle.std.specs.Bool.{then_some}
+use Rattle.tag_view.specs.Tag.{TagFields}
+use Rattle.mib_state.specs.declared.mapper.Mapper.{Mapper}
+use Rattle.mib_state.specs.declared.interwork.Interwork.{Interwork}
+use Rattle.mib_state.specs.declared.gem_port.GemPort.{GemPort}
+use Rattle.mib_state.specs.Entities.{Entities, Instance, find}
+use Rattle.mib_state.specs.Shown.{mapper_instance, interwork_instance, gem_port_instance}
+use Rattle.forward_plan.specs.declared.reason.Reason.{Reason}
+use Rattle.forward_plan.specs.declared.reason.Reason.TheVariants.{NoGem, Direction}
+use Rattle.forward_plan.specs.Meaning.{mapper_at, priority_of, pointer_of, carries_upstream, port_id_of, gem_port_behind, gem_port_of, gem_port_at}
+use Rattle.forward_plan.proofs.Numbers.{gem_port_pointer_number, port_id_number}
+
+pub id_upstream : (n : ℕ) (gem : GemPort) (carries : Bool) → gem.port_id < 2 ^ 16 → carries ≡ carries_upstream (gem_port_instance n gem)
+    → ok_or (then_some carries gem.port_id) Direction ≡ port_id_of (gem_port_instance n gem)
+unfolding port_id_of
+id_upstream n gem true fits is = rw (← is) (ap Ok (sym (port_id_number n gem fits)))
+id_upstream n gem false fits is = rw (← is) refl
+
+-- a pointer to a GEM port, and one to nothing
+pub behind_some : (e : Entities) (n : ℕ) (t : Interwork) (i : Instance) → t.gem_port_pointer < 2 ^ 16 → find t.gem_port_pointer e.gem_ports ≡ Some i
+    → gem_port_behind e (interwork_instance n t) ≡ port_id_of i
+unfolding gem_port_behind
+behind_some e n t i fits there = rw (gem_port_pointer_number n t fits, there) refl
+
+pub behind_none : (e : Entities) (n : ℕ) (t : Interwork) → t.gem_port_pointer < 2 ^ 16 → find t.gem_port_pointer e.gem_ports ≡ None
+    → gem_port_behind e (interwork_instance n t) ≡ Err NoGem
+unfolding gem_port_behind
+behind_none e n t fits there = rw (gem_port_pointer_number n t fits, there) refl
+
+pub of_some : (e : Entities) (mapper : Instance) (priority pointer : ℕ) (point : Instance) → pointer_of mapper priority ≡ Some pointer → find pointer e.interworks ≡ Some point
+    → gem_port_of e mapper priority ≡ gem_port_behind e point
+unfolding gem_port_of
+of_some e mapper priority pointer point is there = rw (is, there) refl
+
+-- the mapper of a port, whatever its number
+pub at_mapper : (e : Entities) (port : ℕ) (tags : List TagFields) (m : Mapper) (priority : ℕ) (found : Result ℕ Reason)
+    → (n : ℕ) × (mapper_at e port ≡ Some (mapper_instance n m)) → ((n : ℕ) → priority ≡ priority_of (mapper_instance n m) tags)
+    → ((n : ℕ) → found ≡ gem_port_of e (mapper_instance n m) priority) → found ≡ gem_port_at e port tags
+unfolding gem_port_at
+at_mapper e port tags m priority found (n, there) is_priority is_found = is_found n ∙ rw (there, is_priority n) refl

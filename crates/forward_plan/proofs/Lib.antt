@@ -1,0 +1,4 @@
+pub mod Numbers
+pub mod GemPorts
+pub mod Spellings
+mod Examples
