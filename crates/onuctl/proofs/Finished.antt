@@ -1,13 +1,13 @@
 -- What a known text is answered once a replay is at its end.
-use Rattle.std.proofs.Common.{◌≡◌, ℕ, suc, ◌+◌, ◌≤◌, List, [], ◌∷◌, ◌++◌, Option, Some, None, Result, Ok, Err, length, take, drop, map, refl, sym, ap, ◌∙◌, arith, subst}
+use Rattle.std.proofs.Common.{◌≡◌, ℕ, suc, List, [], ◌∷◌, ◌++◌, Option, Some, None, Result, Ok, Err, take, refl, ap, ◌∙◌, arith, subst}
 use Rattle.std.specs.Prelude.{option_map, IfSome}
 use Rattle.std.proofs.lemmas.List.{append-nil}
 use Rattle.std.proofs.KnownBytes.{Appends-trans, Appends-kept, Consumes-trans}
 use Rattle.std.specs.Io.KnownBytes.{Appends, Consumes, IsAtEnd}
 use Rattle.mib_state.specs.Entities.{Entities, nothing}
-use Rattle.onuctl.specs.Answers.{answer, answers, answers_from, before_bad, script_of}
+use Rattle.onuctl.specs.Answers.{answers, answers_from, before_bad, script_of}
 use Rattle.onuctl.specs.Finish.{Finishes, last_asked}
-use Rattle.onuctl.specs.Line.{Asked, asked_by}
+use Rattle.onuctl.specs.Line.{Asked}
 use Rattle.onuctl.specs.Replay.{ended_script, Replays, StopsAtLine}
 use Rattle.onuctl.specs.declared.fault.ReplayFault.{ReplayFault}
 use Rattle.onuctl.specs.declared.fault.ReplayFault.TheVariants.{BadLine, Read, Write, NoMemory}

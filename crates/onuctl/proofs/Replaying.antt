@@ -1,19 +1,15 @@
 -- What a replay keeps from one read to the next.
-use Rattle.std.proofs.Common.{◌≡◌, ◌≢◌, ℕ, zero, suc, ◌+◌, ◌-◌, ◌*◌, ◌<◌, ◌≤◌, true, false, Bool, List, [], ◌∷◌, ◌++◌, Option, Some, None, length, take, drop, map, refl, sym, ap, ◌∙◌, arith, append_assoc, length-append, subst}
-use Rattle.std.specs.Prelude.{option_map, IfSome, nat_lt, codes}
-use Rattle.std.proofs.lemmas.List.{append-nil, map-append, length-map, take_at, drop_at}
-use Rattle.std.proofs.Math.Seq.{take-append-add}
+use Rattle.std.proofs.Common.{◌≡◌, ℕ, ◌+◌, ◌<◌, true, List, [], ◌∷◌, ◌++◌, Option, Some, None, length, map, refl, sym, ap, ◌∙◌, arith, length-append}
+use Rattle.std.specs.Prelude.{option_map, nat_lt}
+use Rattle.std.proofs.lemmas.List.{append-nil, map-append, length-map}
 use Rattle.std.proofs.lemmas.Bool.{lt-ltb}
-use Rattle.std.proofs.KnownBytes.{Appends-trans, Consumes-trans}
-use Rattle.std.specs.Io.KnownBytes.{Appends, Consumes, IsAtEnd, Keeps}
 use Rattle.mib_state.specs.Entities.{Entities, nothing}
-use Rattle.onuctl.specs.Answers.{answer, answers, answers_from, before_bad, entities_from, script_of}
+use Rattle.onuctl.specs.Answers.{answers, answers_from, before_bad, entities_from, script_of}
 use Rattle.onuctl.specs.Line.{Asked, asked_by}
-use Rattle.onuctl.specs.Replay.{ended_script, IsAnswered, StopsAtLine, StopsAtRead, StopsAtWrite}
-use Rattle.onuctl.specs.Text.{cut, last_line, lines_of}
-use Rattle.onuctl.specs.Written.{AppendsPart}
+use Rattle.onuctl.specs.Replay.{ended_script}
+use Rattle.onuctl.specs.Text.{cut, last_line}
 use Rattle.onuctl.proofs.Cutting.{NoFeedBelow, cut-append, rest_has_none}
-use Rattle.onuctl.proofs.Turns.{before_bad-append, answers-append, entities-append, before_bad-found, answers-found, ended_script-append, script_of-append, lines_of-append, begins, Begins}
+use Rattle.onuctl.proofs.Turns.{before_bad-append, answers-append, entities-append, before_bad-found, answers-found, ended_script-append, script_of-append, begins}
 
 -- these bytes are read, their lines are answered and none is bad, and the rest begins a line
 pub record SoFar (read : List ℕ) (e : Entities) (rest : List ℕ) (lines total : ℕ) : Type 0 where

@@ -1,15 +1,14 @@
 -- How the answers to a text go on, and what a replay keeps from one read to the next.
-use Rattle.std.proofs.Common.{◌≡◌, ◌≢◌, ℕ, zero, suc, ◌+◌, ◌-◌, ◌*◌, ◌<◌, ◌≤◌, true, false, Bool, List, [], ◌∷◌, ◌++◌, Option, Some, None, length, take, drop, map, refl, sym, ap, ◌∙◌, arith, append_assoc, length-append, subst}
-use Rattle.std.specs.Prelude.{option_map, is_none, nat_lt}
-use Rattle.std.proofs.lemmas.List.{append-nil, map-append, length-map}
-use Rattle.std.proofs.lemmas.Bool.{lt-ltb, ne_eqb}
-use Rattle.std.specs.Io.KnownBytes.{Appends, Consumes, IsAtEnd, Keeps}
-use Rattle.mib_state.specs.Entities.{Entities, nothing}
+use Rattle.std.proofs.Common.{◌≡◌, ℕ, zero, suc, ◌+◌, ◌≤◌, List, [], ◌∷◌, ◌++◌, Option, Some, None, length, refl, sym, ap, ◌∙◌, arith, append_assoc}
+use Rattle.std.specs.Prelude.{option_map}
+use Rattle.std.proofs.lemmas.List.{map-append}
+use Rattle.std.proofs.lemmas.Bool.{ne_eqb}
+use Rattle.mib_state.specs.Entities.{Entities}
 use Rattle.onuctl.specs.Answers.{answer, answers_from, before_bad, entities_from, script_of}
 use Rattle.onuctl.specs.Line.{Asked, asked_by}
 use Rattle.onuctl.specs.Replay.{ended_script}
 use Rattle.onuctl.specs.Text.{cut, in_front, last_line, lines_of}
-use Rattle.onuctl.proofs.Cutting.{NoFeedBelow, cut-append, rest_has_none}
+use Rattle.onuctl.proofs.Cutting.{NoFeedBelow, cut-append}
 
 -- ---- lines that go on, behind lines of which none is bad
 

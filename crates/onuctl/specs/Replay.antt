@@ -1,5 +1,5 @@
 -- What a replay of a known text leaves.
-use Rattle.std.specs.Prelude.{◌≡◌, ◌≤◌, ◌+◌, ℕ, suc, List, Option, Some, None, Result, Ok, Err, length, map, take, drop, option_map}
+use Rattle.std.specs.Prelude.{◌≡◌, ◌≤◌, ℕ, suc, List, Option, Some, None, Result, Ok, Err, length, map, take, drop, option_map}
 use Rattle.std.specs.Io.KnownBytes.{Appends, IsAtEnd, Keeps}
 use Rattle.mib_state.specs.Entities.{nothing}
 use Rattle.onuctl.specs.Answers.{answers, answers_from, before_bad, script_of}

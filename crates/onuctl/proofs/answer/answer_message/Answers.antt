@@ -1,4 +1,4 @@
-use Rattle.std.proofs.Common.{sym, ◌≤◌, length, arith}
+use Rattle.std.proofs.Common.{sym, arith}
 use Rattle.onuctl.proofs.Messages.{request_long}
 use Rattle.onuctl.proofs.answer.answer_message.Goals as goal
 

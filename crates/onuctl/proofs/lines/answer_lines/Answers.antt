@@ -1,7 +1,6 @@
-use Rattle.std.proofs.Common.{◌≡◌, ◌+◌, ◌-◌, ◌<◌, ◌≤◌, ◌*◌, Option, Some, None, false, true, ℕ, length, take, drop, subst, sym, ◌∙◌, arith, refl, length-take, length-drop}
+use Rattle.std.proofs.Common.{◌+◌, ◌-◌, Some, None, drop, subst, sym, ◌∙◌, arith, refl, length-take}
 use Rattle.memchr.specs.Find.{IsFirstByte, is_byte}
-use Rattle.onuctl.specs.Line.{asked_by}
-use Rattle.onuctl.proofs.Answering.{IsAnswering, answering_start, answering_line, answering_bad, answering_end, line_end}
+use Rattle.onuctl.proofs.Answering.{answering_line, answering_bad, answering_end}
 use Rattle.onuctl.proofs.lines.answer_lines.Goals as goal
 
 pub returns-then-answer_line : goal.returns-then-answer_line

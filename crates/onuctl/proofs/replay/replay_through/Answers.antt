@@ -1,14 +1,14 @@
-use Rattle.std.proofs.Common.{◌≡◌, ◌+◌, ◌-◌, ◌<◌, ◌≤◌, ◌++◌, ℕ, suc, Option, Some, None, List, take, drop, length, ap, subst, sym, ◌∙◌, refl, arith, length-take, length-drop}
+use Rattle.std.proofs.Common.{◌≡◌, ◌+◌, ◌≤◌, ◌++◌, ℕ, suc, List, take, drop, length, ap, subst, ◌∙◌, refl, arith, length-take, length-drop}
 use Rattle.std.proofs.KnownBytes.{Appends-trans, Consumes-trans}
 use Rattle.std.specs.Io.KnownBytes.{Appends}
 use Rattle.std.proofs.lemmas.Result.{err_from_is_err_and}
 use Rattle.onuctl.specs.Finish.{Finishes}
 use Rattle.onuctl.specs.Text.{cut}
 use Rattle.onuctl.specs.Written.{AppendsPart}
-use Rattle.onuctl.proofs.Ends.{ends_bad, ends_read, ends_write, part_behind, part_of_ended}
+use Rattle.onuctl.proofs.Ends.{ends_bad, ends_write, part_behind, part_of_ended}
 use Rattle.onuctl.proofs.Finished.{consumes_none, finished}
 use Rattle.onuctl.proofs.Held.{held, held_no_feed, long_rest, moved, told}
-use Rattle.onuctl.proofs.Replaying.{SoFar, answers_more, so_far_more, bad_in_piece, bad_if_long, rest_no_feed, so_far_as}
+use Rattle.onuctl.proofs.Replaying.{answers_more, so_far_more, bad_in_piece, bad_if_long, rest_no_feed, so_far_as}
 use Rattle.onuctl.proofs.replay.replay_through.Goals as goal
 
 pub returns-then-count-eq0 : goal.returns-then-count-eq0
