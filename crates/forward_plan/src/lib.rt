@@ -18,12 +18,14 @@ mod gem_port;
 mod mapping;
 mod out_frame;
 mod reason;
+mod spelling;
 mod table;
 mod verdict;
 mod walk;
 
-pub use out_frame::{NoMemory, OutFrame};
+pub use out_frame::OutFrame;
 pub use reason::Reason;
+pub use spelling::NoMemory;
 pub use verdict::Verdict;
 pub use walk::plain_walk;
 

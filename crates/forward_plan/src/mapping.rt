@@ -23,10 +23,8 @@ pub fn pointer(mapper: &Mapper, priority: u8) -> Option<u16>
     requires { priority < 8 }
     ensures { (n : ℕ) → result ≡ pointer_of (mapper_instance n mapper.now) priority }
 {
-    let pointer = mapper.interwork_tp_pointers[priority as usize];
-    if pointer == 0xffff {
-        None
-    } else {
-        Some(pointer)
+    match mapper.interwork_tp_pointers[priority as usize] {
+        0xffff => None,
+        pointer => Some(pointer),
     }
 }

@@ -158,7 +158,10 @@ fn short_frames_are_dropped_or_leave_as_they_came(rt: HostRuntime) -> Result<(),
     ] {
         let mut frame = UNTAGGED[..12].to_vec(rt.alloc())?;
         frame.extend_from_slice(behind)?;
-        let want = want.map_or(Ok((1024, frame.as_slice())), Err);
+        let want = match want {
+            None => Ok((1024, frame.as_slice())),
+            Some(reason) => Err(reason),
+        };
         assert_eq!(rt;
             became(&mib, 257, frame.as_slice(), &mut left)?,
             want,

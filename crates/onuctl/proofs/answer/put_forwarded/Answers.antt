@@ -18,7 +18,7 @@ returns-clause-items c =
       c.as_bytes.ensures.value,
       c.format.ensures.text,
       c.addresses.ensures,
-      c.tags.ensures,
+      c.tags.ensures.value,
       c.rest.ensures,
       frame_digits c.args.frame.now.addresses c.args.frame.now.tags c.args.frame.now.rest,
     )
