@@ -11,6 +11,5 @@ returns c =
     let first = entry_of 0xF0000000F0000000 0x000F0000000F0000 in
     let second = entry_of 0xF0000000E0000000 0x000F0000000F0000 in
     let third = entry_of 0xE0000000E0000000 0x000F0000000F0000 in
-    let none : List (List ℕ) = map (λ (row : Row). row.entry.0) c.clear.new.self.items in
     c.put-3.ensures.after
-    ∙ ap (with third) (c.put-2.ensures.after ∙ ap (with second) (c.put.ensures.after ∙ ap (with first) (ap (map (λ (row : Row). row.entry.0)) c.clear.ensures.items)))
+    ∙ ap (with third) (c.put-2.ensures.after ∙ ap (with second) (c.put.ensures.after ∙ ap (with first) c.clear.ensures))
