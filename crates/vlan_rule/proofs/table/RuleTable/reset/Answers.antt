@@ -1,7 +1,6 @@
-use Rattle.std.proofs.Common.{ℕ, List, ap, ◌∙◌, map}
+use Rattle.std.proofs.Common.{ℕ, List, ap, ◌∙◌}
 use Rattle.vlan_rule.specs.Entry.{entry_of, key_of, kind_of, number_of, refusal_of, value_of}
 use Rattle.vlan_rule.specs.Table.{is_deletion, left_by, put}
-use Rattle.vlan_rule.specs.declared.table.Row.{Row}
 use Rattle.vlan_rule.proofs.table.RuleTable.reset.Goals as goal
 
 pub returns : goal.returns
