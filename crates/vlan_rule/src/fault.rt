@@ -3,8 +3,9 @@ ghost use Rattle.std.specs.Prelude.{◌≡◌};
 
 use thiserror::Error;
 
-/// The first reason for which an entry is refused. Only fields that count are looked at: the
-/// filters of its kind, and the treatments where the frame isn't dropped.
+/// The first reason for which an entry is refused, in this order (a choice of this project). Only
+/// fields that count are looked at: the filters of its kind, and the treatments where the frame
+/// isn't dropped.
 #[derive(Clone, Copy, Debug, PartialEq, Eq, Error)]
 pub enum RuleFault {
     /// A filter priority of 9 to 13; an outer one only where the entry isn't for frames without tags.

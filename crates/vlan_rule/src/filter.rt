@@ -46,7 +46,7 @@ pub enum EthertypeFilter {
     Arp,
     /// 0x86DD.
     Ipv6,
-    /// 0x888E, authentication by IEEE 802.1X.
+    /// 0x888E, authentication by IEEE 802.1X (code 5: a choice of this project).
     Eapol,
 }
 
@@ -58,7 +58,8 @@ pub struct TagFilter {
     pub tpid: TpidFilter,
 }
 
-/// How many tags a frame must have, and what they must be.
+/// How many tags a frame must have, and what they must be. Which filter priorities stand for which
+/// of these is a choice of this project where the standard is silent.
 #[derive(Clone, Copy, Debug, PartialEq, Eq)]
 pub enum Filter {
     /// No tag.

@@ -9,6 +9,7 @@ pub enum Put {
     Replaced,
     /// It is a deletion, and the entry of its key is gone.
     Deleted,
-    /// It is a deletion of a key that isn't held, so nothing changed.
+    /// It is a deletion of a key that isn't held, so nothing changed (that this is no fault is a choice
+    /// of this project).
     Absent,
 }

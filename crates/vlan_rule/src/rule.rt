@@ -1,8 +1,7 @@
 //! A rule: what an entry means.
-ghost use Rattle.std.specs.Prelude.{◌≡◌, Some, MatchResult};
+ghost use Rattle.std.specs.Prelude.{◌≡◌, IsTrue, Some, MatchResult};
 ghost use Rattle.vlan_rule.specs.Entry.{refusal_of};
 ghost use Rattle.vlan_rule.specs.Meaning.{IsKnown, treatment_fits};
-ghost use Rattle.std.specs.Prelude.{IsTrue};
 
 use crate::entry::Entry;
 use crate::fault::RuleFault;
@@ -13,7 +12,7 @@ use crate::refusal::refusal;
 use crate::treatment::Treatment;
 
 /// What an entry that isn't refused means: which frames it is for, and what becomes of them
-/// (G.988, 9.3.13).
+/// (G.988, 9.3.13). Every rule is that of some entry, and what it adds can stand in a tag.
 #[derive(Clone, Copy, Debug, PartialEq, Eq)]
 pub struct Rule {
     pub filter: Filter,
@@ -27,8 +26,9 @@ pub struct Rule {
 impl Rule {
     ghost use Rattle.vlan_rule.specs.Rule.{IsRuleOf};
 
+    /// The rule of an entry, or the first reason for which it is refused. Padding is ignored, also
+    /// where an edition of the standard gives it a meaning (a choice of this project).
     #[tactic(auto, unfolding(crate::specs::Meaning::filter_of, crate::specs::Meaning::ethertype_of, crate::specs::Meaning::rank_of))]
-    /// The rule of an entry, or the first reason for which it is refused. Padding is ignored.
     pub fn read(entry: &Entry) -> Result<Rule, RuleFault>
         ensures { MatchResult result (IsRuleOf entry.now.0) (λ fault. refusal_of entry.now.0 ≡ Some fault) }
     {

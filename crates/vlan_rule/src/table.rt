@@ -4,6 +4,7 @@ ghost use Rattle.std.specs.Option.{option_map};
 ghost use Rattle.std.specs.List.{position, remove};
 ghost use Rattle.vlan_rule.specs.Edit.{IsEditFor};
 ghost use Rattle.vlan_rule.specs.Entry.{key_of};
+ghost use Rattle.vlan_rule.specs.Meaning.{rank_number, rank_of};
 ghost use Rattle.vlan_rule.specs.Rule.{IsRuleOf};
 ghost use Rattle.vlan_rule.specs.Table.{left_by, predefined, put, told_by};
 
@@ -33,6 +34,15 @@ pub(crate) struct Row {
     pub ghost read: { IsRuleOf entry.0 rule },
 }
 
+impl Row {
+    // The number of the entry's rank.
+    pub(crate) fn rank(&self) -> u8
+        ensures { result ≡ rank_number (rank_of self.now.entry.0) }
+    {
+        self.rule.rank.number()
+    }
+}
+
 /// The received frame VLAN tagging operation table (G.988, 9.3.13): its entries in order, with room
 /// for 64.
 #[derive(Drop)]
@@ -51,7 +61,8 @@ impl Model for RuleTable {
 }
 
 impl RuleTable {
-    /// A table that holds the three predefined entries.
+    /// A table that holds the three predefined entries: of frames without tags, with one and with two,
+    /// which leave unchanged. Their bytes and their order are a choice of this project.
     pub fn new(alloc: Global) -> Result<Self, AllocError>
         ensures { IfOk result (λ table. table ≡ predefined) }
     {
@@ -66,7 +77,7 @@ impl RuleTable {
     pub fn reset(&mut self)
         ensures { self.new ≡ predefined }
     {
-        self.rows.clear();
+        self.clear();
         let [untagged, one_tag, two_tags] = PREDEFINED;
         let _ = self.put(untagged);
         let _ = self.put(one_tag);
@@ -74,7 +85,7 @@ impl RuleTable {
     }
 
     /// Puts an entry: deletes the entry of its key, overwrites it in its place, or adds the entry at
-    /// the end. After a refusal the table is unchanged.
+    /// the end. A deletion isn't checked, whatever its key. After a refusal the table is unchanged.
     pub fn put(&mut self, entry: Entry) -> Result<Put, TableFault>
         ensures told { result ≡ told_by (put self.old entry.0) }
         ensures after { self.new ≡ left_by self.old (put self.old entry.0) }
@@ -121,6 +132,12 @@ impl RuleTable {
     {
         let row = self.rows.get(place)?;
         Some(&row.rule)
+    }
+
+    fn clear(&mut self)
+        ensures { self.new ≡ [] }
+    {
+        self.rows.clear();
     }
 
     fn add(&mut self, row: Row)

@@ -11,7 +11,8 @@ impl RuleTable {
     ghost use Rattle.vlan_rule.specs.Choice.{IsChoice};
 
     /// The place of the entry that is used for a frame, or None where none matches it: of those
-    /// that match, the first of least rank. It looks at every entry.
+    /// that match, the first of least rank. It looks at every entry. That None drops the frame is a
+    /// choice of this project.
     pub fn walk(&self, frame: &FrameView<'_>, input_tpid: u16) -> Option<usize>
         ensures { IsChoice (matches input_tpid frame.now.tags (type_at 0 frame.now.rest)) self.now result }
     {
@@ -27,7 +28,7 @@ fn best(rows: &[Row], tags: &[Tag], ethertype: u16, input_tpid: u16) -> Option<(
     let mut best = None;
     for (place, row) in rows.iter().enumerate() {
         let matches = row.rule.matches(tags, ethertype, input_tpid);
-        best = better(best, matches, row.rule.rank.number(), place);
+        best = better(best, matches, row.rank(), place);
     }
     best
 }

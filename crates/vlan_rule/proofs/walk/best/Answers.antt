@@ -17,7 +17,7 @@ loop-place-preserved c =
     let here : entry_at entries place ≡ row.entry.0 = get_or-map shown c.args.rows.now place row [] c.loop-place-test.true ∙ ap shown (sym c.index-rows-place.is) in
     let passes : test (entry_at entries place) ≡ c.matches-matches.result =
     ap test here ∙ sym (c.matches-matches.ensures.of_entry row.entry.0 row.read) in
-    let rank : rank_at entries place ≡ c.number.result =
-    ap (λ (e : List ℕ). rank_number (rank_of e)) here ∙ ap rank_number (sym row.read.rank) ∙ sym c.number.ensures in
+    let rank : rank_at entries place ≡ c.rank.result =
+    ap (λ (e : List ℕ). rank_number (rank_of e)) here ∙ sym c.rank.ensures in
     let IsBestThen : Option (ℕ × ℕ) → Type 0 = λ best. IsBest test entries (place + 1) best in
-    subst IsBestThen (sym c.better-best.ensures) (step test entries place c.loop-place.best c.matches-matches.result c.number.result c.loop-place.invariant passes rank)
+    subst IsBestThen (sym c.better-best.ensures) (step test entries place c.loop-place.best c.matches-matches.result c.rank.result c.loop-place.invariant passes rank)
