@@ -62,8 +62,8 @@ impl<'a> FrameView<'a> {
     }
 
     /// The DSCP (RFC 2474, section 3), or None where what follows the tags is neither IPv4 nor IPv6
-    /// by its type, or has under two bytes behind it. A tag's type is none of these, but for 0x0800
-    /// where the port is set to it.
+    /// by its type, or has under two bytes behind it. The type 0x0800 is IPv4 even where it begins
+    /// tags at this port.
     #[tactic(auto, unfolding(crate::specs::Dscp::dscp_of))]
     pub fn dscp(&self) -> Option<u8>
         ensures value { result ≡ dscp_of self.now.rest }
