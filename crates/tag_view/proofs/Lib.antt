@@ -1,3 +1,5 @@
 pub mod Tags
 pub mod Readings
+pub mod Bytes
+pub mod Groups
 mod Examples

@@ -1,3 +1,4 @@
 pub mod Tag
 pub mod Frame
 pub mod Fault
+pub mod Dscp

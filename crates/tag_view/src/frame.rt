@@ -26,8 +26,9 @@ impl<'a> Model for FrameView<'a> {
 }
 
 impl<'a> FrameView<'a> {
-    ghost use Rattle.std.specs.Prelude.{◌≡◌, ◌≤◌, length};
+    ghost use Rattle.std.specs.Prelude.{◌≡◌, ◌<◌, ◌≤◌, IfSome, length};
     ghost use Rattle.tag_view.specs.Frame.{type_at};
+    ghost use Rattle.tag_view.specs.Dscp.{dscp_of};
 
     /// The 12 bytes of the destination's and the source's address.
     pub fn addresses(&self) -> &'a [u8]
@@ -58,5 +59,24 @@ impl<'a> FrameView<'a> {
         ensures { result ≡ type_at 0 self.now.rest }
     {
         BigEndian::read_u16(self.rest)
+    }
+
+    /// The DSCP (RFC 2474, section 3), or None where what follows the tags is neither IPv4 nor IPv6
+    /// by its type, or has under two bytes behind it. The type 0x0800 is IPv4 even where it begins
+    /// tags at this port.
+    #[tactic(auto, unfolding(crate::specs::Dscp::dscp_of))]
+    pub fn dscp(&self) -> Option<u8>
+        ensures value { result ≡ dscp_of self.now.rest }
+        ensures bound { IfSome result (λ dscp. dscp < 64) }
+    {
+        let [_, _, first, second, ..] = self.rest else {
+            return None;
+        };
+        let ds_field = match self.ethertype() {
+            0x0800 => *second,
+            0x86dd => (*first & 0x0f) << 4 | *second >> 4,
+            _ => return None,
+        };
+        Some(ds_field >> 2)
     }
 }

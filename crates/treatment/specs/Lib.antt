@@ -1,0 +1,2 @@
+pub mod Treatment
+pub mod Treated
