@@ -1,5 +1,5 @@
 -- What each entity on the way to a GEM port means, by the fields that code keeps it in.
-use Rattle.std.proofs.Common.{◌≡◌, ℕ, ◌^◌, ◌<◌, Bool, true, false, Some, None, Ok, Err, List, refl, ap, sym, ◌∙◌}
+use Rattle.std.proofs.Common.{◌≡◌, ℕ, ◌^◌, ◌<◌, Bool, true, false, Some, Ok, List, refl, ap, sym, ◌∙◌}
 use Rattle.std.specs.Prelude.{ok_or, Result}
 use Rattle.std.specs.Bool.{then_some}
 use Rattle.tag_view.specs.Tag.{TagFields}
@@ -9,27 +9,24 @@ use Rattle.mib_state.specs.declared.gem_port.GemPort.{GemPort}
 use Rattle.mib_state.specs.Entities.{Entities, Instance, find}
 use Rattle.mib_state.specs.Shown.{mapper_instance, interwork_instance, gem_port_instance}
 use Rattle.forward_plan.specs.declared.reason.Reason.{Reason}
-use Rattle.forward_plan.specs.declared.reason.Reason.TheVariants.{NoGem, Direction}
+use Rattle.forward_plan.specs.declared.reason.Reason.TheVariants.{Direction}
 use Rattle.forward_plan.specs.Meaning.{mapper_at, priority_of, pointer_of, carries_upstream, port_id_of, gem_port_behind, gem_port_of, gem_port_at}
 use Rattle.forward_plan.proofs.Numbers.{gem_port_pointer_number, port_id_number}
 
+-- a port-ID, if its GEM port carries frames upstream
 pub id_upstream : (n : ℕ) (gem : GemPort) (carries : Bool) → gem.port_id < 2 ^ 16 → carries ≡ carries_upstream (gem_port_instance n gem)
     → ok_or (then_some carries gem.port_id) Direction ≡ port_id_of (gem_port_instance n gem)
 unfolding port_id_of
 id_upstream n gem true fits is = rw (← is) (ap Ok (sym (port_id_number n gem fits)))
 id_upstream n gem false fits is = rw (← is) refl
 
--- a pointer to a GEM port, and one to nothing
+-- where the pointer of an interworking termination point leads to
 pub behind_some : (e : Entities) (n : ℕ) (t : Interwork) (i : Instance) → t.gem_port_pointer < 2 ^ 16 → find t.gem_port_pointer e.gem_ports ≡ Some i
     → gem_port_behind e (interwork_instance n t) ≡ port_id_of i
 unfolding gem_port_behind
 behind_some e n t i fits there = rw (gem_port_pointer_number n t fits, there) refl
 
-pub behind_none : (e : Entities) (n : ℕ) (t : Interwork) → t.gem_port_pointer < 2 ^ 16 → find t.gem_port_pointer e.gem_ports ≡ None
-    → gem_port_behind e (interwork_instance n t) ≡ Err NoGem
-unfolding gem_port_behind
-behind_none e n t fits there = rw (gem_port_pointer_number n t fits, there) refl
-
+-- where the pointer of a mapper leads to
 pub of_some : (e : Entities) (mapper : Instance) (priority pointer : ℕ) (point : Instance) → pointer_of mapper priority ≡ Some pointer → find pointer e.interworks ≡ Some point
     → gem_port_of e mapper priority ≡ gem_port_behind e point
 unfolding gem_port_of

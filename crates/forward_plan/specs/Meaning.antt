@@ -20,11 +20,11 @@ found_then (Err reason) next = Err reason
 
 -- ---- the port and its table
 
--- the type that begins a tag at a port, beside the two of IEEE 802.1Q. No port's table sets another one yet.
+-- the type that begins a tag at a port, beside the two of IEEE 802.1Q: 0x8100, as no port's table sets another one yet
 abbrev pub input_tpid_of : Entities → ℕ → ℕ
 input_tpid_of e port = 0x8100
 
--- the tags that a frame leaves a port with. No port's table changes them yet.
+-- the tags that a frame leaves a port with: its own, as no port's table changes them yet
 abbrev pub tags_at : Entities → ℕ → Reading → Result (List TagFields) Reason
 tags_at e port frame = Ok frame.tags
 
@@ -34,7 +34,8 @@ tags_at e port frame = Ok frame.tags
 unfoldable pub mapper_at : Entities → ℕ → Option Instance
 mapper_at e port = option_and_then (λ n. find n e.mappers) (mapper_of_port e port)
 
--- the priority of a frame without a tag: the default P-bit assumption, attribute 12, of which the low three bits count
+-- the priority of a frame without a tag: the default P-bit assumption, attribute 12, whatever the unmarked frame option,
+-- attribute 10. That its low three bits count is a choice of this project.
 abbrev pub unmarked_priority_of : Instance → ℕ
 unmarked_priority_of mapper = attribute_number 12 mapper % 8
 

@@ -7,7 +7,7 @@
 //! GEM interworking termination point, and this leads to a GEM port. The reasons to drop it come in this order, each where
 //! it is found.
 //!
-//! **The plain walk** goes from entity to entity for each frame. It is slow and short: the reference for what is compiled.
+//! **The plain walk** goes from entity to entity for each frame. It is slow and short, the reference for faster ways.
 //!
 //! **Frames are lent.** A [`Verdict`] borrows the bytes of the frame, and nothing of the entities. What leaves is an
 //! [`OutFrame`]: slices of the frame that came in, with the tags in place between them; it is written only when asked for.

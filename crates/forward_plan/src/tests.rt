@@ -250,10 +250,15 @@ fn of_two_mappers_the_least_number_counts(rt: HostRuntime) -> Result<(), Fail> {
     Ok(())
 }
 
+/// What becomes of a frame, when the entities are gone.
+fn verdict_of<'a>(alloc: Global, bytes: &'a [u8]) -> Result<Verdict<'a>, AllocError> {
+    let mib = led(alloc)?;
+    Ok(plain_walk(&mib, 257, bytes))
+}
+
 #[test]
-fn what_leaves_is_shown_in_parts_and_appended(rt: HostRuntime) -> Result<(), Fail> {
-    let mib = led(rt.alloc())?;
-    let Verdict::Forward { gem, frame } = plain_walk(&mib, 257, &DOUBLE) else {
+fn what_leaves_outlives_the_entities_in_parts_and_appended(rt: HostRuntime) -> Result<(), Fail> {
+    let Verdict::Forward { gem, frame } = verdict_of(rt.alloc(), &DOUBLE)? else {
         return Err(Fail::from(Reason::NoMapper));
     };
     assert_eq!(rt; gem, 1024);

@@ -10,7 +10,7 @@ use Rattle.mib_state.specs.declared.refusal.Refusal.TheVariants.{NotSupported}
 use Rattle.mib_state.specs.Answer.{refused}
 use Rattle.mib_state.specs.Supported.{is_carried_out}
 use Rattle.mib_state.specs.Entities.{Entities, nothing}
-use Rattle.mib_state.specs.Step.{changed, create, delete, effect_of, carried_out, step}
+use Rattle.mib_state.specs.Step.{changed, create, delete, set, effect_of, carried_out, step}
 use Rattle.mib_state.specs.After.{may_change, is_accepted, after_from, accepted_from, AcceptedSuffice}
 
 changed_refused : (e : Entities) (r : Result Entities Refusal) → nat_eq (slice_index (changed e r).0 0) 0 ≡ false → (changed e r).1 ≡ e
@@ -20,7 +20,7 @@ changed_refused e (Err refusal) h = refl
 effect_refused : (a : Action) (e : Entities) (q : Request) → (may_change a && nat_eq (slice_index (effect_of a e q).0 0) 0) ≡ false → (effect_of a e q).1 ≡ e
 effect_refused Create e q h = changed_refused e (create e q) h
 effect_refused Delete e q h = changed_refused e (delete e q) h
-effect_refused Set e q h = refl
+effect_refused Set e q h = changed_refused e (set e q) h
 effect_refused Get e q h = refl
 effect_refused GetNext e q h = refl
 effect_refused MibUpload e q h = refl

@@ -6,6 +6,8 @@ pub mod Gathered
 pub mod Returned
 pub mod Place
 pub mod Edits
+pub mod Setting
+pub mod Entry
 pub mod Counted
 pub mod Answered
 pub mod Attached

@@ -1,5 +1,5 @@
 -- What a search finds among instances in ascending order, and what an edit at that place does.
-use Rattle.std.proofs.Common.{◌≡◌, ℕ, zero, suc, ◌+◌, ◌-◌, ◌<◌, ◌≤◌, List, [], ◌∷◌, length, get_or, map, Some, None, Result, Ok, Err, IfOk, IfErr, refl, sym, ap, subst, ◌∙◌, arith}
+use Rattle.std.proofs.Common.{◌≡◌, ℕ, zero, suc, ◌+◌, ◌-◌, ◌<◌, ◌≤◌, List, [], ◌∷◌, length, get_or, set, map, Some, None, Result, Ok, Err, IfOk, IfErr, refl, sym, ap, subst, ◌∙◌, arith}
 use Rattle.std.specs.List as list
 use Rattle.std.specs.List.Sorted.{IsSearchInRange, IsBinarySearchResult, IsNonDecreasingBy}
 use Rattle.std.specs.Ordering.{nat_cmp, ordering_index}
@@ -9,7 +9,8 @@ use Rattle.std.proofs.lemmas.List.Edits.{length-insert, get_or-insert_below, get
 use Rattle.std.proofs.lemmas.List.{get_or-map, length-map}
 use Rattle.std.proofs.lemmas.Bool.{lt-ltb, le-ltb, ne_eqb, eq-eqb}
 use Rattle.std.proofs.lemmas.Bool.Decides.{nat_tests}
-use Rattle.mib_state.specs.Entities.{blank, Instance, find, insert, remove, number_at, IsAscending, IsAt, IsGapFor}
+use Rattle.std.proofs.lemmas.Grind.{common_steps}
+use Rattle.mib_state.specs.Entities.{blank, Instance, find, insert, remove, replace, number_at, IsAscending, IsAt, IsGapFor}
 
 -- ---- the tail, one place lower
 
@@ -45,6 +46,13 @@ remove_at (x ∷ l) n (suc i) up at =
     let smaller = head_smaller x l n i up at in
     rw (ne_eqb x.number n (omega arith)) (ap (λ rest. x ∷ rest) (remove_at l n i (tail_ascending x l up) (tail_at x l n i at)))
 
+pub replace_at : (l : List Instance) (n i : ℕ) (new : Instance) → new.number ≡ n → IsAscending l → IsAt l n i → replace new l ≡ set l i new
+replace_at [] n i new is up at = absurd (omega (arith, at.in_range))
+replace_at (x ∷ l) n zero new is up at = rw (eq-eqb x.number new.number (at.has_number ∙ sym is)) refl
+replace_at (x ∷ l) n (suc i) new is up at =
+    let smaller = head_smaller x l n i up at in
+    rw (ne_eqb x.number new.number (omega arith)) (ap (λ rest. x ∷ rest) (replace_at l n i new is (tail_ascending x l up) (tail_at x l n i at)))
+
 -- ---- a number that isn't
 
 pub find_gap : (l : List Instance) (n i : ℕ) → IsGapFor l n i → find n l ≡ None
@@ -68,6 +76,9 @@ insert_gap (x ∷ l) (suc i) new gap =
 
 pub ascending_none : IsAscending []
 ascending_none i j lt in_range = absurd (omega arith)
+
+pub ascending_set : (l : List Instance) (n i : ℕ) (new : Instance) → new.number ≡ n → IsAscending l → IsAt l n i → IsAscending (set l i new)
+ascending_set l n at new is up is_at i j lt in_range = grind (arith, common_steps, up i j, up i at, up at j, is_at.in_range, is_at.has_number)
 
 pub ascending_insert : (l : List Instance) (at : ℕ) (it : Instance) → IsGapFor l it.number at → IsAscending l → IsAscending (list.insert l at it)
 ascending_insert l at it gap up i j lt in_range =

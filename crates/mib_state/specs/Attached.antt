@@ -19,3 +19,12 @@ is_mapper_of port i = attribute_number 13 i == 1 && attribute_number 1 i == port
 -- the mapper of a port: of its mappers the one of least number
 abbrev pub mapper_of_port : Entities → ℕ → Option ℕ
 mapper_of_port e port = least_instance (is_mapper_of port) e.mappers
+
+-- whether a table is a port's: its association type, attribute 1, is 2, a PPTP Ethernet UNI, and its associated ME
+-- pointer, attribute 7, is the port
+abbrev pub is_table_of : ℕ → Instance → Bool
+is_table_of port i = attribute_number 1 i == 2 && attribute_number 7 i == port
+
+-- the table of a port: of its tables the one of least number
+abbrev pub table_of_port : Entities → ℕ → Option ℕ
+table_of_port e port = least_instance (is_table_of port) e.vlans

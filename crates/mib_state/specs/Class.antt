@@ -1,7 +1,8 @@
 -- The attributes of each class of managed entities (ITU-T G.988, clause 9), as data. Attribute n of a class stands at
 -- place n - 1 of the list.
-use Rattle.std.specs.Prelude.{ℕ, suc, zero, Bool, true, false, List, [], ◌∷◌, Option, Some, None, unwrap_or, if◌then◌else◌, ◌==◌}
+use Rattle.std.specs.Prelude.{ℕ, suc, zero, Bool, true, false, ◌&&◌, List, [], ◌∷◌, Option, Some, None, unwrap_or, if◌then◌else◌, ◌==◌}
 use Rattle.byteorder.specs.Endian.{big_bytes}
+use Rattle.vlan_rule.specs.Table.{predefined}
 use Rattle.mib_state.specs.declared.attribute.Access.{Access}
 use Rattle.mib_state.specs.declared.attribute.Access.TheVariants.{SetByCreate, Writable, ReadOnly, Table}
 use Rattle.mib_state.specs.declared.attribute.Attribute.{Attribute}
@@ -135,22 +136,19 @@ room_of class =
 
 -- ---- what Create isn't given
 
--- the entries that a table holds after Create; each forwards the frames without a tag, with one tag and with two tags
--- that nothing else matches (clause 9.3.13)
-abbrev pub predefined_entries : List (List ℕ)
-predefined_entries =
-    big_bytes 16 0xF0000000F0000000000F0000000F0000
-    ∷ big_bytes 16 0xF0000000E0000000000F0000000F0000
-    ∷ big_bytes 16 0xE0000000E0000000000F0000000F0000
-    ∷ []
-
 -- whether one of the attributes is a table
 abbrev pub has_table : List Attribute → Bool
 has_table [] = false
 has_table (a ∷ rest) = if is_table a.access then true else has_table rest
 
+-- a Set writes one entry of 16 bytes of each table
+abbrev pub tables_fit : List Attribute → Bool
+tables_fit [] = true
+tables_fit (a ∷ rest) = (if is_table a.access then a.width == 16 else true) && tables_fit rest
+
+-- the entries of the table, which begins with its predefined ones
 abbrev pub initial_entries : List Attribute → List (List ℕ)
-initial_entries layout = if has_table layout then predefined_entries else []
+initial_entries layout = if has_table layout then predefined else []
 
 -- the bytes of an attribute, none of a table
 abbrev pub initial_value : Attribute → List ℕ

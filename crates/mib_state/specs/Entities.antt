@@ -72,6 +72,11 @@ abbrev pub remove : ℕ → List Instance → List Instance
 remove n [] = []
 remove n (i ∷ rest) = if i.number == n then rest else i ∷ remove n rest
 
+-- with another in the place of that of its number
+abbrev pub replace : Instance → List Instance → List Instance
+replace new [] = []
+replace new (i ∷ rest) = if i.number == new.number then new ∷ rest else i ∷ replace new rest
+
 abbrev pub blank : Instance
 blank = record { number = 0; values = []; entries = [] }
 

@@ -2,6 +2,7 @@
 use Rattle.std.specs.Prelude.{ℕ, List, [], ◌∷◌, slice_index}
 use Rattle.byteorder.specs.Endian.{big_bytes}
 use Rattle.mib_state.specs.declared.mapper.Mapper.{Mapper}
+use Rattle.mib_state.specs.declared.vlan.VlanConfig.{VlanConfig}
 use Rattle.mib_state.specs.declared.interwork.Interwork.{Interwork}
 use Rattle.mib_state.specs.declared.gem_port.GemPort.{GemPort}
 use Rattle.mib_state.specs.Entities.{Instance}
@@ -13,10 +14,18 @@ mapper_values m =
     ∷ big_bytes 2 (slice_index m.interwork_tp_pointers 2) ∷ big_bytes 2 (slice_index m.interwork_tp_pointers 3)
     ∷ big_bytes 2 (slice_index m.interwork_tp_pointers 4) ∷ big_bytes 2 (slice_index m.interwork_tp_pointers 5)
     ∷ big_bytes 2 (slice_index m.interwork_tp_pointers 6) ∷ big_bytes 2 (slice_index m.interwork_tp_pointers 7)
-    ∷ (m.unmarked_frame_option ∷ []) ∷ m.dscp_to_p_bit_mapping ∷ (m.default_p_bit_assumption ∷ []) ∷ (m.tp_type ∷ []) ∷ []
+    ∷ (m.unmarked_frame_option ∷ []) ∷ m.dscp_map.0 ∷ (m.default_p_bit_assumption ∷ []) ∷ (m.tp_type ∷ []) ∷ []
 
 abbrev pub mapper_instance : ℕ → Mapper → Instance
 mapper_instance n m = record { number = n; values = mapper_values m; entries = [] }
+
+abbrev pub vlan_values : VlanConfig → List (List ℕ)
+vlan_values v =
+    (v.association ∷ []) ∷ big_bytes 2 64 ∷ big_bytes 2 v.settings.input_tpid ∷ big_bytes 2 v.settings.output_tpid
+    ∷ (v.downstream ∷ []) ∷ [] ∷ big_bytes 2 v.pointer ∷ v.settings.dscp_map.0 ∷ []
+
+abbrev pub vlan_instance : ℕ → VlanConfig → Instance
+vlan_instance n v = record { number = n; values = vlan_values v; entries = v.table }
 
 abbrev pub interwork_values : Interwork → List (List ℕ)
 interwork_values t =

@@ -1,6 +1,6 @@
 -- One step: what a request is answered, and the entities that it leaves (ITU-T G.988, clauses 11.2 and A.2). Each
 -- action is one definition over the attributes of a class. Refusals come in the order in which they are written.
-use Rattle.std.specs.Prelude.{ℕ, suc, ◌+◌, ◌-◌, ◌*◌, not, ◌&&◌, List, [], ◌∷◌, ◌++◌, Option, Some, None, is_some, if◌then◌else◌, ◌==◌, nat_le, length, take, drop, map, Result, Ok, Err}
+use Rattle.std.specs.Prelude.{ℕ, suc, ◌+◌, ◌-◌, ◌*◌, not, ◌&&◌, List, [], ◌∷◌, ◌++◌, Option, Some, None, is_some, option_map, if◌then◌else◌, ◌==◌, nat_le, nat_lt, length, take, drop, map, Result, Ok, Err}
 use Rattle.byteorder.specs.Endian.{big_bytes, big_number}
 use Rattle.omci_msg.specs.declared.Request.{Request}
 use Rattle.omci_msg.specs.declared.Reply.{Reply}
@@ -8,12 +8,19 @@ use Rattle.omci_msg.specs.declared.Action.{Action}
 use Rattle.omci_msg.specs.declared.Action.TheVariants.{Create, Delete, Set, Get, GetNext, MibUpload, MibUploadNext, MibReset, Other}
 use Rattle.mib_state.specs.declared.attribute.Attribute.{Attribute}
 use Rattle.mib_state.specs.declared.refusal.Refusal.{Refusal}
-use Rattle.mib_state.specs.declared.refusal.Refusal.TheVariants.{ProcessingError, NotSupported, ParameterError, UnknownEntity, UnknownInstance, InstanceExists}
-use Rattle.mib_state.specs.Class.{attributes_of, room_of, initial_value, initial_entries, is_table}
+use Rattle.mib_state.specs.declared.refusal.Refusal.TheVariants.{ProcessingError, NotSupported, ParameterError, UnknownEntity, UnknownInstance, InstanceExists, AttributesFailed}
+use Rattle.vlan_rule.specs.declared.fault.TableFault.{TableFault}
+use Rattle.vlan_rule.specs.declared.fault.TableFault.TheVariants.{Bad, Full}
+use Rattle.vlan_rule.specs.Table.{Change, put}
+use Rattle.mib_state.specs.Class.{attributes_of, room_of, initial_value, initial_entries, is_table, has_table}
 use Rattle.mib_state.specs.Supported.{is_carried_out, is_known, returns_attributes}
-use Rattle.mib_state.specs.Entities.{Entities, Instance, nothing, instances_of, with_instances, find, insert, remove}
-use Rattle.mib_state.specs.Mask.{bit_of, names, unknown_of, given_mask}
+use Rattle.mib_state.specs.Entities.{Entities, Instance, nothing, instances_of, with_instances, find, insert, remove, replace}
+use Rattle.mib_state.specs.Mask.{bit_of, names, unknown_of, given_mask, unwritable_of, named_width}
 use Rattle.mib_state.specs.Answer.{padded, success_code, partial_code, refused, left_by, answer_to, told}
+
+-- the mask of a Get or a Set: its first two bytes
+unfoldable pub mask_of : List ℕ → ℕ
+mask_of contents = big_number 2 contents
 
 -- ---- Create
 
@@ -47,6 +54,61 @@ create_in layout room n contents instances =
 -- the instances of a class after Delete
 unfoldable pub delete_in : ℕ → List Instance → Result (List Instance) Refusal
 delete_in n instances = if is_some (find n instances) then Ok (remove n instances) else Err UnknownInstance
+
+-- ---- Set
+
+-- where the entry of the table stands among the bytes, if a mask names the table
+abbrev pub entry_at : ℕ → ℕ → List Attribute → Option ℕ
+entry_at mask place [] = None
+entry_at mask place (a ∷ rest) =
+    if names mask place then (if is_table a.access then Some 0 else option_map (λ at. a.width + at) (entry_at mask (suc place) rest))
+    else entry_at mask (suc place) rest
+
+-- why an entry isn't taken
+abbrev pub refusal_of : TableFault → Refusal
+refusal_of (Bad fault) = ParameterError
+refusal_of Full = ProcessingError
+
+-- the entries that a put leaves
+abbrev pub entries_by : Result Change TableFault → Result (List (List ℕ)) Refusal
+entries_by (Ok change) = Ok change.entries
+entries_by (Err fault) = Err (refusal_of fault)
+
+-- the entries of a class after one is put; a class without a table takes none
+abbrev pub entries_with : List Attribute → List (List ℕ) → List ℕ → Result (List (List ℕ)) Refusal
+entries_with layout entries entry = if has_table layout then entries_by (put entries entry) else Err NotSupported
+
+-- the entries after that which stands at a place among the bytes, if there is one
+abbrev pub entries_after : Option ℕ → List ℕ → List (List ℕ) → Result (List (List ℕ)) Refusal
+entries_after None bytes entries = Ok entries
+entries_after (Some at) bytes entries = entries_by (put entries (take 16 (drop at bytes)))
+
+-- the instance with these entries, and the other attributes that a mask names taken from the bytes
+abbrev pub with_entries : ℕ → List Attribute → List ℕ → Instance → Result (List (List ℕ)) Refusal → Result Instance Refusal
+with_entries mask layout bytes i (Ok entries) = Ok (record { number = i.number; values = written mask 0 layout bytes i.values; entries = entries })
+with_entries mask layout bytes i (Err refusal) = Err refusal
+
+-- an instance after Set, by the mask and the 30 bytes behind it
+unfoldable pub set_instance : List Attribute → ℕ → List ℕ → Instance → Result Instance Refusal
+set_instance layout mask bytes i =
+    let unknown = unknown_of mask (length layout) in
+    let unwritable = unwritable_of mask 0 layout in
+    if not (unknown == 0 && unwritable == 0) then Err (AttributesFailed unknown unwritable)
+    else (if nat_lt 30 (named_width mask 0 layout) then Err ParameterError
+    else with_entries mask layout bytes i (entries_after (entry_at mask 0 layout) bytes i.entries))
+
+-- the instances with it in its place
+abbrev pub replaced : List Instance → Result Instance Refusal → Result (List Instance) Refusal
+replaced instances (Ok i) = Ok (replace i instances)
+replaced instances (Err refusal) = Err refusal
+
+abbrev pub set_found : List Attribute → ℕ → List ℕ → List Instance → Option Instance → Result (List Instance) Refusal
+set_found layout mask bytes instances None = Err UnknownInstance
+set_found layout mask bytes instances (Some i) = replaced instances (set_instance layout mask bytes i)
+
+-- the instances of a class after Set
+unfoldable pub set_in : List Attribute → ℕ → ℕ → List ℕ → List Instance → Result (List Instance) Refusal
+set_in layout n mask bytes instances = set_found layout mask bytes instances (find n instances)
 
 -- ---- Get
 
@@ -87,10 +149,6 @@ abbrev pub get_found : List Attribute → ℕ → Option Instance → Result (Li
 get_found layout mask None = Err UnknownInstance
 get_found layout mask (Some i) = Ok (get_contents (length layout) mask (returned_values layout i.values i.entries))
 
--- the mask of a Get or a Set: its first two bytes
-unfoldable pub mask_of : List ℕ → ℕ
-mask_of contents = big_number 2 contents
-
 unfoldable pub get : Entities → Request → Result (List ℕ) Refusal
 get e q =
     if not (is_known q.class) then Err UnknownEntity
@@ -126,6 +184,11 @@ delete e q =
     else (if q.class == 2 then Err NotSupported
     else counted e q.class (delete_in q.instance (instances_of e q.class)))
 
+unfoldable pub set : Entities → Request → Result Entities Refusal
+set e q =
+    if not (is_known q.class) then Err UnknownEntity
+    else counted e q.class (set_in (attributes_of q.class) q.instance (mask_of q.contents) (drop 2 q.contents) (instances_of e q.class))
+
 -- ---- the step
 
 -- the contents of the answer to a change, and what it leaves: a refused one leaves the entities
@@ -136,7 +199,7 @@ changed e r = (answer_to r, left_by e r)
 abbrev pub effect_of : Action → Entities → Request → List ℕ × Entities
 effect_of Create e q = changed e (create e q)
 effect_of Delete e q = changed e (delete e q)
-effect_of Set e q = (refused NotSupported, e)
+effect_of Set e q = changed e (set e q)
 effect_of Get e q = (told (get e q), e)
 effect_of GetNext e q = (refused NotSupported, e)
 effect_of MibUpload e q = (refused NotSupported, e)

@@ -8,7 +8,7 @@ use Rattle.omci_msg.specs.declared.Action.TheVariants.{Create, Delete, Set, Get,
 abbrev pub is_carried_out : Action → Bool
 is_carried_out Create = true
 is_carried_out Delete = true
-is_carried_out Set = false
+is_carried_out Set = true
 is_carried_out Get = true
 is_carried_out GetNext = false
 is_carried_out MibUpload = false
@@ -18,7 +18,7 @@ is_carried_out (Other code) = false
 
 -- whether a class is known; an action on every other one is answered "unknown managed entity"
 abbrev pub is_known : ℕ → Bool
-is_known class = class == 130 || class == 266 || class == 268
+is_known class = class == 130 || class == 171 || class == 266 || class == 268
 
 -- whether a Get returns the attributes of a known class; on every other one it is answered "not supported", and its
 -- instance isn't looked at

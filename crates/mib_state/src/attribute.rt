@@ -13,7 +13,7 @@ pub enum Access {
 
 impl Access {
     ghost use Rattle.std.specs.Prelude.{◌≡◌};
-    ghost use Rattle.mib_state.specs.Class.{is_table};
+    ghost use Rattle.mib_state.specs.Class.{is_read_only, is_table};
 
     pub fn is_table(self) -> bool
         ensures { result ≡ is_table self }
@@ -21,6 +21,15 @@ impl Access {
         match self {
             Access::Table => true,
             Access::SetByCreate | Access::Writable | Access::ReadOnly => false,
+        }
+    }
+
+    pub fn is_read_only(self) -> bool
+        ensures { result ≡ is_read_only self }
+    {
+        match self {
+            Access::ReadOnly => true,
+            Access::SetByCreate | Access::Writable | Access::Table => false,
         }
     }
 }

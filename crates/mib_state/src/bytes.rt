@@ -3,7 +3,7 @@ ghost use Rattle.std.specs.Prelude.{◌≡◌, [], ◌∷◌, length};
 ghost use Rattle.byteorder.specs.Endian.{big_bytes};
 
 use arrayvec::ArrayVec;
-use byteorder::{BigEndian, ByteOrder};
+use tag_view::DscpMap;
 
 /// The bytes of one attribute.
 pub type Bytes = ArrayVec<u8, 24>;
@@ -28,6 +28,19 @@ pub fn two(x: u16) -> Bytes
     bytes
 }
 
+/// The bytes of a number of four bytes.
+pub fn four(x: u32) -> Bytes
+    ensures { result.items ≡ big_bytes 4 x }
+{
+    let [first, second, third, last] = x.to_be_bytes();
+    let mut bytes = ArrayVec::new();
+    bytes.push(first);
+    bytes.push(second);
+    bytes.push(third);
+    bytes.push(last);
+    bytes
+}
+
 /// The number that one byte spells.
 pub fn byte(bytes: &[u8]) -> u8
     requires { length bytes.now ≡ 1 }
@@ -44,19 +57,19 @@ pub fn number(bytes: &[u8]) -> u16
     u16::from_be_bytes([bytes[0], bytes[1]])
 }
 
-/// The bytes of a mapping of 24 bytes.
-pub fn whole(mapping: &[u8; 24]) -> Bytes
-    ensures { result.items ≡ mapping.now }
+/// The bytes of a DSCP to P-bit mapping.
+pub fn whole(map: &DscpMap) -> Bytes
+    ensures { result.items ≡ map.now.0 }
 {
-    ArrayVec::from(*mapping)
+    ArrayVec::from(map.0)
 }
 
-/// The mapping that 24 bytes are.
-pub fn mapping(bytes: &[u8]) -> [u8; 24]
+/// The DSCP to P-bit mapping that 24 bytes are.
+pub fn dscp_map(bytes: &[u8]) -> DscpMap
     requires { length bytes.now ≡ 24 }
-    ensures { result ≡ bytes.now }
+    ensures { result.0 ≡ bytes.now }
 {
-    let mut mapping = [0; 24];
-    mapping.copy_from_slice(bytes);
-    mapping
+    let mut map = [0; 24];
+    map.copy_from_slice(bytes);
+    DscpMap(map)
 }

@@ -3,15 +3,17 @@ ghost use Rattle.std.specs.Prelude.{◌≡◌, ◌≤◌, List, ℕ, length, map
 
 use crate::attribute::Attribute;
 use crate::bytes::Bytes;
+use crate::refusal::Refusal;
 use std::alloc::{AllocError, Global};
 
 /// A class of managed entities, by the bytes of its attributes. Attribute n stands at place n - 1.
 pub trait ManagedEntity: Drop {
     ghost use Rattle.mib_state.specs.declared.attribute.Attribute.{Attribute};
-    ghost use Rattle.mib_state.specs.Class.{initial_value, initial_entries, width_at, table_at, read_only_at};
+    ghost use Rattle.mib_state.specs.Class.{initial_value, initial_entries, width_at, table_at, read_only_at, tables_fit};
     ghost use Rattle.mib_state.specs.Mask.{unwritable_of, given_mask, named_width};
-    ghost use Rattle.mib_state.specs.Step.{returned_values};
-    ghost use Rattle.std.specs.Prelude.{false};
+    ghost use Rattle.mib_state.specs.Answer.{outcome_of, left_by};
+    ghost use Rattle.mib_state.specs.Step.{returned_values, entries_with};
+    ghost use Rattle.std.specs.Prelude.{true, false};
 
     /// How many instances there may be.
     const ROOM: usize;
@@ -57,11 +59,21 @@ pub trait ManagedEntity: Drop {
         ensures values { values self.new ≡ slice_set (values self.old) place bytes.now }
         ensures entries { entries self.new ≡ entries self.old };
 
+    /// Puts an entry into the table, if the class has one.
+    fn put_entry(&mut self, entry: &[u8]) -> Result<(), Refusal>
+        requires { length entry.now ≡ 16 }
+        ensures outcome { result ≡ outcome_of (entries_with layout (entries self.old) entry.now) }
+        ensures entries { entries self.new ≡ left_by (entries self.old) (entries_with layout (entries self.old) entry.now) }
+        ensures values { values self.new ≡ values self.old };
+
     /// There is a value for each attribute.
     ghost counts: { (entity : Self) → length (values entity) ≡ length layout };
 
     /// A mask has a bit for each attribute.
     ghost fits_mask: { length layout ≤ 16 };
+
+    /// A Set writes 16 bytes of the table.
+    ghost entries_fit: { tables_fit layout ≡ true };
 
     ghost given_is: { GIVEN ≡ given_mask 0 layout };
 

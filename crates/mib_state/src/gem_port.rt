@@ -5,6 +5,7 @@ ghost use Rattle.std.proofs.Common.{rules};
 use crate::attribute::Attribute;
 use crate::bytes::{Bytes, byte, number, one, two};
 use crate::entity::ManagedEntity;
+use crate::refusal::Refusal;
 use std::alloc::{AllocError, Global};
 
 /// A GEM port network CTP, the termination of one GEM port (ITU-T G.988, clause 9.2.3). The fields are its attributes in
@@ -60,6 +61,8 @@ impl ManagedEntity for GemPort {
 
     ghost fits_mask = { Prim.search rules };
 
+    ghost entries_fit = { refl };
+
     ghost given_is = { refl };
 
     ghost given_writable = { refl };
@@ -108,5 +111,9 @@ impl ManagedEntity for GemPort {
             9 => self.encryption_key_ring = byte(bytes),
             _ => {}
         }
+    }
+
+    fn put_entry(&mut self, _entry: &[u8]) -> Result<(), Refusal> {
+        Err(Refusal::NotSupported)
     }
 }

@@ -1,15 +1,16 @@
 //! The instances of a class, by ascending number, in room that is reserved.
-ghost use Rattle.std.specs.Prelude.{◌≡◌, [], map, option_map, IfOk, IfErr, vec_len, vec_capacity, ◌≤◌};
+ghost use Rattle.std.specs.Prelude.{◌≡◌, [], length, map, option_map, IfOk, IfErr, vec_len, vec_capacity, ◌≤◌};
 ghost use Rattle.mib_state.specs.Class.{table_at};
 ghost use Rattle.mib_state.specs.Entities.{find, shown_as, value_at, IsAt, IsGapFor};
 ghost use Rattle.mib_state.specs.Attached.{least_instance};
 ghost use Rattle.mib_state.specs.Answer.{outcome_of, left_by};
-ghost use Rattle.mib_state.specs.Step.{get_found, create_in, delete_in};
+ghost use Rattle.mib_state.specs.Step.{get_found, create_in, delete_in, set_in};
 
 use crate::bytes::Bytes;
 use crate::entity::{ManagedEntity, PortEntity};
 use crate::get::get_contents;
 use crate::refusal::Refusal;
+use crate::set::set;
 use crate::write::create;
 use std::alloc::{AllocError, Global};
 use std::marker::Model;
@@ -111,6 +112,22 @@ impl<E: ManagedEntity> Instances<E> {
                     Ok(())
                 }
             },
+        }
+    }
+
+    /// Writes the attributes of an instance that a mask names.
+    #[tactic(auto, unfolding(crate::specs::Step::set_in))]
+    pub fn set(&mut self, number: u16, mask: u16, bytes: &[u8]) -> Result<(), Refusal>
+        requires { length bytes.now ≡ 30 }
+        ensures outcome { result ≡ outcome_of (set_in E.layout number mask bytes.now self.old) }
+        ensures after { self.new ≡ left_by self.old (set_in E.layout number mask bytes.now self.old) }
+    {
+        match self.search(number) {
+            Ok(at) => {
+                let row = &mut self.rows[at];
+                set(&mut row.entity, mask, bytes)
+            }
+            Err(_) => Err(Refusal::UnknownInstance),
         }
     }
 

@@ -5,6 +5,7 @@ ghost use Rattle.std.proofs.Common.{rules};
 use crate::attribute::Attribute;
 use crate::bytes::{Bytes, byte, number, one, two};
 use crate::entity::ManagedEntity;
+use crate::refusal::Refusal;
 use std::alloc::{AllocError, Global};
 
 /// A GEM interworking termination point, which leads frames to a GEM port (ITU-T G.988, clause 9.2.4). The fields are its
@@ -55,6 +56,8 @@ impl ManagedEntity for Interwork {
 
     ghost fits_mask = { Prim.search rules };
 
+    ghost entries_fit = { refl };
+
     ghost given_is = { refl };
 
     ghost given_writable = { refl };
@@ -99,5 +102,9 @@ impl ManagedEntity for Interwork {
             7 => self.gal_loopback_configuration = byte(bytes),
             _ => {}
         }
+    }
+
+    fn put_entry(&mut self, _entry: &[u8]) -> Result<(), Refusal> {
+        Err(Refusal::NotSupported)
     }
 }

@@ -29,12 +29,15 @@ mod mask;
 mod mib;
 mod onu_data;
 mod refusal;
+mod set;
+mod vlan;
 mod write;
 
 pub use gem_port::GemPort;
 pub use interwork::Interwork;
 pub use mapper::Mapper;
 pub use mib::Mib;
+pub use vlan::VlanConfig;
 
 /// The entities after a list of requests are those after its accepted requests alone.
 pub fn law_of_accepted()

@@ -3,13 +3,15 @@ ghost use Rattle.std.specs.Prelude.{[], refl};
 ghost use Rattle.std.proofs.Common.{rules};
 
 use crate::attribute::Attribute;
-use crate::bytes::{Bytes, byte, mapping, number, one, two, whole};
+use crate::bytes::{Bytes, byte, dscp_map, number, one, two, whole};
 use crate::entity::{ManagedEntity, PortEntity};
+use crate::refusal::Refusal;
 use std::alloc::{AllocError, Global};
+use tag_view::DscpMap;
 
 /// An 802.1p mapper service profile, which gives the frames of a port to GEM ports by their priority (ITU-T G.988,
 /// clause 9.3.10). The fields are its attributes in ascending order.
-#[derive(Clone, Copy, Debug, Default, PartialEq, Eq)]
+#[derive(Clone, Copy, Debug, PartialEq, Eq)]
 pub struct Mapper {
     /// The port, where the TP type is 1.
     pub tp_pointer: u16,
@@ -17,12 +19,22 @@ pub struct Mapper {
     pub interwork_tp_pointers: [u16; 8],
     /// 0: a frame without a tag has the priority of its DSCP; 1: the default one.
     pub unmarked_frame_option: u8,
-    /// 64 groups of 3 bits, the priority of DSCP 0 first.
-    pub dscp_to_p_bit_mapping: [u8; 24],
+    /// The DSCP to P-bit mapping.
+    pub dscp_map: DscpMap,
     pub default_p_bit_assumption: u8,
     /// 1: the TP pointer is to a PPTP Ethernet UNI.
     pub tp_type: u8,
 }
+
+/// A mapper whose attributes are all 0.
+const NEW: Mapper = Mapper {
+    tp_pointer: 0,
+    interwork_tp_pointers: [0; 8],
+    unmarked_frame_option: 0,
+    dscp_map: DscpMap([0; 24]),
+    default_p_bit_assumption: 0,
+    tp_type: 0,
+};
 
 static LAYOUT: [Attribute; 13] = [
     Attribute::GIVEN_2, // TP pointer
@@ -62,6 +74,8 @@ impl ManagedEntity for Mapper {
 
     ghost fits_mask = { Prim.search rules };
 
+    ghost entries_fit = { refl };
+
     ghost given_is = { refl };
 
     ghost given_writable = { refl };
@@ -73,18 +87,11 @@ impl ManagedEntity for Mapper {
     }
 
     fn new(_alloc: Global) -> Result<Self, AllocError> {
-        Ok(Self::default())
+        Ok(NEW)
     }
 
     fn reset(&mut self) {
-        *self = Mapper {
-            tp_pointer: 0,
-            interwork_tp_pointers: [0; 8],
-            unmarked_frame_option: 0,
-            dscp_to_p_bit_mapping: [0; 24],
-            default_p_bit_assumption: 0,
-            tp_type: 0,
-        };
+        *self = NEW;
     }
 
     fn returned(&self, place: usize) -> Option<Bytes> {
@@ -99,7 +106,7 @@ impl ManagedEntity for Mapper {
             7 => Some(two(self.interwork_tp_pointers[6])),
             8 => Some(two(self.interwork_tp_pointers[7])),
             9 => Some(one(self.unmarked_frame_option)),
-            10 => Some(whole(&self.dscp_to_p_bit_mapping)),
+            10 => Some(whole(&self.dscp_map)),
             11 => Some(one(self.default_p_bit_assumption)),
             12 => Some(one(self.tp_type)),
             _ => None,
@@ -118,11 +125,15 @@ impl ManagedEntity for Mapper {
             7 => self.interwork_tp_pointers[6] = number(bytes),
             8 => self.interwork_tp_pointers[7] = number(bytes),
             9 => self.unmarked_frame_option = byte(bytes),
-            10 => self.dscp_to_p_bit_mapping = mapping(bytes),
+            10 => self.dscp_map = dscp_map(bytes),
             11 => self.default_p_bit_assumption = byte(bytes),
             12 => self.tp_type = byte(bytes),
             _ => {}
         }
+    }
+
+    fn put_entry(&mut self, _entry: &[u8]) -> Result<(), Refusal> {
+        Err(Refusal::NotSupported)
     }
 }
 

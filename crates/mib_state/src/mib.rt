@@ -1,11 +1,11 @@
 //! The management information base, and one step of it.
-ghost use Rattle.std.specs.Prelude.{◌≡◌, IfOk, option_map};
+ghost use Rattle.std.specs.Prelude.{◌≡◌, IfOk, option_map, length, drop};
 ghost use Rattle.mib_state.specs.Class.{attributes_of};
 ghost use Rattle.mib_state.specs.Entities.{nothing, instances_of, find, attribute_of};
-ghost use Rattle.mib_state.specs.Attached.{mapper_of_port};
+ghost use Rattle.mib_state.specs.Attached.{mapper_of_port, table_of_port};
 ghost use Rattle.mib_state.specs.Answer.{outcome_of, left_by, answer_to, told};
-ghost use Rattle.mib_state.specs.Shown.{mapper_instance, interwork_instance, gem_port_instance};
-ghost use Rattle.mib_state.specs.Step.{create, delete, get, step, counted_if, mask_of, carried_out};
+ghost use Rattle.mib_state.specs.Shown.{mapper_instance, vlan_instance, interwork_instance, gem_port_instance};
+ghost use Rattle.mib_state.specs.Step.{create, delete, set, get, step, counted_if, mask_of, carried_out};
 
 use crate::bytes::Bytes;
 use crate::entity::ManagedEntity;
@@ -15,6 +15,7 @@ use crate::interwork::Interwork;
 use crate::mapper::Mapper;
 use crate::onu_data::OnuData;
 use crate::refusal::Refusal;
+use crate::vlan::VlanConfig;
 use arrayvec::ArrayVec;
 use byteorder::{BigEndian, ByteOrder};
 use omci_msg::{Action, Reply, Request};
@@ -27,6 +28,9 @@ const ONU_DATA: u16 = 2;
 /// The class of 802.1p mapper service profiles.
 const MAPPER: u16 = 130;
 
+/// The class of extended VLAN tagging operation configuration data.
+const VLAN: u16 = 171;
+
 /// The class of GEM interworking termination points.
 const INTERWORK: u16 = 266;
 
@@ -38,6 +42,7 @@ const GEM_PORT: u16 = 268;
 pub struct Mib {
     onu_data: OnuData,
     mappers: Instances<Mapper>,
+    vlans: Instances<VlanConfig>,
     interworks: Instances<Interwork>,
     gem_ports: Instances<GemPort>,
 }
@@ -48,17 +53,19 @@ impl Model for Mib {
 
     ghost Value = { Entities };
 
-    ghost view = { λ m. record { sync = m.onu_data.sync; mappers = m.mappers; vlans = []; interworks = m.interworks; gem_ports = m.gem_ports } };
+    ghost view = { λ m. record { sync = m.onu_data.sync; mappers = m.mappers; vlans = m.vlans; interworks = m.interworks; gem_ports = m.gem_ports } };
 }
 
 impl Mib {
-    /// No instance and sync 0, with room for 32 instances of class 130 and 256 each of classes 266 and 268.
+    /// No instance and sync 0, with room for 32 instances of class 130, 16 of class 171 with their tables, and 256 each of classes 266
+    /// and 268.
     pub fn new(alloc: Global) -> Result<Self, AllocError>
         ensures { IfOk result (λ mib. mib ≡ nothing) }
     {
         Ok(Mib {
             onu_data: OnuData { sync: 0 },
             mappers: Instances::new(alloc)?,
+            vlans: Instances::new(alloc)?,
             interworks: Instances::new(alloc)?,
             gem_ports: Instances::new(alloc)?,
         })
@@ -80,6 +87,7 @@ impl Mib {
         match class {
             ONU_DATA if instance == 0 => self.onu_data.returned(place),
             MAPPER => self.mappers.attribute(instance, place),
+            VLAN => self.vlans.attribute(instance, place),
             INTERWORK => self.interworks.attribute(instance, place),
             GEM_PORT => self.gem_ports.attribute(instance, place),
             _ => None,
@@ -91,6 +99,13 @@ impl Mib {
         ensures { option_map (λ (mapper : _). mapper_instance instance mapper.now) result ≡ find instance self.now.mappers }
     {
         self.mappers.get(instance)
+    }
+
+    /// The extended VLAN tagging operation configuration data of a number.
+    pub fn vlan(&self, instance: u16) -> Option<&VlanConfig>
+        ensures { option_map (λ (vlan : _). vlan_instance instance vlan.now) result ≡ find instance self.now.vlans }
+    {
+        self.vlans.get(instance)
     }
 
     /// The GEM interworking termination point of a number.
@@ -115,6 +130,14 @@ impl Mib {
         self.mappers.of_port(port)
     }
 
+    /// The number of the extended VLAN tagging operation configuration data of a port, of association type 2 (ITU-T G.988,
+    /// clause 9.3.13). Of several, it is the one of least number, which is a choice of this project.
+    pub fn table_of_port(&self, port: u16) -> Option<u16>
+        ensures { result ≡ table_of_port self.now port }
+    {
+        self.vlans.of_port(port)
+    }
+
     /// Counts a change, if it was one.
     fn counted(&mut self, outcome: Result<(), Refusal>) -> Result<(), Refusal>
         ensures outcome { result ≡ outcome }
@@ -133,6 +156,10 @@ impl Mib {
         match request.class {
             MAPPER => {
                 let outcome = self.mappers.create(request.instance, &request.contents);
+                self.counted(outcome)
+            }
+            VLAN => {
+                let outcome = self.vlans.create(request.instance, &request.contents);
                 self.counted(outcome)
             }
             INTERWORK => {
@@ -157,6 +184,10 @@ impl Mib {
                 let outcome = self.mappers.delete(request.instance);
                 self.counted(outcome)
             }
+            VLAN => {
+                let outcome = self.vlans.delete(request.instance);
+                self.counted(outcome)
+            }
             INTERWORK => {
                 let outcome = self.interworks.delete(request.instance);
                 self.counted(outcome)
@@ -169,13 +200,41 @@ impl Mib {
         }
     }
 
+    #[tactic(auto, using(crate::proofs::Counted::counts), unfolding(crate::specs::Step::set))]
+    fn set(&mut self, request: &Request) -> Result<(), Refusal>
+        ensures outcome { result ≡ outcome_of (set self.old request.now) }
+        ensures after { self.new ≡ left_by self.old (set self.old request.now) }
+    {
+        let mask = mask_of(&request.contents);
+        let bytes = set_values(&request.contents);
+        match request.class {
+            MAPPER => {
+                let outcome = self.mappers.set(request.instance, mask, bytes);
+                self.counted(outcome)
+            }
+            VLAN => {
+                let outcome = self.vlans.set(request.instance, mask, bytes);
+                self.counted(outcome)
+            }
+            INTERWORK => {
+                let outcome = self.interworks.set(request.instance, mask, bytes);
+                self.counted(outcome)
+            }
+            GEM_PORT => {
+                let outcome = self.gem_ports.set(request.instance, mask, bytes);
+                self.counted(outcome)
+            }
+            _ => Err(Refusal::UnknownEntity),
+        }
+    }
+
     #[tactic(auto, unfolding(crate::specs::Step::get))]
     fn get(&self, request: &Request) -> Result<[u8; 32], Refusal>
         ensures { result ≡ get self.now request.now }
     {
         let mask = mask_of(&request.contents);
         match request.class {
-            MAPPER | INTERWORK => Err(Refusal::NotSupported),
+            MAPPER | VLAN | INTERWORK => Err(Refusal::NotSupported),
             GEM_PORT => self.gem_ports.read(request.instance, mask),
             _ => Err(Refusal::UnknownEntity),
         }
@@ -190,6 +249,7 @@ impl Mib {
         match request.action {
             Action::Create => answer_to(self.create(request)),
             Action::Delete => answer_to(self.delete(request)),
+            Action::Set => answer_to(self.set(request)),
             Action::Get => told(self.get(request)),
             _ => Refusal::NotSupported.contents(),
         }
@@ -211,12 +271,20 @@ impl Mib {
     }
 }
 
-/// The mask of a Get.
+/// The mask of a Get or a Set.
 #[tactic(auto, unfolding(crate::specs::Step::mask_of))]
 fn mask_of(contents: &[u8; 32]) -> u16
     ensures { result ≡ mask_of contents.now }
 {
     BigEndian::read_u16(contents)
+}
+
+/// The values of a Set.
+fn set_values(contents: &[u8; 32]) -> &[u8]
+    ensures values { result.now ≡ drop 2 contents.now }
+    ensures len { length result.now ≡ 30 }
+{
+    &contents[2..]
 }
 
 /// The contents of the answer to a question.

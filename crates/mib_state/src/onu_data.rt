@@ -5,6 +5,7 @@ ghost use Rattle.std.proofs.Common.{rules};
 use crate::attribute::Attribute;
 use crate::bytes::{Bytes, byte, one};
 use crate::entity::ManagedEntity;
+use crate::refusal::Refusal;
 use std::alloc::{AllocError, Global};
 
 /// ONU data (ITU-T G.988, clause 9.1.3).
@@ -49,6 +50,8 @@ impl ManagedEntity for OnuData {
 
     ghost fits_mask = { Prim.search rules };
 
+    ghost entries_fit = { refl };
+
     ghost given_is = { refl };
 
     ghost given_writable = { refl };
@@ -78,5 +81,9 @@ impl ManagedEntity for OnuData {
         if place == 0 {
             self.sync = byte(bytes);
         }
+    }
+
+    fn put_entry(&mut self, _entry: &[u8]) -> Result<(), Refusal> {
+        Err(Refusal::NotSupported)
     }
 }

@@ -1,6 +1,7 @@
 //! Why an action is refused.
 
 use byteorder::{BigEndian, ByteOrder};
+use vlan_rule::TableFault;
 
 /// Why an action is refused: the results of ITU-T G.988, clause A.2, but success.
 #[derive(Clone, Copy, Debug, PartialEq, Eq)]
@@ -51,5 +52,19 @@ impl Refusal {
             BigEndian::write_u16(&mut contents[3..5], execution);
         }
         contents
+    }
+}
+
+impl From<TableFault> for Refusal {
+    ghost use Rattle.std.specs.Prelude.{◌≡◌};
+    ghost use Rattle.mib_state.specs.Step.{refusal_of};
+
+    ghost from_gives = { λ fault refusal. refusal ≡ refusal_of fault };
+
+    fn from(fault: TableFault) -> Self {
+        match fault {
+            TableFault::Bad(_) => Refusal::ParameterError,
+            TableFault::Full => Refusal::ProcessingError,
+        }
     }
 }

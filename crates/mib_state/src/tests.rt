@@ -1,20 +1,27 @@
 use crate::{GemPort, Interwork, Mapper, Mib};
 use omci_msg::{Action, OtherCode, Reply, Request};
+use std::alloc::{AllocError, Global};
 use std::test::Fail;
+use tag_view::DscpMap;
 
-/// A request with identifier 1, whose contents begin with these bytes.
-fn request(action: Action, class: u16, instance: u16, bytes: &[u8]) -> Request {
+/// Contents that begin with these bytes.
+fn contents(bytes: &[u8]) -> [u8; 32] {
     let mut contents = [0; 32];
     for (to, from) in contents.iter_mut().zip(bytes) {
         *to = *from;
     }
+    contents
+}
+
+/// A request with identifier 1, whose contents begin with these bytes.
+fn request(action: Action, class: u16, instance: u16, bytes: &[u8]) -> Request {
     Request {
         tci: 1,
         action,
         wants_answer: true,
         class,
         instance,
-        contents,
+        contents: contents(bytes),
     }
 }
 
@@ -41,6 +48,40 @@ fn create_mapper(instance: u16, port: u16, pointer: u16) -> Request {
             high, low, high, low, 1, 0, 1,
         ],
     )
+}
+
+/// The creation of an extended VLAN tagging operation configuration data of a port.
+fn create_vlan(instance: u16, port: u16) -> Request {
+    let [high, low] = port.to_be_bytes();
+    request(Action::Create, 171, instance, &[2, high, low])
+}
+
+/// A Set of the attributes of a mask.
+fn set(class: u16, instance: u16, mask: u16, values: &[u8]) -> Request {
+    let mut set = request(Action::Set, class, instance, &mask.to_be_bytes());
+    for (to, from) in set.contents[2..].iter_mut().zip(values) {
+        *to = *from;
+    }
+    set
+}
+
+/// A Set of an entry of table 0x0701, by its four words.
+fn set_entry(words: [u32; 4]) -> Request {
+    let mut set = request(Action::Set, 171, 0x0701, &[4, 0]);
+    for (to, word) in set.contents[2..].chunks_exact_mut(4).zip(words) {
+        to.copy_from_slice(&word.to_be_bytes());
+    }
+    set
+}
+
+/// A port, 257, with its GEM port network CTP, interworking termination point, mapper and table.
+fn set_up(alloc: Global) -> Result<Mib, AllocError> {
+    let mut mib = Mib::new(alloc)?;
+    let _ = mib.step(&create_gem_port(0x0401));
+    let _ = mib.step(&create_interwork(0x0501));
+    let _ = mib.step(&create_mapper(0x0601, 257, 0x0501));
+    let _ = mib.step(&create_vlan(0x0701, 257));
+    Ok(mib)
 }
 
 #[test]
@@ -100,6 +141,7 @@ fn refusals_have_their_results(rt: HostRuntime) -> Result<(), Fail> {
     for (action, class, instance, wanted, what) in [
         (Action::Create, 45, 1, 4, "a class that isn't known"),
         (Action::Delete, 45, 1, 4, "a Delete of such a class"),
+        (Action::Set, 45, 1, 4, "a Set of such a class"),
         (Action::Get, 45, 1, 4, "a Get of such a class"),
         (
             Action::Create,
@@ -116,6 +158,7 @@ fn refusals_have_their_results(rt: HostRuntime) -> Result<(), Fail> {
             5,
             "a Delete of one that doesn't",
         ),
+        (Action::Set, 268, 0x0999, 5, "a Set of one that doesn't"),
         (Action::Get, 268, 0x0999, 5, "a Get of one that doesn't"),
         (Action::Get, 130, 0x0999, 2, "a Get of a mapper"),
         (
@@ -125,14 +168,6 @@ fn refusals_have_their_results(rt: HostRuntime) -> Result<(), Fail> {
             2,
             "a Get of an interworking point",
         ),
-        (Action::Set, 268, 0x0401, 2, "Set"),
-        (
-            Action::Set,
-            45,
-            0x0401,
-            2,
-            "Set of a class that isn't known",
-        ),
         (Action::GetNext, 268, 0x0401, 2, "Get next"),
         (Action::MibUpload, 2, 0, 2, "MIB upload"),
         (Action::MibUploadNext, 2, 0, 2, "MIB upload next"),
@@ -140,9 +175,7 @@ fn refusals_have_their_results(rt: HostRuntime) -> Result<(), Fail> {
         (other, 2, 0, 2, "Get all alarms next"),
     ] {
         let reply = mib.step(&request(action, class, instance, &[0xff, 0xff]));
-        let mut contents = [0; 32];
-        contents[0] = wanted;
-        assert_eq!(rt; reply.contents, contents, "the answer to {what}");
+        assert_eq!(rt; reply.contents, contents(&[wanted]), "the answer to {what}");
         assert_eq!(rt; mib.sync(), 1, "sync after {what}");
     }
     Ok(())
@@ -158,9 +191,7 @@ fn the_sync_goes_from_255_to_1_and_the_room_ends_at_256(rt: HostRuntime) -> Resu
         let wanted = if made == 256 { 1 } else { made };
         assert_eq!(rt; mib.sync() as u16, wanted, "the sync after Create {made}");
     }
-    let mut full = [0; 32];
-    full[0] = 1;
-    assert_eq!(rt; mib.step(&create_gem_port(1000)).contents, full);
+    assert_eq!(rt; mib.step(&create_gem_port(1000)).contents, contents(&[1]));
     assert_eq!(rt; mib.sync(), 1);
     assert_eq!(rt; mib.gem_port(1000).copied(), None);
     assert_eq!(rt; mib.gem_port(999).is_some(), true);
@@ -202,8 +233,9 @@ fn points_and_mappers_are_created_shown_and_deleted(rt: HostRuntime) -> Result<(
         tp_pointer: 257,
         interwork_tp_pointers: [0x0501; 8],
         unmarked_frame_option: 1,
+        dscp_map: DscpMap([0; 24]),
+        default_p_bit_assumption: 0,
         tp_type: 1,
-        ..Mapper::default()
     };
     let point = Interwork {
         gem_port_pointer: 0x0401,
@@ -335,5 +367,224 @@ fn a_class_has_room_of_its_own_and_a_deletion_gives_it_back(rt: HostRuntime) -> 
     assert_eq!(rt; mib.step(&delete).contents[0], 5);
     assert_eq!(rt; mib.step(&create_mapper(32, 257, 0x0501)).contents[0], 0);
     assert_eq!(rt; mib.step(&create_mapper(33, 257, 0x0501)).contents[0], 1);
+    Ok(())
+}
+
+#[test]
+fn a_set_is_refused_for_what_is_unknown_first(rt: HostRuntime) -> Result<(), Fail> {
+    let mut mib = set_up(rt.alloc())?;
+    assert_eq!(rt; mib.sync(), 4);
+    for (change, wanted, sync, what) in [
+        (
+            set(171, 0x0701, 0x0500, &[]),
+            [3, 0, 0, 0, 0],
+            4,
+            "40 bytes",
+        ),
+        (
+            set(171, 0x0701, 0x0580, &[]),
+            [9, 0, 0x80, 0, 0],
+            4,
+            "attribute 9 among them",
+        ),
+        (set(171, 0x0701, 0, &[]), [0, 0, 0, 0, 0], 5, "nothing"),
+        (
+            set(171, 0x0702, 0, &[]),
+            [5, 0, 0, 0, 0],
+            5,
+            "an absent instance",
+        ),
+    ] {
+        let reply = mib.step(&change);
+        assert_eq!(rt;
+            reply.contents,
+            contents(&wanted),
+            "the answer to a Set of {what}"
+        );
+        assert_eq!(rt; mib.sync(), sync, "the sync after a Set of {what}");
+    }
+    Ok(())
+}
+
+#[test]
+fn a_table_holds_64_entries_and_overwrites_a_held_key(rt: HostRuntime) -> Result<(), Fail> {
+    let mut mib = set_up(rt.alloc())?;
+    for k in 1..=62 {
+        let entry = [
+            0xf800_0000,
+            0x8000_0000 + k * 32768,
+            0x000f_0000,
+            0x000f_0000,
+        ];
+        let wanted = if k == 62 { 1 } else { 0 };
+        let reply = mib.step(&set_entry(entry));
+        assert_eq!(rt;
+            reply.contents,
+            contents(&[wanted]),
+            "the answer to entry {k}"
+        );
+    }
+    let again = set_entry([0xf800_0000, 0x801e_8000, 0xc00f_0000, 0x000f_0000]);
+    assert_eq!(rt; mib.step(&again).contents, [0; 32]);
+    assert_eq!(rt; mib.vlan(0x0701).map(|vlan| vlan.table.len()), Some(64));
+    assert_eq!(rt; mib.sync(), 66);
+    Ok(())
+}
+
+#[test]
+fn a_refused_set_keeps_nothing(rt: HostRuntime) -> Result<(), Fail> {
+    let mut mib = set_up(rt.alloc())?;
+    let reserved = [
+        0xf8, 0, 0, 0, 0xf8, 0, 0, 0, 0, 0x0f, 0, 0, 0, 0, 0x7f, 0xfc,
+    ];
+    let mut with_tpid = [0; 18];
+    with_tpid[0] = 0x91;
+    with_tpid[2..].copy_from_slice(&reserved);
+    for (change, wanted, what) in [
+        (
+            set(171, 0x0701, 0x0400, &reserved),
+            [3, 0, 0, 0, 0],
+            "a reserved VID to add",
+        ),
+        (
+            set_entry([0xf800_0000, 0x9800_0000, 0x000f_0000, 0x000f_0000]),
+            [3, 0, 0, 0, 0],
+            "a reserved priority",
+        ),
+        (
+            set_entry([0x3800_0000, 0xe800_0000, 0x000f_0000, 0x000f_0000]),
+            [3, 0, 0, 0, 0],
+            "priorities of no kind",
+        ),
+        (
+            set(171, 0x0701, 0x1400, &with_tpid),
+            [3, 0, 0, 0, 0],
+            "the output TPID and an entry",
+        ),
+        (
+            set(171, 0x0701, 0x6000, &[0, 5, 0x91, 0]),
+            [9, 0, 0, 0x40, 0],
+            "the max size and the input TPID",
+        ),
+        (
+            set(171, 0x0701, 0x0080, &[]),
+            [9, 0, 0x80, 0, 0],
+            "attribute 9",
+        ),
+    ] {
+        let reply = mib.step(&change);
+        assert_eq!(rt; reply.contents, contents(&wanted), "the answer to {what}");
+        let vlan = mib.vlan(0x0701).ok_or("the table is gone")?;
+        assert_eq!(rt; vlan.table.len(), 3, "the entries after {what}");
+        assert_eq!(rt;
+            vlan.settings.input_tpid,
+            0x8100,
+            "the input TPID after {what}"
+        );
+        assert_eq!(rt;
+            vlan.settings.output_tpid,
+            0x8100,
+            "the output TPID after {what}"
+        );
+        assert_eq!(rt; mib.sync(), 4, "the sync after {what}");
+    }
+    Ok(())
+}
+
+#[test]
+fn each_class_is_written(rt: HostRuntime) -> Result<(), Fail> {
+    let mut mib = set_up(rt.alloc())?;
+    let vlan_values = [
+        0x88, 0xa8, 0x91, 0, 0xf8, 0, 0, 0, 0xf8, 0, 0, 0, 0, 0x0f, 0, 0, 0, 0, 0x03, 0x24,
+    ];
+    for (change, what) in [
+        (
+            set(268, 0x0401, 0xa000, &[4, 1, 2]),
+            "the port-ID and the direction",
+        ),
+        (
+            set(266, 0x0501, 0x8100, &[4, 0x99, 7]),
+            "the GEM port pointer and the loopback",
+        ),
+        (
+            set(130, 0x0601, 0x0820, &[0xff, 0xfe, 0x38]),
+            "a pointer and the DSCP mapping",
+        ),
+        (
+            set(171, 0x0701, 0x3400, &vlan_values),
+            "the TPIDs and an entry",
+        ),
+    ] {
+        assert_eq!(rt;
+            mib.step(&change).contents,
+            [0; 32],
+            "the answer to a Set of {what}"
+        );
+    }
+    assert_eq!(rt; mib.sync(), 8);
+    for (class, instance, n, wanted) in [
+        (268, 0x0401, 1, [4, 1].as_slice()),
+        (268, 0x0401, 2, [0x80, 1].as_slice()),
+        (268, 0x0401, 3, [2].as_slice()),
+        (266, 0x0501, 1, [4, 0x99].as_slice()),
+        (266, 0x0501, 8, [7].as_slice()),
+        (130, 0x0601, 4, [5, 1].as_slice()),
+        (130, 0x0601, 5, [0xff, 0xfe].as_slice()),
+        (130, 0x0601, 6, [5, 1].as_slice()),
+        (171, 0x0701, 2, [0, 64].as_slice()),
+        (171, 0x0701, 3, [0x88, 0xa8].as_slice()),
+        (171, 0x0701, 4, [0x91, 0].as_slice()),
+    ] {
+        let shown = mib.attribute(class, instance, n);
+        assert_eq!(rt;
+            shown.as_ref().map(|bytes| bytes.as_slice()),
+            Some(wanted),
+            "attribute {n} of {class}"
+        );
+    }
+    assert_eq!(rt;
+        mib.attribute(171, 0x0701, 6).is_none(),
+        true,
+        "the table has no bytes of its own"
+    );
+    assert_eq!(rt; mib.vlan(0x0701).map(|vlan| vlan.table.len()), Some(4));
+    Ok(())
+}
+
+#[test]
+fn of_two_tables_of_a_port_the_least_is_its_own(rt: HostRuntime) -> Result<(), Fail> {
+    let mut mib = set_up(rt.alloc())?;
+    let of_mapper = request(Action::Create, 171, 0x0600, &[1, 1, 1]);
+    let entry = set_entry([0xf800_0000, 0xf800_0000, 0x000f_0000, 0x0000_0324]);
+    for (change, wanted, what) in [
+        (entry, Some(0x0701), "an entry is set"),
+        (
+            create_vlan(0x0700, 257),
+            Some(0x0700),
+            "a lesser one is made",
+        ),
+        (of_mapper, Some(0x0700), "one of a mapper is made"),
+        (
+            request(Action::Delete, 171, 0x0700, &[]),
+            Some(0x0701),
+            "the least is deleted",
+        ),
+        (
+            request(Action::Delete, 171, 0x0701, &[]),
+            None,
+            "the last is deleted",
+        ),
+        (create_vlan(0x0701, 257), Some(0x0701), "it is made again"),
+    ] {
+        assert_eq!(rt;
+            mib.step(&change).contents,
+            [0; 32],
+            "the answer where {what}"
+        );
+        assert_eq!(rt; mib.table_of_port(257), wanted, "the table after {what}");
+    }
+    assert_eq!(rt; mib.table_of_port(258), None);
+    let vlan = mib.vlan(0x0701).ok_or("the table is gone")?;
+    assert_eq!(rt; vlan.table.len(), 3, "a table that is made again is new");
     Ok(())
 }

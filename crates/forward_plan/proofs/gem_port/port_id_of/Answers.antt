@@ -1,4 +1,4 @@
-use Rattle.std.proofs.Common.{arith, sym, ◌∙◌}
+use Rattle.std.proofs.Common.{arith}
 use Rattle.forward_plan.proofs.GemPorts.{id_upstream}
 use Rattle.forward_plan.proofs.gem_port.port_id_of.Goals as goal
 
