@@ -1,5 +1,5 @@
 -- The chosen place is one, and is found step by step.
-use Rattle.std.proofs.Common.{◌≡◌, ◌==◌, ℕ, suc, zero, ◌+◌, ◌<◌, ◌≤◌, List, Bool, true, false, ◌&&◌, ◌||◌, Option, Some, None, length, refl, ap, sym, ◌∙◌, arith, below_more, nat_lt, if◌then◌else◌}
+use Rattle.std.proofs.Common.{◌≡◌, ◌==◌, ℕ, suc, zero, ◌+◌, ◌<◌, ◌≤◌, List, Bool, true, false, ◌&&◌, ◌||◌, Option, Some, None, length, refl, ap, sym, subst, ◌∙◌, arith, below_more, nat_lt, if◌then◌else◌}
 use Rattle.std.proofs.lemmas.Bool.{ltb-false, ltb-true, true≢false}
 use Rattle.std.proofs.lemmas.Bool.Decides.{nat_tests}
 use Rattle.vlan_rule.specs.declared.filter.EthertypeFilter.{EthertypeFilter}
@@ -9,7 +9,8 @@ use Rattle.vlan_rule.specs.Meaning.{ethertype_of}
 use Rattle.vlan_rule.specs.Rule.{IsRuleOf}
 use Rattle.tag_view.specs.Tag.{TagFields}
 use Rattle.vlan_rule.specs.Best.{better, is_less, IsBest, IsLeast}
-use Rattle.vlan_rule.specs.Choice.{are_tags, entry_at, has_type, is_before, matches, rank_at, ChosenOnce, IsChosen}
+use Rattle.vlan_rule.specs.Choice.{are_tags, entry_at, has_type, choice, is_before, matches, rank_at, ChosenOnce, IsChoice, IsChosen}
+use Rattle.vlan_rule.proofs.Computed.{is_computed}
 
 -- two pairs of which neither is smaller have one place
 same_place : (a b i j : ℕ) → (nat_lt a b || (a == b && nat_lt i j)) ≡ false → (nat_lt b a || (b == a && nat_lt j i)) ≡ false → i ≡ j
@@ -112,11 +113,22 @@ one test entries i within passes = by_case (best_of test entries (length entries
     by_case None is = absurd (true≢false (sym passes ∙ is i within))
     by_case (Some best) is = (best.1, chosen test entries best is)
 
+-- what is computed is chosen
+choice_is : (test : List ℕ → Bool) (entries : List (List ℕ)) → IsChoice test entries (choice test entries)
+choice_is test entries = by_case (best_of test entries (length entries)).0 (best_of test entries (length entries)).1
+  where
+    if_chosen : (place : Option ℕ) → IsChoice test entries place → IsChoice test entries (choice test entries)
+    if_chosen place is = subst (IsChoice test entries) (is_computed test entries place is) is
+    by_case : (best : Option (ℕ × ℕ)) → IsBest test entries (length entries) best → IsChoice test entries (choice test entries)
+    by_case None is = if_chosen None is
+    by_case (Some best) is = if_chosen (Some best.1) (chosen test entries best is)
+
 pub chosen_once : ChosenOnce
 chosen_once = record {
   at_most_one = λ input tags type. at_most_one (matches input tags type);
   one = λ input tags type. one (matches input tags type);
   none = λ input tags type entries i fail chosen. true≢false (sym chosen.passes ∙ fail i chosen.in_range);
+  computed = λ input tags type. choice_is (matches input tags type);
 }
 
 -- the rule of an entry is for the frames that the entry matches

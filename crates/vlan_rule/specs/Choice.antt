@@ -1,6 +1,8 @@
 -- Which entry of a table is used for a frame (ITU-T G.988, 9.3.13). A frame is here the input TPID,
 -- its tags, the outermost first, and the type behind them.
 use Rattle.std.specs.Prelude.{◌≡◌, ◌<◌, ℕ, Bool, true, false, not, ◌&&◌, ◌||◌, List, [], ◌∷◌, Option, Some, None, ◌==◌, nat_lt, length, slice_index_or}
+use Rattle.std.specs.List.{position}
+use Rattle.std.specs.Option.{option_or}
 use Rattle.tag_view.specs.Tag.{TagFields}
 use Rattle.vlan_rule.specs.declared.filter.PriorityFilter.{PriorityFilter}
 use Rattle.vlan_rule.specs.declared.filter.PriorityFilter.TheVariants as priority
@@ -13,6 +15,8 @@ use Rattle.vlan_rule.specs.declared.filter.EthertypeFilter.TheVariants as ethert
 use Rattle.vlan_rule.specs.declared.filter.TagFilter.{TagFilter}
 use Rattle.vlan_rule.specs.declared.filter.Filter.{Filter}
 use Rattle.vlan_rule.specs.declared.filter.Filter.TheVariants as filter
+use Rattle.vlan_rule.specs.declared.rank.Rank.{Rank}
+use Rattle.vlan_rule.specs.declared.rank.Rank.TheVariants.{Ordinary, Default, Predefined}
 use Rattle.vlan_rule.specs.Meaning.{ethertype_of, filter_of, rank_number, rank_of}
 
 -- ---- which entries match
@@ -94,9 +98,19 @@ abbrev pub IsChoice : (List ℕ → Bool) → List (List ℕ) → Option ℕ →
 IsChoice test entries None = NonePasses test entries
 IsChoice test entries (Some i) = IsChosen test entries i
 
+-- ---- the same, computed
+
+-- the place of the first entry of a rank that passes the test
+abbrev pub first_of : Rank → (List ℕ → Bool) → List (List ℕ) → Option ℕ
+first_of rank test entries = position (λ e. rank_number (rank_of e) == rank_number rank && test e) entries
+
+-- the place of the entry that is used: the first of the least rank
+unfoldable pub choice : (List ℕ → Bool) → List (List ℕ) → Option ℕ
+choice test entries = option_or (first_of Ordinary test entries) (option_or (first_of Default test entries) (first_of Predefined test entries))
+
 -- ---- law
 
--- at most one place is chosen, and none exactly where no entry matches
+-- at most one place is chosen, and none exactly where no entry matches; it is the one that is computed
 pub record ChosenOnce : Type 0 where
   pub at_most_one : (input : ℕ) (tags : List TagFields) (type : ℕ) (entries : List (List ℕ)) (i j : ℕ)
       → IsChosen (matches input tags type) entries i → IsChosen (matches input tags type) entries j → i ≡ j
@@ -104,3 +118,5 @@ pub record ChosenOnce : Type 0 where
       → i < length entries → matches input tags type (entry_at entries i) ≡ true → (k : ℕ) × IsChosen (matches input tags type) entries k
   pub none : (input : ℕ) (tags : List TagFields) (type : ℕ) (entries : List (List ℕ)) (i : ℕ)
       → NonePasses (matches input tags type) entries → ¬ IsChosen (matches input tags type) entries i
+  pub computed : (input : ℕ) (tags : List TagFields) (type : ℕ) (entries : List (List ℕ))
+      → IsChoice (matches input tags type) entries (choice (matches input tags type) entries)

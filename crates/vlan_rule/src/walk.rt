@@ -8,15 +8,24 @@ use tag_view::{FrameView, Tag};
 
 impl RuleTable {
     ghost use Rattle.tag_view.specs.Frame.{type_at};
-    ghost use Rattle.vlan_rule.specs.Choice.{IsChoice};
+    ghost use Rattle.vlan_rule.specs.Choice.{choice, IsChoice};
 
     /// The place of the entry that is used for a frame, or None where none matches it: of those
     /// that match, the first of least rank. It looks at every entry. That None drops the frame is a
     /// choice of this project.
+    #[tactic(auto, using(crate::proofs::Computed::is_computed))]
     pub fn walk(&self, frame: &FrameView<'_>, input_tpid: u16) -> Option<usize>
-        ensures { IsChoice (matches input_tpid frame.now.tags (type_at 0 frame.now.rest)) self.now result }
+        ensures used { IsChoice (matches input_tpid frame.now.tags (type_at 0 frame.now.rest)) self.now result }
+        ensures computed { result ≡ choice (matches input_tpid frame.now.tags (type_at 0 frame.now.rest)) self.now }
     {
-        let (_, place) = best(&self.rows, frame.tags(), frame.ethertype(), input_tpid)?;
+        self.chosen(frame.tags(), frame.ethertype(), input_tpid)
+    }
+
+    // The place of the entry that is used for these tags and the type behind them.
+    fn chosen(&self, tags: &[Tag], ethertype: u16, input_tpid: u16) -> Option<usize>
+        ensures { IsChoice (matches input_tpid tags.now ethertype) self.now result }
+    {
+        let (_, place) = best(&self.rows, tags, ethertype, input_tpid)?;
         Some(place)
     }
 }
