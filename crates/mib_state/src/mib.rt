@@ -9,16 +9,14 @@ ghost use Rattle.mib_state.specs.Step.{create, delete, set, get, step, counted_i
 
 use crate::bytes::Bytes;
 use crate::entity::ManagedEntity;
-use crate::gem_port::GemPort;
 use crate::instances::Instances;
-use crate::interwork::Interwork;
-use crate::mapper::Mapper;
 use crate::onu_data::OnuData;
 use crate::refusal::Refusal;
 use crate::vlan::VlanConfig;
 use arrayvec::ArrayVec;
 use byteorder::{BigEndian, ByteOrder};
 use omci_msg::{Action, Reply, Request};
+use pmapper::{GemPort, Interwork, Mapper};
 use std::alloc::{AllocError, Global};
 use std::marker::Model;
 

@@ -1,5 +1,6 @@
-use crate::{GemPort, Interwork, Mapper, Mib};
+use crate::Mib;
 use omci_msg::{Action, OtherCode, Reply, Request};
+use pmapper::{GemPort, Interwork, Mapper};
 use std::alloc::{AllocError, Global};
 use std::test::Fail;
 use tag_view::DscpMap;
