@@ -5,6 +5,7 @@ pub mod Padded
 pub mod Gathered
 pub mod Returned
 pub mod Place
+pub mod Next
 pub mod Edits
 pub mod Setting
 pub mod Entry

@@ -1,7 +1,7 @@
 //! The instances of a class, by ascending number, in room that is reserved.
 ghost use Rattle.std.specs.Prelude.{◌≡◌, [], length, map, option_map, IfOk, IfErr, vec_len, vec_capacity, ◌≤◌};
 ghost use Rattle.mib_state.specs.Class.{table_at};
-ghost use Rattle.mib_state.specs.Entities.{find, shown_as, value_at, IsAt, IsGapFor};
+ghost use Rattle.mib_state.specs.Entities.{find, next, shown_as, value_at, IsAscending, IsAt, IsGapFor};
 ghost use Rattle.mib_state.specs.Attached.{least_instance};
 ghost use Rattle.mib_state.specs.Answer.{outcome_of, left_by};
 ghost use Rattle.mib_state.specs.Step.{get_found, create_in, delete_in, set_in};
@@ -128,6 +128,18 @@ impl<E: ManagedEntity> Instances<E> {
                 set(&mut row.entity, mask, bytes)
             }
             Err(_) => Err(Refusal::UnknownInstance),
+        }
+    }
+
+    /// The least number that isn't under another.
+    pub fn next(&self, from: u16) -> Option<u16>
+        ensures value { result ≡ next from self.now }
+        ensures ascending { IsAscending self.now }
+    {
+        match self.search(from) {
+            Ok(_) => Some(from),
+            Err(at) if at < self.rows.len() => Some(self.rows[at].number),
+            Err(_) => None,
         }
     }
 

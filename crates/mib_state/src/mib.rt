@@ -1,7 +1,7 @@
 //! The management information base, and one step of it.
 ghost use Rattle.std.specs.Prelude.{◌≡◌, IfOk, option_map, length, drop};
 ghost use Rattle.mib_state.specs.Class.{attributes_of};
-ghost use Rattle.mib_state.specs.Entities.{nothing, instances_of, find, attribute_of};
+ghost use Rattle.mib_state.specs.Entities.{nothing, instances_of, find, next, attribute_of, IsAscending};
 ghost use Rattle.mib_state.specs.Attached.{mapper_of_port, table_of_port};
 ghost use Rattle.mib_state.specs.Answer.{outcome_of, left_by, answer_to, told};
 ghost use Rattle.mib_state.specs.Shown.{mapper_instance, vlan_instance, interwork_instance, gem_port_instance};
@@ -9,16 +9,14 @@ ghost use Rattle.mib_state.specs.Step.{create, delete, set, get, step, counted_i
 
 use crate::bytes::Bytes;
 use crate::entity::ManagedEntity;
-use crate::gem_port::GemPort;
 use crate::instances::Instances;
-use crate::interwork::Interwork;
-use crate::mapper::Mapper;
 use crate::onu_data::OnuData;
 use crate::refusal::Refusal;
 use crate::vlan::VlanConfig;
 use arrayvec::ArrayVec;
 use byteorder::{BigEndian, ByteOrder};
 use omci_msg::{Action, Reply, Request};
+use pmapper::{GemPort, Interwork, Mapper};
 use std::alloc::{AllocError, Global};
 use std::marker::Model;
 
@@ -76,6 +74,22 @@ impl Mib {
         ensures { result ≡ self.now.sync }
     {
         self.onu_data.sync
+    }
+
+    /// The least number of an instance of a class that isn't under another: the first, since the numbers of a class rise.
+    /// ONU data, class 2, has instance 0; a class that isn't known has none.
+    pub fn next_instance(&self, class: u16, from: u16) -> Option<u16>
+        ensures value { result ≡ next from (instances_of self.now class) }
+        ensures ascending { IsAscending (instances_of self.now class) }
+    {
+        match class {
+            ONU_DATA if from == 0 => Some(0),
+            MAPPER => self.mappers.next(from),
+            VLAN => self.vlans.next(from),
+            INTERWORK => self.interworks.next(from),
+            GEM_PORT => self.gem_ports.next(from),
+            _ => None,
+        }
     }
 
     /// The bytes of attribute `n` of an instance, attributes numbered from 1: None for what isn't there and for a table.

@@ -1,5 +1,6 @@
-use crate::{GemPort, Interwork, Mapper, Mib};
+use crate::Mib;
 use omci_msg::{Action, OtherCode, Reply, Request};
+use pmapper::{GemPort, Interwork, Mapper};
 use std::alloc::{AllocError, Global};
 use std::test::Fail;
 use tag_view::DscpMap;
@@ -222,6 +223,31 @@ fn attributes_are_shown_by_number(rt: HostRuntime) -> Result<(), Fail> {
             wanted,
             "attribute {n} of {class} {instance}"
         );
+    }
+    Ok(())
+}
+
+#[test]
+fn the_next_instance_is_the_least_that_is_not_under_a_number(rt: HostRuntime) -> Result<(), Fail> {
+    let mut mib = set_up(rt.alloc())?;
+    let _ = mib.step(&create_gem_port(0x0410));
+    let _ = mib.step(&create_gem_port(0x0300));
+    for (class, from, wanted) in [
+        (2, 0, Some(0)),
+        (2, 1, None),
+        (130, 0, Some(0x0601)),
+        (171, 0x0701, Some(0x0701)),
+        (171, 0x0702, None),
+        (266, 0x0500, Some(0x0501)),
+        (268, 0, Some(0x0300)),
+        (268, 0x0300, Some(0x0300)),
+        (268, 0x0301, Some(0x0401)),
+        (268, 0x0402, Some(0x0410)),
+        (268, 0xffff, None),
+        (45, 0, None),
+    ] {
+        let next = mib.next_instance(class, from);
+        assert_eq!(rt; next, wanted, "the next of {class} from {from}");
     }
     Ok(())
 }
