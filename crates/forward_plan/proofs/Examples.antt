@@ -11,7 +11,7 @@ use Rattle.mib_state.specs.Step.{step, create, create_in, delete, delete_in}
 use Rattle.forward_plan.specs.declared.reason.Reason.TheVariants.{Runt, CutTag, NoMapper, NullPointer, NoInterwork, NoGem, Direction}
 use Rattle.forward_plan.specs.declared.verdict.Verdict.{Verdict}
 use Rattle.forward_plan.specs.declared.verdict.Verdict.TheVariants.{Forward, Drop}
-use Rattle.forward_plan.specs.Meaning.{mapper_at, priority_of, pointer_of, carries_upstream, port_id_of, gem_port_behind, gem_port_of, gem_port_at, forwarded_by, meaning}
+use Rattle.forward_plan.specs.Meaning.{table_at, input_tpid_of, tags_at, mapper_at, priority_of, pointer_of, carries_upstream, port_id_of, gem_port_behind, gem_port_of, gem_port_at, forwarded_by, meaning}
 
 -- ---- the entities
 
@@ -81,7 +81,7 @@ lookups : (meaning led 257 untagged ≡ forwarded [] packet)
     × (meaning downstream 257 untagged ≡ Drop Direction)
     × (meaning without_point 257 untagged ≡ Drop NoInterwork)
     × (meaning without_mapper 257 untagged ≡ Drop NoMapper)
-unfolding meaning forwarded_by mapper_at priority_of pointer_of carries_upstream port_id_of gem_port_behind gem_port_of gem_port_at frame_of fault_of create create_in delete delete_in
+unfolding meaning forwarded_by table_at input_tpid_of tags_at mapper_at priority_of pointer_of carries_upstream port_id_of gem_port_behind gem_port_of gem_port_at frame_of fault_of create create_in delete delete_in
 lookups = (refl, refl, refl, refl, refl, refl)
 
 -- frames that end early
@@ -89,7 +89,7 @@ short : (meaning led 257 (addresses ++ (0x08 ∷ [])) ≡ Drop Runt)
     × (meaning led 257 (addresses ++ (0x08 ∷ 0x00 ∷ [])) ≡ forwarded [] (0x08 ∷ 0x00 ∷ []))
     × (meaning led 257 (addresses ++ (0x81 ∷ 0x00 ∷ [])) ≡ Drop CutTag)
     × (meaning led 257 (addresses ++ (0x81 ∷ 0x00 ∷ 0x00 ∷ 0x64 ∷ 0x81 ∷ 0x00 ∷ [])) ≡ Drop CutTag)
-unfolding meaning forwarded_by mapper_at priority_of pointer_of carries_upstream port_id_of gem_port_behind gem_port_of gem_port_at frame_of fault_of create create_in
+unfolding meaning forwarded_by table_at input_tpid_of tags_at mapper_at priority_of pointer_of carries_upstream port_id_of gem_port_behind gem_port_of gem_port_at frame_of fault_of create create_in
 short = (refl, refl, refl, refl)
 
 -- a tag of VLAN 100 with a priority
@@ -106,5 +106,5 @@ priorities : (meaning by_priority 257 untagged ≡ forwarded [] packet)
     × (meaning by_priority 257 (addresses ++ (0x81 ∷ 0x00 ∷ 0xb0 ∷ 0x64 ∷ packet)) ≡ forwarded (tag 5 ∷ []) packet)
     × (meaning by_priority 257 (addresses ++ (0x81 ∷ 0x00 ∷ 0x30 ∷ 0x64 ∷ 0x81 ∷ 0x00 ∷ 0xb0 ∷ 0x64 ∷ packet)) ≡ Drop NoInterwork)
     × (meaning by_priority 257 (addresses ++ (0x81 ∷ 0x00 ∷ 0xf0 ∷ 0x64 ∷ packet)) ≡ Drop NullPointer)
-unfolding meaning forwarded_by mapper_at priority_of pointer_of carries_upstream port_id_of gem_port_behind gem_port_of gem_port_at frame_of fault_of create create_in
+unfolding meaning forwarded_by table_at input_tpid_of tags_at mapper_at priority_of pointer_of carries_upstream port_id_of gem_port_behind gem_port_of gem_port_at frame_of fault_of create create_in
 priorities = (refl, refl, refl, refl)

@@ -10,7 +10,7 @@ use Rattle.mib_state.specs.Shown.{mapper_instance, interwork_instance, gem_port_
 use Rattle.forward_plan.specs.Meaning.{pointer_of}
 
 -- the two bytes of a number spell it
-two_bytes : (x : ℕ) → x < 2 ^ 16 → number_of (x / 256 % 256 ∷ x % 256 ∷ []) ≡ x
+pub two_bytes : (x : ℕ) → x < 2 ^ 16 → number_of (x / 256 % 256 ∷ x % 256 ∷ []) ≡ x
 two_bytes x h = omega arith
 
 -- the pointer of a priority is attribute 2 and the following ones

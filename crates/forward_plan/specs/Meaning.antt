@@ -1,14 +1,18 @@
 -- What the managed entities mean for a frame that comes in at a port: the GEM port and the tags that it leaves with, or
--- the first reason to drop it (ITU-T G.988, clauses 9.3.10, 9.2.4 and 9.2.3). Attributes are numbered from 1, as there.
+-- the first reason to drop it (ITU-T G.988, clauses 9.3.13, 9.3.10, 9.2.4 and 9.2.3). Attributes are numbered from 1, as there.
 use Rattle.std.specs.Prelude.{ℕ, ◌+◌, ◌%◌, Bool, ◌||◌, ◌==◌, if◌then◌else◌, List, [], ◌∷◌, Option, Some, None, Result, Ok, Err, ok_or}
-use Rattle.std.specs.Option.{option_and_then}
+use Rattle.std.specs.Option.{option_and_then, option_map}
 use Rattle.std.specs.Result.{result_map_both}
 use Rattle.tag_view.specs.Tag.{TagFields}
-use Rattle.tag_view.specs.Frame.{Reading, frame_of}
-use Rattle.mib_state.specs.Entities.{Entities, Instance, find, attribute_number}
-use Rattle.mib_state.specs.Attached.{mapper_of_port}
+use Rattle.tag_view.specs.Frame.{Reading, frame_of, type_at}
+use Rattle.tag_view.specs.Dscp.{dscp_of}
+use Rattle.vlan_rule.specs.declared.settings.TableSettings.{TableSettings}
+use Rattle.vlan_rule.specs.Choice.{choice, entry_at, matches}
+use Rattle.treatment.specs.Treatment.{treated}
+use Rattle.mib_state.specs.Entities.{Entities, Instance, find, attribute_bytes, attribute_number}
+use Rattle.mib_state.specs.Attached.{mapper_of_port, table_of_port}
 use Rattle.forward_plan.specs.declared.reason.Reason.{Reason}
-use Rattle.forward_plan.specs.declared.reason.Reason.TheVariants.{NoMapper, NullPointer, NoInterwork, NoGem, Direction}
+use Rattle.forward_plan.specs.declared.reason.Reason.TheVariants.{NoRule, RuleDiscard, NoMapper, NullPointer, NoInterwork, NoGem, Direction}
 use Rattle.forward_plan.specs.declared.verdict.Verdict.{Verdict}
 use Rattle.forward_plan.specs.declared.verdict.Verdict.TheVariants.{Forward, Drop}
 use Rattle.forward_plan.specs.Reason.{reason_of_fault}
@@ -18,15 +22,50 @@ abbrev pub found_then : {A B : Type 0} → Result A Reason → (A → Result B R
 found_then (Ok found) next = next found
 found_then (Err reason) next = Err reason
 
--- ---- the port and its table
+-- ---- the table of a port (clause 9.3.13)
 
--- the type that begins a tag at a port, beside the two of IEEE 802.1Q: 0x8100, as no port's table sets another one yet
-abbrev pub input_tpid_of : Entities → ℕ → ℕ
-input_tpid_of e port = 0x8100
+-- a table's entries, and what its rules are applied with
+pub record Table : Type 0 where
+  pub settings : TableSettings
+  pub entries : List (List ℕ)
 
--- the tags that a frame leaves a port with: its own, as no port's table changes them yet
-abbrev pub tags_at : Entities → ℕ → Reading → Result (List TagFields) Reason
-tags_at e port frame = Ok frame.tags
+-- the table of an extended VLAN tagging operation configuration data: its entries, and its input TPID, output TPID and DSCP
+-- to P-bit mapping, attributes 3, 4 and 8
+abbrev pub table_of : Instance → Table
+table_of vlan =
+    record {
+      settings = record {
+        input_tpid = attribute_number 3 vlan;
+        output_tpid = attribute_number 4 vlan;
+        dscp_map = record { 0 = attribute_bytes 8 vlan };
+      };
+      entries = vlan.entries;
+    }
+
+-- the table of a port, if it has one
+unfoldable pub table_at : Entities → ℕ → Option Table
+table_at e port = option_map table_of (option_and_then (λ n. find n e.vlans) (table_of_port e port))
+
+-- the type that begins a tag, beside the two of IEEE 802.1Q: the table's input TPID, or 0x8100 without a table
+unfoldable pub input_tpid_of : Option Table → ℕ
+input_tpid_of None = 0x8100
+input_tpid_of (Some table) = table.settings.input_tpid
+
+-- the entry of a table that is used for a frame
+unfoldable pub entry_for : Table → Reading → Option (List ℕ)
+entry_for table frame =
+    option_map (entry_at table.entries) (choice (matches table.settings.input_tpid frame.tags (type_at 0 frame.rest)) table.entries)
+
+-- the tags that a frame leaves with by a table
+unfoldable pub tags_by : Table → Reading → Result (List TagFields) Reason
+tags_by table frame =
+    found_then (ok_or (entry_for table frame) NoRule) (λ entry.
+    ok_or (treated entry table.settings frame.tags (dscp_of frame.rest)) RuleDiscard)
+
+-- the tags that a frame leaves with: its own without a table
+unfoldable pub tags_at : Option Table → Reading → Result (List TagFields) Reason
+tags_at None frame = Ok frame.tags
+tags_at (Some table) frame = tags_by table frame
 
 -- ---- the mapper (clause 9.3.10)
 
@@ -74,15 +113,15 @@ gem_port_at e port tags = found_then (ok_or (mapper_at e port) NoMapper) (λ map
 
 -- ---- the frame
 
--- a frame as its port reads it
-abbrev pub read_at : Entities → ℕ → List ℕ → Result Reading Reason
-read_at e port bytes = result_map_both (λ frame. frame) reason_of_fault (frame_of (input_tpid_of e port) bytes)
+-- a frame as a port with this table reads it
+abbrev pub read_at : Option Table → List ℕ → Result Reading Reason
+read_at table bytes = result_map_both (λ frame. frame) reason_of_fault (frame_of (input_tpid_of table) bytes)
 
 -- the GEM port by which a frame that comes in at a port leaves, and the frame that leaves, or the first reason to drop it
 unfoldable pub forwarded_by : Entities → ℕ → List ℕ → Result (ℕ × Reading) Reason
 forwarded_by e port bytes =
-    found_then (read_at e port bytes) (λ frame.
-    found_then (tags_at e port frame) (λ tags.
+    found_then (read_at (table_at e port) bytes) (λ frame.
+    found_then (tags_at (table_at e port) frame) (λ tags.
     found_then (gem_port_at e port tags) (λ gem.
     Ok (gem, record frame { tags = tags }))))
 

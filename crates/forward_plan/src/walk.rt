@@ -6,19 +6,20 @@ ghost use Rattle.forward_plan.specs.Size.{GrowsLittle, LeavesLittleMore};
 use crate::gem_port::gem_port_at;
 use crate::out_frame::OutFrame;
 use crate::reason::Reason;
-use crate::table::{input_tpid, tags_at};
+use crate::table::{PortTable, input_tpid, tags_at};
 use crate::verdict::Verdict;
 use mib_state::Mib;
 use tag_view::view;
 
 /// The GEM port by which a frame that comes in at a port leaves, and the frame that leaves, or the first reason to drop it.
-#[tactic(auto, unfolding(crate::specs::Meaning::forwarded_by))]
+#[tactic(auto, unfolding(crate::specs::Meaning::forwarded_by), using(crate::proofs::Spellings::grows_little))]
 fn forwarded_by<'a>(mib: &Mib, port: u16, bytes: &'a [u8]) -> Result<(u16, OutFrame<'a>), Reason>
     ensures found { result ≡ forwarded_by mib.now port bytes.now }
     ensures size { IfOk result (λ found. GrowsLittle bytes.now found.1) }
 {
-    let frame = view(bytes, input_tpid(mib, port))?;
-    let tags = tags_at(mib, port, &frame)?;
+    let table = PortTable::at(mib, port);
+    let frame = view(bytes, input_tpid(&table))?;
+    let tags = tags_at(&table, &frame)?;
     let gem = gem_port_at(mib, port, &tags)?;
     Ok((gem, OutFrame::new(&frame, tags)))
 }

@@ -120,6 +120,10 @@ attribute_of layout (suc place) i = value_at layout place i
 abbrev pub number_of : List ℕ → ℕ
 number_of bytes = big_number (length bytes) bytes
 
--- the number that attribute n spells, numbered from 1
+-- the bytes of attribute n of an instance, numbered from 1
+abbrev pub attribute_bytes : ℕ → Instance → List ℕ
+attribute_bytes n i = slice_index_or i.values (n - 1) []
+
+-- the number that attribute n spells
 abbrev pub attribute_number : ℕ → Instance → ℕ
-attribute_number n i = number_of (slice_index_or i.values (n - 1) [])
+attribute_number n i = number_of (attribute_bytes n i)

@@ -10,11 +10,11 @@ use std::test::Fail;
 
 const CREATE_GEM_PORT: &str = "0001440a010c0401 0400800103";
 
-const CREATED: &str = "0001240a010c0401 00";
+pub(crate) const CREATED: &str = "0001240a010c0401 00";
 
 /// A line with a message: its mark, the digits that it begins with, zeros up to byte 40, and the
 /// trailer.
-fn push_message(text: &mut String, mark: &str, digits: &str) -> Result<(), AllocError> {
+pub(crate) fn push_message(text: &mut String, mark: &str, digits: &str) -> Result<(), AllocError> {
     text.push_str(mark)?;
     let mut count = 0u32;
     for digit in digits.chars() {
@@ -29,7 +29,7 @@ fn push_message(text: &mut String, mark: &str, digits: &str) -> Result<(), Alloc
     text.push_str("0000002800000000\n")
 }
 
-fn messages(alloc: Global, mark: &str, all: &[&str]) -> Result<String, AllocError> {
+pub(crate) fn messages(alloc: Global, mark: &str, all: &[&str]) -> Result<String, AllocError> {
     let mut text = String::new(alloc);
     for digits in all {
         push_message(&mut text, mark, digits)?;
@@ -278,7 +278,7 @@ fn a_report_has_the_words_and_the_status(rt: HostRuntime) -> Result<(), Fail> {
 }
 
 /// A GEM port, an interworking point to it, and the mapper of port 257 to that.
-const PORT_257: [&str; 3] = [
+pub(crate) const PORT_257: [&str; 3] = [
     CREATE_GEM_PORT,
     "0002440a010a0501 0401050601",
     "0003440a00820601 0101 0501050105010501 0501050105010501 010001",

@@ -1,0 +1,208 @@
+//! Frames that leave with other tags, by the table of their port.
+
+use crate::replay::replay;
+use crate::tests::{CREATED, PORT_257, messages, push_message};
+use std::alloc::{AllocError, Global};
+use std::test::Fail;
+
+/// A script and its answers.
+#[derive(Drop)]
+struct Dialogue {
+    script: String,
+    answers: String,
+}
+
+/// The addresses of each frame.
+const ADDRESSES: &str = "020000000001020000000002";
+
+impl Dialogue {
+    /// A mapper, an interworking point and a GEM port for port 257, and a table.
+    fn new(alloc: Global) -> Result<Dialogue, AllocError> {
+        let mut dialogue = Dialogue {
+            script: messages(alloc, "o ", &PORT_257)?,
+            answers: messages(
+                alloc,
+                "r ",
+                &[CREATED, "0002240a010a0501 00", "0003240a00820601 00"],
+            )?,
+        };
+        dialogue.ask("0004440a00ab0701 020101", "0004240a00ab0701 00")?;
+        Ok(dialogue)
+    }
+
+    fn ask(&mut self, message: &str, reply: &str) -> Result<(), AllocError> {
+        push_message(&mut self.script, "o ", message)?;
+        push_message(&mut self.answers, "r ", reply)
+    }
+
+    /// Puts an entry into the table.
+    fn put(&mut self, alloc: Global, entry: &str) -> Result<(), AllocError> {
+        let message = format!(in alloc; "0005480a00ab0701 0400 {entry}")?;
+        self.ask(message.as_str(), "0005280a00ab0701 00")
+    }
+
+    /// Sends a frame, and hears either what leaves or `d N`. Frames are given without their addresses.
+    fn send(&mut self, alloc: Global, frame: &str, answer: &str) -> Result<(), AllocError> {
+        let digits = frame.replace(alloc, " ", "")?;
+        let line = format!(in alloc; "f 257 {ADDRESSES}{digits}\n")?;
+        self.script.push_str(line.as_str())?;
+        let line = if answer.starts_with("d ") {
+            format!(in alloc; "{answer}\n")?
+        } else {
+            let digits = answer.replace(alloc, " ", "")?;
+            format!(in alloc; "g 1024 {ADDRESSES}{digits}\n")?
+        };
+        self.answers.push_str(line.as_str())
+    }
+}
+
+/// What a line of a row is.
+enum Step {
+    /// A message, and the reply.
+    Ask(&'static str, &'static str),
+    /// An entry for the table, which takes it.
+    Put(&'static str),
+    /// A frame, and what becomes of it.
+    Send(&'static str, &'static str),
+}
+
+use Step::{Ask, Put, Send};
+
+const UNTAGGED: &str = "08004500";
+
+const TAGGED_100: &str = "8100a064 08004500";
+
+const DOUBLE: &str = "88a80064 810000c8 08004500";
+
+const PUSH_VLAN_100: &str = "f8000000f8000000 000f000000000324";
+
+const TRANSLATE_100_TO_200: &str = "f800000080320000 400f000000080644";
+
+/// What is written, and what is to be: the answers to the four messages of the port, and to the steps.
+fn answered(alloc: Global, steps: &[Step]) -> Result<(Vec<u8>, String), Fail> {
+    let mut dialogue = Dialogue::new(alloc)?;
+    for step in steps {
+        match step {
+            Ask(message, reply) => dialogue.ask(message, reply)?,
+            Put(entry) => dialogue.put(alloc, entry)?,
+            Send(frame, answer) => dialogue.send(alloc, frame, answer)?,
+        }
+    }
+    let mut written = Vec::new(alloc);
+    let mut reader = dialogue.script.as_bytes();
+    replay(alloc, &mut reader, &mut written)?;
+    Ok((written, dialogue.answers))
+}
+
+#[test]
+fn frames_leave_with_the_tags_of_the_entry_that_is_used(rt: HostRuntime) -> Result<(), Fail> {
+    for (what, steps) in [
+        (
+            "a tag is pushed",
+            &[
+                Send(UNTAGGED, UNTAGGED),
+                Put(PUSH_VLAN_100),
+                Send(UNTAGGED, "81000064 08004500"),
+            ][..],
+        ),
+        (
+            "the first of equal rank is used; a rewritten key keeps its place, a deleted one goes last",
+            &[
+                Put(PUSH_VLAN_100),
+                Put("f8000000f8000001 000f000000000644"),
+                Send(UNTAGGED, "81000064 08004500"),
+                Put("f8000000f8000001 000f000000000964"),
+                Send(UNTAGGED, "81000064 08004500"),
+                Put("f8000000f8000000 000f00000000032c"),
+                Send(UNTAGGED, "81000065 08004500"),
+                Put("f8000000f8000000 ffffffffffffffff"),
+                Send(UNTAGGED, "8100012c 08004500"),
+                Put(PUSH_VLAN_100),
+                Send(UNTAGGED, "8100012c 08004500"),
+            ][..],
+        ),
+        (
+            "a VID is translated, the priority copied",
+            &[
+                Put(TRANSLATE_100_TO_200),
+                Send(TAGGED_100, "8100a0c8 08004500"),
+            ][..],
+        ),
+        (
+            "a default entry discards what no other one matches",
+            &[
+                Put("f8000000e8000000 c00f0000000f0000"),
+                Send(TAGGED_100, "d 4"),
+                Put(TRANSLATE_100_TO_200),
+                Send(TAGGED_100, "8100a0c8 08004500"),
+                Send("8100a065 08004500", "d 4"),
+            ][..],
+        ),
+        (
+            "a predefined entry is rewritten, and deleted",
+            &[
+                Send(DOUBLE, DOUBLE),
+                Put("e0000000e0000000 c00f0000000f0000"),
+                Send(DOUBLE, "d 4"),
+                Put("e0000000e0000000 ffffffffffffffff"),
+                Send(DOUBLE, "d 3"),
+                Put("e0000000e0000000 ffffffffffffffff"),
+                Send(DOUBLE, "d 3"),
+            ][..],
+        ),
+    ] {
+        let (written, answers) = answered(rt.alloc(), steps)?;
+        assert_eq!(rt; written.as_slice(), answers.as_bytes(), "{what}");
+    }
+    Ok(())
+}
+
+#[test]
+fn frames_leave_with_what_the_treatment_copies_and_removes(rt: HostRuntime) -> Result<(), Fail> {
+    for (what, steps) in [
+        (
+            "cut frames, two tags removed of three, no priority left",
+            &[
+                Send("08", "d 1"),
+                Send("0800", "0800"),
+                Send("8100", "d 2"),
+                Send("81000064 8100", "d 2"),
+                Put("8800000088000000 800f0000000f0000"),
+                Ask("0006480a00820601 0080 ffff", "0006280a00820601 00"),
+                Send("88a80064 810000c8 8100e12c 08004500", "8100e12c 08004500"),
+            ][..],
+        ),
+        (
+            "the priority is that of the DSCP, or 0",
+            &[
+                Ask(
+                    "0005480a00ab0701 0100 0000000000000000000000000000000000 28 000000000000",
+                    "0005280a00ab0701 00",
+                ),
+                Put("f8000000f8000000 000f0000000a0324"),
+                Send("0800 45b8", "8100a064 080045b8"),
+                Send("86dd 6b80", "8100a064 86dd6b80"),
+                Send("0806 0001", "81000064 08060001"),
+                Put("f8000000f8000000 ffffffffffffffff"),
+                Send("0800 45b8", "0800 45b8"),
+            ][..],
+        ),
+        (
+            "copies of a missing tag, more removed than there is, the outer one removed, the input TPID",
+            &[
+                Put("f8000000f8000000 000f000000088000"),
+                Send(UNTAGGED, "81000000 08004500"),
+                Put("f800000088000000 800f0000000f0000"),
+                Send("81000064 08004500", UNTAGGED),
+                Put("8800000088000000 400f0000000f0000"),
+                Send(DOUBLE, "810000c8 08004500"),
+                Ask("0005480a00ab0701 2000 0800", "0005280a00ab0701 00"),
+                Send(UNTAGGED, "d 2"),
+            ][..],
+        ),
+    ] {
+        let (written, answers) = answered(rt.alloc(), steps)?;
+        assert_eq!(rt; written.as_slice(), answers.as_bytes(), "{what}");
+    }
+    Ok(())
+}
