@@ -13,7 +13,7 @@ use Rattle.vlan_rule.specs.declared.fault.TableFault.{TableFault}
 use Rattle.vlan_rule.specs.declared.fault.TableFault.TheVariants.{Bad, Full}
 use Rattle.vlan_rule.specs.Table.{Change, put}
 use Rattle.mib_state.specs.Class.{attributes_of, room_of, initial_value, initial_entries, is_table, has_table}
-use Rattle.mib_state.specs.Supported.{is_carried_out, is_known, returns_attributes}
+use Rattle.mib_state.specs.Supported.{is_carried_out, is_known}
 use Rattle.mib_state.specs.Entities.{Entities, Instance, nothing, instances_of, with_instances, find, insert, remove, replace}
 use Rattle.mib_state.specs.Mask.{bit_of, names, unknown_of, given_mask, unwritable_of, named_width}
 use Rattle.mib_state.specs.Answer.{padded, success_code, partial_code, refused, left_by, answer_to, told}
@@ -152,8 +152,7 @@ get_found layout mask (Some i) = Ok (get_contents (length layout) mask (returned
 unfoldable pub get : Entities → Request → Result (List ℕ) Refusal
 get e q =
     if not (is_known q.class) then Err UnknownEntity
-    else (if not (returns_attributes q.class) then Err NotSupported
-    else get_found (attributes_of q.class) (mask_of q.contents) (find q.instance (instances_of e q.class)))
+    else get_found (attributes_of q.class) (mask_of q.contents) (find q.instance (instances_of e q.class))
 
 -- ---- what a change of a class leaves
 

@@ -1,4 +1,4 @@
--- What is supported. The other definitions are of every action and class; these three tables alone say which of them
+-- What is supported. The other definitions are of every action and class; these two tables alone say which of them
 -- are carried out.
 use Rattle.std.specs.Prelude.{ℕ, Bool, true, false, ◌||◌, ◌==◌}
 use Rattle.omci_msg.specs.declared.Action.{Action}
@@ -19,8 +19,3 @@ is_carried_out (Other code) = false
 -- whether a class is known; an action on every other one is answered "unknown managed entity"
 abbrev pub is_known : ℕ → Bool
 is_known class = class == 130 || class == 171 || class == 266 || class == 268
-
--- whether a Get returns the attributes of a known class; on every other one it is answered "not supported", and its
--- instance isn't looked at
-abbrev pub returns_attributes : ℕ → Bool
-returns_attributes class = class == 268

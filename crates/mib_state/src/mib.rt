@@ -248,7 +248,9 @@ impl Mib {
     {
         let mask = mask_of(&request.contents);
         match request.class {
-            MAPPER | VLAN | INTERWORK => Err(Refusal::NotSupported),
+            MAPPER => self.mappers.read(request.instance, mask),
+            VLAN => self.vlans.read(request.instance, mask),
+            INTERWORK => self.interworks.read(request.instance, mask),
             GEM_PORT => self.gem_ports.read(request.instance, mask),
             _ => Err(Refusal::UnknownEntity),
         }

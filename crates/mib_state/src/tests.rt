@@ -114,23 +114,80 @@ fn a_create_is_answered_and_one_that_exists_changes_nothing(rt: HostRuntime) -> 
 }
 
 #[test]
-fn a_get_names_the_attributes_that_the_class_has_not(rt: HostRuntime) -> Result<(), Fail> {
-    let mut mib = Mib::new(rt.alloc())?;
-    let _ = mib.step(&create_gem_port(0x0401));
-    let mut get = request(Action::Get, 268, 0x0401, &[0xff, 0xff]);
-    get.tci = 4;
-    let wanted = Reply {
-        tci: 4,
-        action: Action::Get,
-        class: 268,
-        instance: 0x0401,
-        contents: [
-            9, 0xff, 0xc0, 4, 0, 0x80, 1, 3, 0, 0, 0, 0, 0, 0, 0, 0, 0, 0, 0, 0, 0, 0, 0, 0, 0, 0,
-            0, 0, 0, 0x3f, 0, 0,
-        ],
-    };
-    assert_eq!(rt; mib.step(&get), wanted);
-    assert_eq!(rt; mib.sync(), 1);
+fn a_get_returns_each_attribute_that_fits_and_names_the_others(
+    rt: HostRuntime,
+) -> Result<(), Fail> {
+    let mut mib = set_up(rt.alloc())?;
+    let all = [9, 0xff, 0xc0, 4, 0, 0x80, 1, 3];
+    let table = [0, 4, 0, 0, 0, 0, 0x30];
+    let of_vlan = [
+        9, 0xfe, 0, 2, 0, 64, 0x81, 0, 0x81, 0, 0, 0, 0, 0, 0x30, 1, 1,
+    ];
+    for (class, instance, mask, wanted, last, what) in [
+        (
+            268,
+            0x0401,
+            0xffff,
+            all.as_slice(),
+            [0, 0x3f, 0, 0],
+            "ten that are there, six that aren't",
+        ),
+        (268, 0x0401, 0, [0].as_slice(), [0, 0, 0, 0], "none"),
+        (
+            266,
+            0x0501,
+            0x8100,
+            [0, 0x81, 0, 4, 1, 0].as_slice(),
+            [0, 0, 0, 0],
+            "the first and the last",
+        ),
+        (
+            130,
+            0x0601,
+            0x8020,
+            [9, 0x80, 0, 1, 1].as_slice(),
+            [0, 0, 0, 0x20],
+            "1 and 11",
+        ),
+        (
+            130,
+            0x0601,
+            0x8030,
+            [9, 0x80, 0x10, 1, 1, 0].as_slice(),
+            [0, 0, 0, 0x20],
+            "1, 11 and 12",
+        ),
+        (
+            130,
+            0x0601,
+            0x0030,
+            [0, 0, 0x30].as_slice(),
+            [0, 0, 0, 0],
+            "11 and 12, 25 bytes",
+        ),
+        (
+            171,
+            0x0701,
+            0x0400,
+            table.as_slice(),
+            [0, 0, 0, 0],
+            "the table",
+        ),
+        (
+            171,
+            0x0701,
+            0xff00,
+            of_vlan.as_slice(),
+            [0, 0, 1, 0],
+            "all of a table's",
+        ),
+    ] {
+        let reply = mib.step(&request(Action::Get, class, instance, &u16::to_be_bytes(mask)));
+        let mut contents = contents(wanted);
+        contents[28..].copy_from_slice(&last);
+        assert_eq!(rt; reply.contents, contents, "the answer to a Get of {what}");
+        assert_eq!(rt; mib.sync(), 4, "the sync after a Get of {what}");
+    }
     Ok(())
 }
 
@@ -161,14 +218,8 @@ fn refusals_have_their_results(rt: HostRuntime) -> Result<(), Fail> {
         ),
         (Action::Set, 268, 0x0999, 5, "a Set of one that doesn't"),
         (Action::Get, 268, 0x0999, 5, "a Get of one that doesn't"),
-        (Action::Get, 130, 0x0999, 2, "a Get of a mapper"),
-        (
-            Action::Get,
-            266,
-            0x0999,
-            2,
-            "a Get of an interworking point",
-        ),
+        (Action::Get, 130, 0x0999, 5, "a Get of an absent mapper"),
+        (Action::Get, 171, 0x0999, 5, "a Get of an absent table"),
         (Action::GetNext, 268, 0x0401, 2, "Get next"),
         (Action::MibUpload, 2, 0, 2, "MIB upload"),
         (Action::MibUploadNext, 2, 0, 2, "MIB upload next"),
@@ -454,6 +505,8 @@ fn a_table_holds_64_entries_and_overwrites_a_held_key(rt: HostRuntime) -> Result
     assert_eq!(rt; mib.step(&again).contents, [0; 32]);
     assert_eq!(rt; mib.vlan(0x0701).map(|vlan| vlan.table.len()), Some(64));
     assert_eq!(rt; mib.sync(), 66);
+    let size = request(Action::Get, 171, 0x0701, &[4, 0]);
+    assert_eq!(rt; mib.step(&size).contents, contents(&[0, 4, 0, 0, 0, 4, 0]));
     Ok(())
 }
 
