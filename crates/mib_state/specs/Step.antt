@@ -12,8 +12,8 @@ use Rattle.mib_state.specs.declared.refusal.Refusal.TheVariants.{ProcessingError
 use Rattle.vlan_rule.specs.declared.fault.TableFault.{TableFault}
 use Rattle.vlan_rule.specs.declared.fault.TableFault.TheVariants.{Bad, Full}
 use Rattle.vlan_rule.specs.Table.{Change, put}
-use Rattle.mib_state.specs.Class.{attributes_of, room_of, initial_value, initial_entries, is_table, has_table}
-use Rattle.mib_state.specs.Supported.{is_carried_out, is_known}
+use Rattle.mib_state.specs.Class.{is_known, attributes_of, room_of, initial_value, initial_entries, is_table, has_table}
+use Rattle.mib_state.specs.Supported.{is_carried_out}
 use Rattle.mib_state.specs.Entities.{Entities, Instance, nothing, instances_of, with_instances, find, insert, remove, replace}
 use Rattle.mib_state.specs.Mask.{bit_of, names, unknown_of, given_mask, unwritable_of, named_width}
 use Rattle.mib_state.specs.Answer.{padded, success_code, partial_code, refused, left_by, answer_to, told}

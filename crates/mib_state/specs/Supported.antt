@@ -1,6 +1,5 @@
--- What is supported. The other definitions are of every action and class; these two tables alone say which of them
--- are carried out.
-use Rattle.std.specs.Prelude.{ℕ, Bool, true, false, ◌||◌, ◌==◌}
+-- What is supported. The other definitions are of every action; this table alone says which of them are carried out.
+use Rattle.std.specs.Prelude.{Bool, true, false}
 use Rattle.omci_msg.specs.declared.Action.{Action}
 use Rattle.omci_msg.specs.declared.Action.TheVariants.{Create, Delete, Set, Get, GetNext, MibUpload, MibUploadNext, MibReset, Other}
 
@@ -15,7 +14,3 @@ is_carried_out MibUpload = false
 is_carried_out MibUploadNext = false
 is_carried_out MibReset = false
 is_carried_out (Other code) = false
-
--- whether a class is known; an action on every other one is answered "unknown managed entity"
-abbrev pub is_known : ℕ → Bool
-is_known class = class == 130 || class == 171 || class == 266 || class == 268

@@ -168,6 +168,7 @@ impl Mib {
         ensures after { self.new ≡ left_by self.old (create self.old request.now) }
     {
         match request.class {
+            ONU_DATA => Err(Refusal::NotSupported),
             MAPPER => {
                 let outcome = self.mappers.create(request.instance, &request.contents);
                 self.counted(outcome)
@@ -194,6 +195,7 @@ impl Mib {
         ensures after { self.new ≡ left_by self.old (delete self.old request.now) }
     {
         match request.class {
+            ONU_DATA => Err(Refusal::NotSupported),
             MAPPER => {
                 let outcome = self.mappers.delete(request.instance);
                 self.counted(outcome)
@@ -222,6 +224,7 @@ impl Mib {
         let mask = mask_of(&request.contents);
         let bytes = set_values(&request.contents);
         match request.class {
+            ONU_DATA => self.onu_data.set(request.instance, mask, bytes),
             MAPPER => {
                 let outcome = self.mappers.set(request.instance, mask, bytes);
                 self.counted(outcome)
@@ -248,6 +251,7 @@ impl Mib {
     {
         let mask = mask_of(&request.contents);
         match request.class {
+            ONU_DATA => self.onu_data.read(request.instance, mask),
             MAPPER => self.mappers.read(request.instance, mask),
             VLAN => self.vlans.read(request.instance, mask),
             INTERWORK => self.interworks.read(request.instance, mask),

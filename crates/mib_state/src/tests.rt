@@ -192,6 +192,85 @@ fn a_get_returns_each_attribute_that_fits_and_names_the_others(
 }
 
 #[test]
+fn the_sync_is_an_attribute_of_onu_data_and_a_set_of_it_counts_nothing(
+    rt: HostRuntime,
+) -> Result<(), Fail> {
+    let mut mib = Mib::new(rt.alloc())?;
+    let get = request(Action::Get, 2, 0, &[0x80, 0]);
+    let get_two = request(Action::Get, 2, 0, &[0xc0, 0]);
+    for (sent, wanted, last, sync, what) in [
+        (
+            create_gem_port(0x0401),
+            [0, 0, 0, 0, 0],
+            [0, 0],
+            1,
+            "a Create",
+        ),
+        (
+            create_gem_port(0x0401),
+            [7, 0, 0, 0, 0],
+            [0, 0],
+            1,
+            "the same again",
+        ),
+        (get, [0, 0x80, 0, 1, 0], [0, 0], 1, "a Get of the sync"),
+        (
+            get_two,
+            [9, 0x80, 0, 1, 0],
+            [0x40, 0],
+            1,
+            "a Get of two attributes",
+        ),
+        (
+            set(2, 0, 0x8000, &[254]),
+            [0, 0, 0, 0, 0],
+            [0, 0],
+            254,
+            "a Set of the sync",
+        ),
+        (
+            set(2, 0, 0, &[7]),
+            [0, 0, 0, 0, 0],
+            [0, 0],
+            254,
+            "a Set of nothing",
+        ),
+        (
+            set(2, 0, 0xc000, &[7]),
+            [9, 0x40, 0, 0, 0],
+            [0, 0],
+            254,
+            "a Set of two attributes",
+        ),
+        (
+            create_gem_port(0x0402),
+            [0, 0, 0, 0, 0],
+            [0, 0],
+            255,
+            "a Create",
+        ),
+        (
+            create_gem_port(0x0403),
+            [0, 0, 0, 0, 0],
+            [0, 0],
+            1,
+            "a third Create",
+        ),
+    ] {
+        let mut contents = contents(&wanted);
+        contents[28..30].copy_from_slice(&last);
+        assert_eq!(rt; mib.step(&sent).contents, contents, "the answer to {what}");
+        assert_eq!(rt; mib.sync(), sync, "the sync after {what}");
+        let shown = mib.attribute(2, 0, 1);
+        assert_eq!(rt;
+            shown.as_ref().map(|bytes| bytes.as_slice()),
+            Some([sync].as_slice())
+        );
+    }
+    Ok(())
+}
+
+#[test]
 fn refusals_have_their_results(rt: HostRuntime) -> Result<(), Fail> {
     let mut mib = Mib::new(rt.alloc())?;
     let _ = mib.step(&create_gem_port(0x0401));
@@ -220,6 +299,24 @@ fn refusals_have_their_results(rt: HostRuntime) -> Result<(), Fail> {
         (Action::Get, 268, 0x0999, 5, "a Get of one that doesn't"),
         (Action::Get, 130, 0x0999, 5, "a Get of an absent mapper"),
         (Action::Get, 171, 0x0999, 5, "a Get of an absent table"),
+        (Action::Create, 2, 0, 2, "the creation of ONU data"),
+        (
+            Action::Create,
+            2,
+            0xffff,
+            2,
+            "that of its instance that means none",
+        ),
+        (Action::Delete, 2, 0, 2, "the deletion of ONU data"),
+        (
+            Action::Delete,
+            2,
+            7,
+            2,
+            "that of an instance that isn't there",
+        ),
+        (Action::Set, 2, 1, 5, "a Set of a second ONU data"),
+        (Action::Get, 2, 1, 5, "a Get of a second ONU data"),
         (Action::GetNext, 268, 0x0401, 2, "Get next"),
         (Action::MibUpload, 2, 0, 2, "MIB upload"),
         (Action::MibUploadNext, 2, 0, 2, "MIB upload next"),
