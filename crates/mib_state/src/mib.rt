@@ -260,6 +260,17 @@ impl Mib {
         }
     }
 
+    /// No instance, and sync 0.
+    fn reset(&mut self)
+        ensures { self.new ≡ nothing }
+    {
+        self.onu_data.sync = 0;
+        self.mappers.clear();
+        self.vlans.clear();
+        self.interworks.clear();
+        self.gem_ports.clear();
+    }
+
     /// Carries a request out, and gives the contents of its answer.
     #[tactic(auto, using(crate::proofs::Answered::answer_to_outcome))]
     fn carry_out(&mut self, request: &Request) -> [u8; 32]
@@ -271,6 +282,10 @@ impl Mib {
             Action::Delete => answer_to(self.delete(request)),
             Action::Set => answer_to(self.set(request)),
             Action::Get => told(self.get(request)),
+            Action::MibReset => {
+                self.reset();
+                [0; 32]
+            }
             _ => Refusal::NotSupported.contents(),
         }
     }

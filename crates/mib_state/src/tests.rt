@@ -320,7 +320,6 @@ fn refusals_have_their_results(rt: HostRuntime) -> Result<(), Fail> {
         (Action::GetNext, 268, 0x0401, 2, "Get next"),
         (Action::MibUpload, 2, 0, 2, "MIB upload"),
         (Action::MibUploadNext, 2, 0, 2, "MIB upload next"),
-        (Action::MibReset, 2, 0, 2, "MIB reset"),
         (other, 2, 0, 2, "Get all alarms next"),
     ] {
         let reply = mib.step(&request(action, class, instance, &[0xff, 0xff]));
@@ -345,6 +344,93 @@ fn the_sync_goes_from_255_to_1_and_the_room_ends_at_256(rt: HostRuntime) -> Resu
     assert_eq!(rt; mib.gem_port(1000).copied(), None);
     assert_eq!(rt; mib.gem_port(999).is_some(), true);
     assert_eq!(rt; mib.gem_port(744).is_some(), true);
+    Ok(())
+}
+
+#[test]
+fn a_mib_reset_leaves_no_instance_and_sync_0(rt: HostRuntime) -> Result<(), Fail> {
+    let mut mib = set_up(rt.alloc())?;
+    // Its class and its instance aren't looked at.
+    let reset = request(Action::MibReset, 45, 0xffff, &[0xff]);
+    let write = set(268, 0x0401, 0x8000, &[4, 0]);
+    assert_eq!(rt; mib.step(&reset).contents, [0; 32]);
+    assert_eq!(rt; mib.sync(), 0);
+    for class in [130, 171, 266, 268] {
+        assert_eq!(rt;
+            mib.next_instance(class, 0),
+            None,
+            "class {class} after a MIB reset"
+        );
+    }
+    assert_eq!(rt; mib.step(&create_gem_port(0x0401)).contents, [0; 32]);
+    for _n in 0..254 {
+        assert_eq!(rt; mib.step(&write).contents, [0; 32]);
+    }
+    assert_eq!(rt; mib.sync(), 0xff);
+    assert_eq!(rt; mib.step(&write).contents, [0; 32]);
+    assert_eq!(rt; mib.sync(), 1);
+    for number in 0..15 {
+        assert_eq!(rt; mib.step(&create_vlan(number, 257)).contents, [0; 32]);
+    }
+    assert_eq!(rt; mib.step(&reset).contents, [0; 32]);
+    assert_eq!(rt; mib.sync(), 0);
+    for number in 0..16 {
+        assert_eq!(rt; mib.step(&create_vlan(number, 257)).contents, [0; 32]);
+    }
+    assert_eq!(rt; mib.step(&create_vlan(16, 257)).contents, contents(&[1]));
+    Ok(())
+}
+
+#[test]
+fn the_first_refusal_counts_and_the_room_ends_at_256(rt: HostRuntime) -> Result<(), Fail> {
+    let mut mib = set_up(rt.alloc())?;
+    let alarms = Action::Other(OtherCode { code: 25 });
+    for (sent, wanted, what) in [
+        (
+            request(Action::Create, 45, 1, &[]),
+            [4, 0, 0, 0, 0, 0, 0],
+            "an unknown class",
+        ),
+        (
+            request(Action::Create, 2, 0, &[]),
+            [2, 0, 0, 0, 0, 0, 0],
+            "the creation of ONU data",
+        ),
+        (
+            create_gem_port(0xffff),
+            [3, 0, 0, 0, 0, 0, 0],
+            "the instance that means none",
+        ),
+        (
+            request(Action::Delete, 268, 0x0999, &[]),
+            [5, 0, 0, 0, 0, 0, 0],
+            "an absent instance",
+        ),
+        (
+            request(alarms, 2, 0, &[]),
+            [2, 0, 0, 0, 0, 0, 0],
+            "Get all alarms next",
+        ),
+        (
+            request(Action::Get, 171, 0x0701, &[4, 0]),
+            [0, 4, 0, 0, 0, 0, 0x30],
+            "a Get of a table",
+        ),
+    ] {
+        assert_eq!(rt;
+            mib.step(&sent).contents,
+            contents(&wanted),
+            "the answer to {what}"
+        );
+    }
+    for number in 0..255 {
+        assert_eq!(rt;
+            mib.step(&create_gem_port(number)).contents,
+            [0; 32],
+            "Create {number}"
+        );
+    }
+    assert_eq!(rt; mib.step(&create_gem_port(255)).contents, contents(&[1]));
     Ok(())
 }
 
