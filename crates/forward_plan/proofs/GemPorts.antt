@@ -3,9 +3,9 @@ use Rattle.std.proofs.Common.{◌≡◌, ℕ, ◌^◌, ◌<◌, Bool, true, fals
 use Rattle.std.specs.Prelude.{ok_or, Result}
 use Rattle.std.specs.Bool.{then_some}
 use Rattle.tag_view.specs.Tag.{TagFields}
-use Rattle.mib_state.specs.declared.mapper.Mapper.{Mapper}
-use Rattle.mib_state.specs.declared.interwork.Interwork.{Interwork}
-use Rattle.mib_state.specs.declared.gem_port.GemPort.{GemPort}
+use Rattle.pmapper.specs.declared.mapper.Mapper.{Mapper}
+use Rattle.pmapper.specs.declared.interwork.Interwork.{Interwork}
+use Rattle.pmapper.specs.declared.gem_port.GemPort.{GemPort}
 use Rattle.mib_state.specs.Entities.{Entities, Instance, find}
 use Rattle.mib_state.specs.Shown.{mapper_instance, interwork_instance, gem_port_instance}
 use Rattle.forward_plan.specs.declared.reason.Reason.{Reason}

@@ -2,9 +2,9 @@
 use Rattle.std.proofs.Common.{◌≡◌, ℕ, zero, suc, ◌+◌, ◌/◌, ◌%◌, ◌^◌, ◌<◌, ◌≢◌, [], ◌∷◌, Some, None, arith, refl}
 use Rattle.std.proofs.lemmas.Bool.{ne_eqb}
 use Rattle.std.specs.Prelude.{slice_index}
-use Rattle.mib_state.specs.declared.mapper.Mapper.{Mapper}
-use Rattle.mib_state.specs.declared.interwork.Interwork.{Interwork}
-use Rattle.mib_state.specs.declared.gem_port.GemPort.{GemPort}
+use Rattle.pmapper.specs.declared.mapper.Mapper.{Mapper}
+use Rattle.pmapper.specs.declared.interwork.Interwork.{Interwork}
+use Rattle.pmapper.specs.declared.gem_port.GemPort.{GemPort}
 use Rattle.mib_state.specs.Entities.{attribute_number, number_of}
 use Rattle.mib_state.specs.Shown.{mapper_instance, interwork_instance, gem_port_instance}
 use Rattle.forward_plan.specs.Meaning.{pointer_of}

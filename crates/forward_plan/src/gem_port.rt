@@ -5,7 +5,8 @@ ghost use Rattle.forward_plan.specs.Meaning.{mapper_at, carries_upstream, port_i
 
 use crate::mapping::{pointer, priority};
 use crate::reason::Reason;
-use mib_state::{GemPort, Interwork, Mapper, Mib};
+use mib_state::Mib;
+use pmapper::{GemPort, Interwork, Mapper};
 use tag_view::Tag;
 
 /// The mapper of a port.

@@ -3,7 +3,7 @@ ghost use Rattle.std.specs.Prelude.{◌≡◌, ◌<◌, ℕ};
 ghost use Rattle.mib_state.specs.Shown.{mapper_instance};
 ghost use Rattle.forward_plan.specs.Meaning.{priority_of, pointer_of};
 
-use mib_state::Mapper;
+use pmapper::Mapper;
 use tag_view::Tag;
 
 /// The priority of a frame that leaves with these tags, outermost first.

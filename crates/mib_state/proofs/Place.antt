@@ -17,7 +17,7 @@ use Rattle.mib_state.specs.Entities.{blank, Instance, find, insert, remove, repl
 pub tail_at : (x : Instance) (l : List Instance) (n i : ℕ) → IsAt (x ∷ l) n (suc i) → IsAt l n i
 tail_at x l n i at = record { in_range = omega (arith, at.in_range); has_number = at.has_number }
 
-tail_gap : (x : Instance) (l : List Instance) (n i : ℕ) → IsGapFor (x ∷ l) n (suc i) → IsGapFor l n i
+pub tail_gap : (x : Instance) (l : List Instance) (n i : ℕ) → IsGapFor (x ∷ l) n (suc i) → IsGapFor l n i
 tail_gap x l n i gap = record {
   in_range = omega (arith, gap.in_range);
   smaller_before = λ j lt. gap.smaller_before (suc j) (omega arith);
@@ -29,7 +29,7 @@ tail_ascending x l up i j lt in_range = up (suc i) (suc j) (omega arith) (omega 
 
 -- ---- a number that is there
 
-head_smaller : (x : Instance) (l : List Instance) (n i : ℕ) → IsAscending (x ∷ l) → IsAt (x ∷ l) n (suc i) → x.number < n
+pub head_smaller : (x : Instance) (l : List Instance) (n i : ℕ) → IsAscending (x ∷ l) → IsAt (x ∷ l) n (suc i) → x.number < n
 head_smaller x l n i up at = omega (arith, up zero (suc i) (omega arith) at.in_range, at.has_number)
 
 pub find_at : (l : List Instance) (n i : ℕ) → IsAscending l → IsAt l n i → find n l ≡ Some (get_or l i blank)

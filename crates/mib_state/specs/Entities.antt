@@ -1,5 +1,5 @@
 -- The managed entities as one value.
-use Rattle.std.specs.Prelude.{ℕ, zero, suc, ◌-◌, ◌<◌, ◌≤◌, ◌≡◌, ◌==◌, nat_lt, List, [], ◌∷◌, Option, Some, None, if◌then◌else◌, length, slice_get, slice_index, slice_index_or}
+use Rattle.std.specs.Prelude.{ℕ, zero, suc, ◌-◌, ◌<◌, ◌≤◌, ◌≡◌, ◌==◌, nat_lt, nat_le, List, [], ◌∷◌, Option, Some, None, if◌then◌else◌, length, slice_get, slice_index, slice_index_or}
 use Rattle.byteorder.specs.Endian.{big_number}
 use Rattle.mib_state.specs.declared.attribute.Attribute.{Attribute}
 use Rattle.mib_state.specs.Class.{table_at}
@@ -61,6 +61,11 @@ shown_as n values entries = record { number = n; values = values; entries = entr
 abbrev pub find : ℕ → List Instance → Option Instance
 find n [] = None
 find n (i ∷ rest) = if i.number == n then Some i else find n rest
+
+-- the least number that isn't under another: the first, for the numbers rise
+abbrev pub next : ℕ → List Instance → Option ℕ
+next from [] = None
+next from (i ∷ rest) = if nat_le from i.number then Some i.number else next from rest
 
 -- with a new instance, before those of greater numbers
 abbrev pub insert : Instance → List Instance → List Instance

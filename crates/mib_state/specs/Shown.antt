@@ -1,10 +1,10 @@
 -- The types of the classes as instances: the number, and the bytes of the attributes in ascending order.
 use Rattle.std.specs.Prelude.{ℕ, List, [], ◌∷◌, slice_index}
 use Rattle.byteorder.specs.Endian.{big_bytes}
-use Rattle.mib_state.specs.declared.mapper.Mapper.{Mapper}
+use Rattle.pmapper.specs.declared.mapper.Mapper.{Mapper}
 use Rattle.mib_state.specs.declared.vlan.VlanConfig.{VlanConfig}
-use Rattle.mib_state.specs.declared.interwork.Interwork.{Interwork}
-use Rattle.mib_state.specs.declared.gem_port.GemPort.{GemPort}
+use Rattle.pmapper.specs.declared.interwork.Interwork.{Interwork}
+use Rattle.pmapper.specs.declared.gem_port.GemPort.{GemPort}
 use Rattle.mib_state.specs.Entities.{Instance}
 
 abbrev pub mapper_values : Mapper → List (List ℕ)

@@ -1,7 +1,7 @@
 //! The instances of a class, by ascending number, in room that is reserved.
 ghost use Rattle.std.specs.Prelude.{◌≡◌, [], length, map, option_map, IfOk, IfErr, vec_len, vec_capacity, ◌≤◌};
 ghost use Rattle.mib_state.specs.Class.{table_at};
-ghost use Rattle.mib_state.specs.Entities.{find, shown_as, value_at, IsAt, IsGapFor};
+ghost use Rattle.mib_state.specs.Entities.{find, next, shown_as, value_at, IsAscending, IsAt, IsGapFor};
 ghost use Rattle.mib_state.specs.Attached.{least_instance};
 ghost use Rattle.mib_state.specs.Answer.{outcome_of, left_by};
 ghost use Rattle.mib_state.specs.Step.{get_found, create_in, delete_in, set_in};
@@ -131,6 +131,18 @@ impl<E: ManagedEntity> Instances<E> {
         }
     }
 
+    /// The least number that isn't under another.
+    pub fn next(&self, from: u16) -> Option<u16>
+        ensures value { result ≡ next from self.now }
+        ensures ascending { IsAscending self.now }
+    {
+        match self.search(from) {
+            Ok(_) => Some(from),
+            Err(at) if at < self.rows.len() => Some(self.rows[at].number),
+            Err(_) => None,
+        }
+    }
+
     /// Deletes an instance.
     #[tactic(auto, unfolding(crate::specs::Step::delete_in))]
     pub fn delete(&mut self, number: u16) -> Result<(), Refusal>
@@ -144,6 +156,15 @@ impl<E: ManagedEntity> Instances<E> {
                 Ok(())
             }
             Err(_) => Err(Refusal::UnknownInstance),
+        }
+    }
+
+    /// Deletes them all.
+    pub fn clear(&mut self)
+        ensures { self.new ≡ [] }
+    {
+        while let Some(Row { number: _, entity }) = self.rows.pop() {
+            let _ = self.spare.push(entity);
         }
     }
 }

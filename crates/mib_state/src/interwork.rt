@@ -6,22 +6,8 @@ use crate::attribute::Attribute;
 use crate::bytes::{Bytes, byte, number, one, two};
 use crate::entity::ManagedEntity;
 use crate::refusal::Refusal;
+use pmapper::Interwork;
 use std::alloc::{AllocError, Global};
-
-/// A GEM interworking termination point, which leads frames to a GEM port (ITU-T G.988, clause 9.2.4). The fields are its
-/// attributes in ascending order; only the first has an effect on forwarding.
-#[derive(Clone, Copy, Debug, Default, PartialEq, Eq)]
-pub struct Interwork {
-    /// The GEM port network CTP that it is connected to.
-    pub gem_port_pointer: u16,
-    pub interworking_option: u8,
-    pub service_profile_pointer: u16,
-    pub interworking_tp_pointer: u16,
-    pub pptp_counter: u8,
-    pub operational_state: u8,
-    pub gal_profile_pointer: u16,
-    pub gal_loopback_configuration: u8,
-}
 
 static LAYOUT: [Attribute; 8] = [
     Attribute::GIVEN_2, // GEM port network CTP connectivity pointer

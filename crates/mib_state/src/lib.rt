@@ -33,9 +33,6 @@ mod set;
 mod vlan;
 mod write;
 
-pub use gem_port::GemPort;
-pub use interwork::Interwork;
-pub use mapper::Mapper;
 pub use mib::Mib;
 pub use vlan::VlanConfig;
 

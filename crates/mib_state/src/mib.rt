@@ -1,7 +1,7 @@
 //! The management information base, and one step of it.
 ghost use Rattle.std.specs.Prelude.{◌≡◌, IfOk, option_map, length, drop};
 ghost use Rattle.mib_state.specs.Class.{attributes_of};
-ghost use Rattle.mib_state.specs.Entities.{nothing, instances_of, find, attribute_of};
+ghost use Rattle.mib_state.specs.Entities.{nothing, instances_of, find, next, attribute_of, IsAscending};
 ghost use Rattle.mib_state.specs.Attached.{mapper_of_port, table_of_port};
 ghost use Rattle.mib_state.specs.Answer.{outcome_of, left_by, answer_to, told};
 ghost use Rattle.mib_state.specs.Shown.{mapper_instance, vlan_instance, interwork_instance, gem_port_instance};
@@ -9,16 +9,14 @@ ghost use Rattle.mib_state.specs.Step.{create, delete, set, get, step, counted_i
 
 use crate::bytes::Bytes;
 use crate::entity::ManagedEntity;
-use crate::gem_port::GemPort;
 use crate::instances::Instances;
-use crate::interwork::Interwork;
-use crate::mapper::Mapper;
 use crate::onu_data::OnuData;
 use crate::refusal::Refusal;
 use crate::vlan::VlanConfig;
 use arrayvec::ArrayVec;
 use byteorder::{BigEndian, ByteOrder};
 use omci_msg::{Action, Reply, Request};
+use pmapper::{GemPort, Interwork, Mapper};
 use std::alloc::{AllocError, Global};
 use std::marker::Model;
 
@@ -76,6 +74,22 @@ impl Mib {
         ensures { result ≡ self.now.sync }
     {
         self.onu_data.sync
+    }
+
+    /// The least number of an instance of a class that isn't under another: the first, since the numbers of a class rise.
+    /// ONU data, class 2, has instance 0; a class that isn't known has none.
+    pub fn next_instance(&self, class: u16, from: u16) -> Option<u16>
+        ensures value { result ≡ next from (instances_of self.now class) }
+        ensures ascending { IsAscending (instances_of self.now class) }
+    {
+        match class {
+            ONU_DATA if from == 0 => Some(0),
+            MAPPER => self.mappers.next(from),
+            VLAN => self.vlans.next(from),
+            INTERWORK => self.interworks.next(from),
+            GEM_PORT => self.gem_ports.next(from),
+            _ => None,
+        }
     }
 
     /// The bytes of attribute `n` of an instance, attributes numbered from 1: None for what isn't there and for a table.
@@ -154,6 +168,7 @@ impl Mib {
         ensures after { self.new ≡ left_by self.old (create self.old request.now) }
     {
         match request.class {
+            ONU_DATA => Err(Refusal::NotSupported),
             MAPPER => {
                 let outcome = self.mappers.create(request.instance, &request.contents);
                 self.counted(outcome)
@@ -180,6 +195,7 @@ impl Mib {
         ensures after { self.new ≡ left_by self.old (delete self.old request.now) }
     {
         match request.class {
+            ONU_DATA => Err(Refusal::NotSupported),
             MAPPER => {
                 let outcome = self.mappers.delete(request.instance);
                 self.counted(outcome)
@@ -208,6 +224,7 @@ impl Mib {
         let mask = mask_of(&request.contents);
         let bytes = set_values(&request.contents);
         match request.class {
+            ONU_DATA => self.onu_data.set(request.instance, mask, bytes),
             MAPPER => {
                 let outcome = self.mappers.set(request.instance, mask, bytes);
                 self.counted(outcome)
@@ -234,10 +251,24 @@ impl Mib {
     {
         let mask = mask_of(&request.contents);
         match request.class {
-            MAPPER | VLAN | INTERWORK => Err(Refusal::NotSupported),
+            ONU_DATA => self.onu_data.read(request.instance, mask),
+            MAPPER => self.mappers.read(request.instance, mask),
+            VLAN => self.vlans.read(request.instance, mask),
+            INTERWORK => self.interworks.read(request.instance, mask),
             GEM_PORT => self.gem_ports.read(request.instance, mask),
             _ => Err(Refusal::UnknownEntity),
         }
+    }
+
+    /// No instance, and sync 0.
+    fn reset(&mut self)
+        ensures { self.new ≡ nothing }
+    {
+        self.onu_data.sync = 0;
+        self.mappers.clear();
+        self.vlans.clear();
+        self.interworks.clear();
+        self.gem_ports.clear();
     }
 
     /// Carries a request out, and gives the contents of its answer.
@@ -251,6 +282,10 @@ impl Mib {
             Action::Delete => answer_to(self.delete(request)),
             Action::Set => answer_to(self.set(request)),
             Action::Get => told(self.get(request)),
+            Action::MibReset => {
+                self.reset();
+                [0; 32]
+            }
             _ => Refusal::NotSupported.contents(),
         }
     }
