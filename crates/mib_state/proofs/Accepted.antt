@@ -6,33 +6,24 @@ use Rattle.omci_msg.specs.declared.Request.{Request}
 use Rattle.omci_msg.specs.declared.Action.{Action}
 use Rattle.omci_msg.specs.declared.Action.TheVariants.{Create, Delete, Set, Get, GetNext, MibUpload, MibUploadNext, MibReset, Other}
 use Rattle.mib_state.specs.declared.refusal.Refusal.{Refusal}
-use Rattle.mib_state.specs.declared.refusal.Refusal.TheVariants.{NotSupported}
-use Rattle.mib_state.specs.Answer.{refused}
-use Rattle.mib_state.specs.Supported.{is_carried_out}
 use Rattle.mib_state.specs.Entities.{Entities, nothing}
-use Rattle.mib_state.specs.Step.{changed, create, delete, set, effect_of, carried_out, step}
+use Rattle.mib_state.specs.Step.{changed, create, delete, set, carried_out, step}
 use Rattle.mib_state.specs.After.{may_change, is_accepted, after_from, accepted_from, AcceptedSuffice}
 
 changed_refused : (e : Entities) (r : Result Entities Refusal) → nat_eq (slice_index (changed e r).0 0) 0 ≡ false → (changed e r).1 ≡ e
 changed_refused e (Ok now) h = absurd (false≢true (sym h))
 changed_refused e (Err refusal) h = refl
 
-effect_refused : (a : Action) (e : Entities) (q : Request) → (may_change a && nat_eq (slice_index (effect_of a e q).0 0) 0) ≡ false → (effect_of a e q).1 ≡ e
-effect_refused Create e q h = changed_refused e (create e q) h
-effect_refused Delete e q h = changed_refused e (delete e q) h
-effect_refused Set e q h = changed_refused e (set e q) h
-effect_refused Get e q h = refl
-effect_refused GetNext e q h = refl
-effect_refused MibUpload e q h = refl
-effect_refused MibUploadNext e q h = refl
-effect_refused MibReset e q h = absurd (false≢true (sym h))
-effect_refused (Other code) e q h = refl
-
 action_refused : (a : Action) (e : Entities) (q : Request) → (may_change a && nat_eq (slice_index (carried_out a e q).0 0) 0) ≡ false → (carried_out a e q).1 ≡ e
-action_refused a e q = elim (is_carried_out a) as (λ b. (may_change a && nat_eq (slice_index (cond b (effect_of a e q) (refused NotSupported, e)).0 0) 0) ≡ false → (cond b (effect_of a e q) (refused NotSupported, e)).1 ≡ e) [
-  | true ↦ effect_refused a e q
-  | false ↦ λ h. refl
-]
+action_refused Create e q h = changed_refused e (create e q) h
+action_refused Delete e q h = changed_refused e (delete e q) h
+action_refused Set e q h = changed_refused e (set e q) h
+action_refused Get e q h = refl
+action_refused GetNext e q h = refl
+action_refused MibUpload e q h = refl
+action_refused MibUploadNext e q h = refl
+action_refused MibReset e q h = absurd (false≢true (sym h))
+action_refused (Other code) e q h = refl
 
 left_by_refused : (e : Entities) (q : Request) → is_accepted e q ≡ false → (step e q).1 ≡ e
 left_by_refused e q h = action_refused q.action e q h

@@ -1,7 +1,7 @@
 -- What a change of one class leaves of the entities.
-use Rattle.std.proofs.Common.{◌≡◌, ℕ, List, Bool, true, false, nat_eq, cond, Result, Ok, Err, [], refl, sym, ap}
+use Rattle.std.proofs.Common.{◌≡◌, ℕ, List, Bool, true, false, nat_eq, cond, Result, Ok, Err, [], ◌∷◌, refl, sym, ap}
 use Rattle.mib_state.specs.declared.refusal.Refusal.{Refusal}
-use Rattle.mib_state.specs.Entities.{Entities, Instance, instances_of, with_instances}
+use Rattle.mib_state.specs.Entities.{Entities, Instance, onu_data, sync_of, instances_of, with_instances}
 use Rattle.mib_state.specs.Answer.{outcome_of, left_by}
 use Rattle.mib_state.specs.Step.{counted, counted_if, next_sync}
 
@@ -35,4 +35,10 @@ left_by_counted e class (Ok l) other =
     (sym (same_sync e l (nat_eq class 130) (nat_eq class 171) (nat_eq class 266) (nat_eq class 268))))
 left_by_counted e class (Err refusal) other = rw other (same_instances e (nat_eq class 130) (nat_eq class 171) (nat_eq class 266) (nat_eq class 268))
 
-pub ruleset counts = (outcome_of_counted, left_by_counted)
+-- a Set of ONU data leaves its sync, and counts nothing
+pub left_by_sync : (e : Entities) (r : Result (List Instance) Refusal)
+    → left_by e (counted e 2 r) ≡ record e { sync = sync_of (left_by (onu_data e.sync ∷ []) r) }
+left_by_sync e (Ok l) = refl
+left_by_sync e (Err refusal) = refl
+
+pub ruleset counts = (outcome_of_counted, left_by_counted, left_by_sync)

@@ -10,6 +10,7 @@ pub mod Edits
 pub mod Setting
 pub mod Entry
 pub mod Counted
+pub mod Sync
 pub mod Answered
 pub mod Attached
 pub mod Accepted

@@ -1,6 +1,6 @@
 -- The attributes of each class of managed entities (ITU-T G.988, clause 9), as data. Attribute n of a class stands at
 -- place n - 1 of the list.
-use Rattle.std.specs.Prelude.{ℕ, suc, zero, Bool, true, false, ◌&&◌, List, [], ◌∷◌, Option, Some, None, unwrap_or, if◌then◌else◌, ◌==◌}
+use Rattle.std.specs.Prelude.{ℕ, suc, zero, Bool, true, false, ◌&&◌, List, [], ◌∷◌, Option, Some, None, is_some, unwrap_or, if◌then◌else◌, ◌==◌}
 use Rattle.byteorder.specs.Endian.{big_bytes}
 use Rattle.vlan_rule.specs.Table.{predefined}
 use Rattle.mib_state.specs.declared.attribute.Access.{Access}
@@ -121,7 +121,11 @@ layout_of class =
     else (if class == 266 then Some interwork_layout
     else (if class == 268 then Some gem_port_layout else None))))
 
--- the same, none where there is no such class
+-- whether there is such a class; an action on any other is answered "unknown managed entity"
+abbrev pub is_known : ℕ → Bool
+is_known class = is_some (layout_of class)
+
+-- its attributes, none where there is no such class
 abbrev pub attributes_of : ℕ → List Attribute
 attributes_of class = unwrap_or (layout_of class) []
 

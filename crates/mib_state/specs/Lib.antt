@@ -1,5 +1,4 @@
 pub mod Class
-pub mod Supported
 pub mod Entities
 pub mod Mask
 pub mod Answer

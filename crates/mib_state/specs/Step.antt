@@ -12,8 +12,7 @@ use Rattle.mib_state.specs.declared.refusal.Refusal.TheVariants.{ProcessingError
 use Rattle.vlan_rule.specs.declared.fault.TableFault.{TableFault}
 use Rattle.vlan_rule.specs.declared.fault.TableFault.TheVariants.{Bad, Full}
 use Rattle.vlan_rule.specs.Table.{Change, put}
-use Rattle.mib_state.specs.Class.{attributes_of, room_of, initial_value, initial_entries, is_table, has_table}
-use Rattle.mib_state.specs.Supported.{is_carried_out, is_known, returns_attributes}
+use Rattle.mib_state.specs.Class.{is_known, attributes_of, room_of, initial_value, initial_entries, is_table, has_table}
 use Rattle.mib_state.specs.Entities.{Entities, Instance, nothing, instances_of, with_instances, find, insert, remove, replace}
 use Rattle.mib_state.specs.Mask.{bit_of, names, unknown_of, given_mask, unwritable_of, named_width}
 use Rattle.mib_state.specs.Answer.{padded, success_code, partial_code, refused, left_by, answer_to, told}
@@ -152,8 +151,7 @@ get_found layout mask (Some i) = Ok (get_contents (length layout) mask (returned
 unfoldable pub get : Entities → Request → Result (List ℕ) Refusal
 get e q =
     if not (is_known q.class) then Err UnknownEntity
-    else (if not (returns_attributes q.class) then Err NotSupported
-    else get_found (attributes_of q.class) (mask_of q.contents) (find q.instance (instances_of e q.class)))
+    else get_found (attributes_of q.class) (mask_of q.contents) (find q.instance (instances_of e q.class))
 
 -- ---- what a change of a class leaves
 
@@ -195,21 +193,17 @@ set e q =
 abbrev pub changed : Entities → Result Entities Refusal → List ℕ × Entities
 changed e r = (answer_to r, left_by e r)
 
--- the same of an action that is carried out
-abbrev pub effect_of : Action → Entities → Request → List ℕ × Entities
-effect_of Create e q = changed e (create e q)
-effect_of Delete e q = changed e (delete e q)
-effect_of Set e q = changed e (set e q)
-effect_of Get e q = (told (get e q), e)
-effect_of GetNext e q = (refused NotSupported, e)
-effect_of MibUpload e q = (refused NotSupported, e)
-effect_of MibUploadNext e q = (refused NotSupported, e)
-effect_of MibReset e q = changed e (Ok nothing)
-effect_of (Other code) e q = (refused NotSupported, e)
-
--- the same of any action
+-- the same of each action; a MIB reset leaves no instance, and sync 0
 abbrev pub carried_out : Action → Entities → Request → List ℕ × Entities
-carried_out action e q = if is_carried_out action then effect_of action e q else (refused NotSupported, e)
+carried_out Create e q = changed e (create e q)
+carried_out Delete e q = changed e (delete e q)
+carried_out Set e q = changed e (set e q)
+carried_out Get e q = (told (get e q), e)
+carried_out GetNext e q = (refused NotSupported, e)
+carried_out MibUpload e q = (refused NotSupported, e)
+carried_out MibUploadNext e q = (refused NotSupported, e)
+carried_out MibReset e q = changed e (Ok nothing)
+carried_out (Other code) e q = (refused NotSupported, e)
 
 -- an answer has the identifier, action, class and instance of its request
 abbrev pub reply_to : Request → List ℕ → Reply

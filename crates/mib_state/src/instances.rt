@@ -158,6 +158,15 @@ impl<E: ManagedEntity> Instances<E> {
             Err(_) => Err(Refusal::UnknownInstance),
         }
     }
+
+    /// Deletes them all.
+    pub fn clear(&mut self)
+        ensures { self.new ≡ [] }
+    {
+        while let Some(Row { number: _, entity }) = self.rows.pop() {
+            let _ = self.spare.push(entity);
+        }
+    }
 }
 
 impl<E: PortEntity> Instances<E> {

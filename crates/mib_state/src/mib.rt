@@ -168,6 +168,7 @@ impl Mib {
         ensures after { self.new ≡ left_by self.old (create self.old request.now) }
     {
         match request.class {
+            ONU_DATA => Err(Refusal::NotSupported),
             MAPPER => {
                 let outcome = self.mappers.create(request.instance, &request.contents);
                 self.counted(outcome)
@@ -194,6 +195,7 @@ impl Mib {
         ensures after { self.new ≡ left_by self.old (delete self.old request.now) }
     {
         match request.class {
+            ONU_DATA => Err(Refusal::NotSupported),
             MAPPER => {
                 let outcome = self.mappers.delete(request.instance);
                 self.counted(outcome)
@@ -222,6 +224,7 @@ impl Mib {
         let mask = mask_of(&request.contents);
         let bytes = set_values(&request.contents);
         match request.class {
+            ONU_DATA => self.onu_data.set(request.instance, mask, bytes),
             MAPPER => {
                 let outcome = self.mappers.set(request.instance, mask, bytes);
                 self.counted(outcome)
@@ -248,10 +251,24 @@ impl Mib {
     {
         let mask = mask_of(&request.contents);
         match request.class {
-            MAPPER | VLAN | INTERWORK => Err(Refusal::NotSupported),
+            ONU_DATA => self.onu_data.read(request.instance, mask),
+            MAPPER => self.mappers.read(request.instance, mask),
+            VLAN => self.vlans.read(request.instance, mask),
+            INTERWORK => self.interworks.read(request.instance, mask),
             GEM_PORT => self.gem_ports.read(request.instance, mask),
             _ => Err(Refusal::UnknownEntity),
         }
+    }
+
+    /// No instance, and sync 0.
+    fn reset(&mut self)
+        ensures { self.new ≡ nothing }
+    {
+        self.onu_data.sync = 0;
+        self.mappers.clear();
+        self.vlans.clear();
+        self.interworks.clear();
+        self.gem_ports.clear();
     }
 
     /// Carries a request out, and gives the contents of its answer.
@@ -265,6 +282,10 @@ impl Mib {
             Action::Delete => answer_to(self.delete(request)),
             Action::Set => answer_to(self.set(request)),
             Action::Get => told(self.get(request)),
+            Action::MibReset => {
+                self.reset();
+                [0; 32]
+            }
             _ => Refusal::NotSupported.contents(),
         }
     }

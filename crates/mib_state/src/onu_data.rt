@@ -5,7 +5,9 @@ ghost use Rattle.std.proofs.Common.{rules};
 use crate::attribute::Attribute;
 use crate::bytes::{Bytes, byte, one};
 use crate::entity::ManagedEntity;
+use crate::get::get_contents;
 use crate::refusal::Refusal;
+use crate::set::set;
 use std::alloc::{AllocError, Global};
 
 /// ONU data (ITU-T G.988, clause 9.1.3).
@@ -16,14 +18,40 @@ pub struct OnuData {
 }
 
 impl OnuData {
-    ghost use Rattle.std.specs.Prelude.{◌≡◌};
-    ghost use Rattle.mib_state.specs.Step.{next_sync};
+    ghost use Rattle.std.specs.Prelude.{◌≡◌, length};
+    ghost use Rattle.mib_state.specs.Answer.{outcome_of, left_by};
+    ghost use Rattle.mib_state.specs.Class.{onu_data_layout};
+    ghost use Rattle.mib_state.specs.Entities.{find, onu_data, sync_of};
+    ghost use Rattle.mib_state.specs.Step.{next_sync, get_found, set_in};
 
     /// Counts a change: 255 is followed by 1.
     pub fn count(&mut self)
         ensures { self.new.sync ≡ next_sync self.old.sync }
     {
         self.sync = self.sync.checked_add(1).unwrap_or(1);
+    }
+
+    /// The answer to a Get of the instance of a number; there is instance 0 alone.
+    pub fn read(&self, number: u16, mask: u16) -> Result<[u8; 32], Refusal>
+        ensures { result ≡ get_found onu_data_layout mask (find number (onu_data self.now.sync ∷ [])) }
+    {
+        if number != 0 {
+            return Err(Refusal::UnknownInstance);
+        }
+        Ok(get_contents(self, mask))
+    }
+
+    /// Writes the attributes of the instance of a number that a mask names; there is instance 0 alone.
+    #[tactic(auto, unfolding(crate::specs::Step::set_in), using(crate::proofs::Sync::written_sync))]
+    pub fn set(&mut self, number: u16, mask: u16, bytes: &[u8]) -> Result<(), Refusal>
+        requires { length bytes.now ≡ 30 }
+        ensures outcome { result ≡ outcome_of (set_in onu_data_layout number mask bytes.now (onu_data self.old.sync ∷ [])) }
+        ensures after { self.new.sync ≡ sync_of (left_by (onu_data self.old.sync ∷ []) (set_in onu_data_layout number mask bytes.now (onu_data self.old.sync ∷ []))) }
+    {
+        if number != 0 {
+            return Err(Refusal::UnknownInstance);
+        }
+        set(self, mask, bytes)
     }
 }
 

@@ -114,23 +114,159 @@ fn a_create_is_answered_and_one_that_exists_changes_nothing(rt: HostRuntime) -> 
 }
 
 #[test]
-fn a_get_names_the_attributes_that_the_class_has_not(rt: HostRuntime) -> Result<(), Fail> {
+fn a_get_returns_each_attribute_that_fits_and_names_the_others(
+    rt: HostRuntime,
+) -> Result<(), Fail> {
+    let mut mib = set_up(rt.alloc())?;
+    let all = [9, 0xff, 0xc0, 4, 0, 0x80, 1, 3];
+    let table = [0, 4, 0, 0, 0, 0, 0x30];
+    let of_vlan = [
+        9, 0xfe, 0, 2, 0, 64, 0x81, 0, 0x81, 0, 0, 0, 0, 0, 0x30, 1, 1,
+    ];
+    for (class, instance, mask, wanted, last, what) in [
+        (
+            268,
+            0x0401,
+            0xffff,
+            all.as_slice(),
+            [0, 0x3f, 0, 0],
+            "ten that are there, six that aren't",
+        ),
+        (268, 0x0401, 0, [0].as_slice(), [0, 0, 0, 0], "none"),
+        (
+            266,
+            0x0501,
+            0x8100,
+            [0, 0x81, 0, 4, 1, 0].as_slice(),
+            [0, 0, 0, 0],
+            "the first and the last",
+        ),
+        (
+            130,
+            0x0601,
+            0x8020,
+            [9, 0x80, 0, 1, 1].as_slice(),
+            [0, 0, 0, 0x20],
+            "1 and 11",
+        ),
+        (
+            130,
+            0x0601,
+            0x8030,
+            [9, 0x80, 0x10, 1, 1, 0].as_slice(),
+            [0, 0, 0, 0x20],
+            "1, 11 and 12",
+        ),
+        (
+            130,
+            0x0601,
+            0x0030,
+            [0, 0, 0x30].as_slice(),
+            [0, 0, 0, 0],
+            "11 and 12, 25 bytes",
+        ),
+        (
+            171,
+            0x0701,
+            0x0400,
+            table.as_slice(),
+            [0, 0, 0, 0],
+            "the table",
+        ),
+        (
+            171,
+            0x0701,
+            0xff00,
+            of_vlan.as_slice(),
+            [0, 0, 1, 0],
+            "all of a table's",
+        ),
+    ] {
+        let reply = mib.step(&request(Action::Get, class, instance, &u16::to_be_bytes(mask)));
+        let mut contents = contents(wanted);
+        contents[28..].copy_from_slice(&last);
+        assert_eq!(rt; reply.contents, contents, "the answer to a Get of {what}");
+        assert_eq!(rt; mib.sync(), 4, "the sync after a Get of {what}");
+    }
+    Ok(())
+}
+
+#[test]
+fn the_sync_is_an_attribute_of_onu_data_and_a_set_of_it_counts_nothing(
+    rt: HostRuntime,
+) -> Result<(), Fail> {
     let mut mib = Mib::new(rt.alloc())?;
-    let _ = mib.step(&create_gem_port(0x0401));
-    let mut get = request(Action::Get, 268, 0x0401, &[0xff, 0xff]);
-    get.tci = 4;
-    let wanted = Reply {
-        tci: 4,
-        action: Action::Get,
-        class: 268,
-        instance: 0x0401,
-        contents: [
-            9, 0xff, 0xc0, 4, 0, 0x80, 1, 3, 0, 0, 0, 0, 0, 0, 0, 0, 0, 0, 0, 0, 0, 0, 0, 0, 0, 0,
-            0, 0, 0, 0x3f, 0, 0,
-        ],
-    };
-    assert_eq!(rt; mib.step(&get), wanted);
-    assert_eq!(rt; mib.sync(), 1);
+    let get = request(Action::Get, 2, 0, &[0x80, 0]);
+    let get_two = request(Action::Get, 2, 0, &[0xc0, 0]);
+    for (sent, wanted, last, sync, what) in [
+        (
+            create_gem_port(0x0401),
+            [0, 0, 0, 0, 0],
+            [0, 0],
+            1,
+            "a Create",
+        ),
+        (
+            create_gem_port(0x0401),
+            [7, 0, 0, 0, 0],
+            [0, 0],
+            1,
+            "the same again",
+        ),
+        (get, [0, 0x80, 0, 1, 0], [0, 0], 1, "a Get of the sync"),
+        (
+            get_two,
+            [9, 0x80, 0, 1, 0],
+            [0x40, 0],
+            1,
+            "a Get of two attributes",
+        ),
+        (
+            set(2, 0, 0x8000, &[254]),
+            [0, 0, 0, 0, 0],
+            [0, 0],
+            254,
+            "a Set of the sync",
+        ),
+        (
+            set(2, 0, 0, &[7]),
+            [0, 0, 0, 0, 0],
+            [0, 0],
+            254,
+            "a Set of nothing",
+        ),
+        (
+            set(2, 0, 0xc000, &[7]),
+            [9, 0x40, 0, 0, 0],
+            [0, 0],
+            254,
+            "a Set of two attributes",
+        ),
+        (
+            create_gem_port(0x0402),
+            [0, 0, 0, 0, 0],
+            [0, 0],
+            255,
+            "a Create",
+        ),
+        (
+            create_gem_port(0x0403),
+            [0, 0, 0, 0, 0],
+            [0, 0],
+            1,
+            "a third Create",
+        ),
+    ] {
+        let mut contents = contents(&wanted);
+        contents[28..30].copy_from_slice(&last);
+        assert_eq!(rt; mib.step(&sent).contents, contents, "the answer to {what}");
+        assert_eq!(rt; mib.sync(), sync, "the sync after {what}");
+        let shown = mib.attribute(2, 0, 1);
+        assert_eq!(rt;
+            shown.as_ref().map(|bytes| bytes.as_slice()),
+            Some([sync].as_slice())
+        );
+    }
     Ok(())
 }
 
@@ -161,18 +297,29 @@ fn refusals_have_their_results(rt: HostRuntime) -> Result<(), Fail> {
         ),
         (Action::Set, 268, 0x0999, 5, "a Set of one that doesn't"),
         (Action::Get, 268, 0x0999, 5, "a Get of one that doesn't"),
-        (Action::Get, 130, 0x0999, 2, "a Get of a mapper"),
+        (Action::Get, 130, 0x0999, 5, "a Get of an absent mapper"),
+        (Action::Get, 171, 0x0999, 5, "a Get of an absent table"),
+        (Action::Create, 2, 0, 2, "the creation of ONU data"),
         (
-            Action::Get,
-            266,
-            0x0999,
+            Action::Create,
             2,
-            "a Get of an interworking point",
+            0xffff,
+            2,
+            "that of its instance that means none",
         ),
+        (Action::Delete, 2, 0, 2, "the deletion of ONU data"),
+        (
+            Action::Delete,
+            2,
+            7,
+            2,
+            "that of an instance that isn't there",
+        ),
+        (Action::Set, 2, 1, 5, "a Set of a second ONU data"),
+        (Action::Get, 2, 1, 5, "a Get of a second ONU data"),
         (Action::GetNext, 268, 0x0401, 2, "Get next"),
         (Action::MibUpload, 2, 0, 2, "MIB upload"),
         (Action::MibUploadNext, 2, 0, 2, "MIB upload next"),
-        (Action::MibReset, 2, 0, 2, "MIB reset"),
         (other, 2, 0, 2, "Get all alarms next"),
     ] {
         let reply = mib.step(&request(action, class, instance, &[0xff, 0xff]));
@@ -197,6 +344,93 @@ fn the_sync_goes_from_255_to_1_and_the_room_ends_at_256(rt: HostRuntime) -> Resu
     assert_eq!(rt; mib.gem_port(1000).copied(), None);
     assert_eq!(rt; mib.gem_port(999).is_some(), true);
     assert_eq!(rt; mib.gem_port(744).is_some(), true);
+    Ok(())
+}
+
+#[test]
+fn a_mib_reset_leaves_no_instance_and_sync_0(rt: HostRuntime) -> Result<(), Fail> {
+    let mut mib = set_up(rt.alloc())?;
+    // Its class and its instance aren't looked at.
+    let reset = request(Action::MibReset, 45, 0xffff, &[0xff]);
+    let write = set(268, 0x0401, 0x8000, &[4, 0]);
+    assert_eq!(rt; mib.step(&reset).contents, [0; 32]);
+    assert_eq!(rt; mib.sync(), 0);
+    for class in [130, 171, 266, 268] {
+        assert_eq!(rt;
+            mib.next_instance(class, 0),
+            None,
+            "class {class} after a MIB reset"
+        );
+    }
+    assert_eq!(rt; mib.step(&create_gem_port(0x0401)).contents, [0; 32]);
+    for _n in 0..254 {
+        assert_eq!(rt; mib.step(&write).contents, [0; 32]);
+    }
+    assert_eq!(rt; mib.sync(), 0xff);
+    assert_eq!(rt; mib.step(&write).contents, [0; 32]);
+    assert_eq!(rt; mib.sync(), 1);
+    for number in 0..15 {
+        assert_eq!(rt; mib.step(&create_vlan(number, 257)).contents, [0; 32]);
+    }
+    assert_eq!(rt; mib.step(&reset).contents, [0; 32]);
+    assert_eq!(rt; mib.sync(), 0);
+    for number in 0..16 {
+        assert_eq!(rt; mib.step(&create_vlan(number, 257)).contents, [0; 32]);
+    }
+    assert_eq!(rt; mib.step(&create_vlan(16, 257)).contents, contents(&[1]));
+    Ok(())
+}
+
+#[test]
+fn the_first_refusal_counts_and_the_room_ends_at_256(rt: HostRuntime) -> Result<(), Fail> {
+    let mut mib = set_up(rt.alloc())?;
+    let alarms = Action::Other(OtherCode { code: 25 });
+    for (sent, wanted, what) in [
+        (
+            request(Action::Create, 45, 1, &[]),
+            [4, 0, 0, 0, 0, 0, 0],
+            "an unknown class",
+        ),
+        (
+            request(Action::Create, 2, 0, &[]),
+            [2, 0, 0, 0, 0, 0, 0],
+            "the creation of ONU data",
+        ),
+        (
+            create_gem_port(0xffff),
+            [3, 0, 0, 0, 0, 0, 0],
+            "the instance that means none",
+        ),
+        (
+            request(Action::Delete, 268, 0x0999, &[]),
+            [5, 0, 0, 0, 0, 0, 0],
+            "an absent instance",
+        ),
+        (
+            request(alarms, 2, 0, &[]),
+            [2, 0, 0, 0, 0, 0, 0],
+            "Get all alarms next",
+        ),
+        (
+            request(Action::Get, 171, 0x0701, &[4, 0]),
+            [0, 4, 0, 0, 0, 0, 0x30],
+            "a Get of a table",
+        ),
+    ] {
+        assert_eq!(rt;
+            mib.step(&sent).contents,
+            contents(&wanted),
+            "the answer to {what}"
+        );
+    }
+    for number in 0..255 {
+        assert_eq!(rt;
+            mib.step(&create_gem_port(number)).contents,
+            [0; 32],
+            "Create {number}"
+        );
+    }
+    assert_eq!(rt; mib.step(&create_gem_port(255)).contents, contents(&[1]));
     Ok(())
 }
 
@@ -454,6 +688,8 @@ fn a_table_holds_64_entries_and_overwrites_a_held_key(rt: HostRuntime) -> Result
     assert_eq!(rt; mib.step(&again).contents, [0; 32]);
     assert_eq!(rt; mib.vlan(0x0701).map(|vlan| vlan.table.len()), Some(64));
     assert_eq!(rt; mib.sync(), 66);
+    let size = request(Action::Get, 171, 0x0701, &[4, 0]);
+    assert_eq!(rt; mib.step(&size).contents, contents(&[0, 4, 0, 0, 0, 4, 0]));
     Ok(())
 }
 

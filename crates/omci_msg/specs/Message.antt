@@ -1,6 +1,6 @@
--- Baseline messages (ITU-T G.988, clause 11.2): what a list of bytes asks, and how a reply is
--- spelled. Bytes are counted from 0, and bits from the lowest.
-use Rattle.std.specs.Prelude.{◌≡◌, ◌<◌, ◌≤◌, ℕ, ◌+◌, ◌/◌, ◌%◌, ◌^◌, Bool, true, false, not, ◌||◌, List, [], ◌∷◌, ◌++◌, Option, Some, None, option_map, unwrap_or, Result, Ok, Err, if◌then◌else◌, ◌==◌, length, take, drop, slice_index, refl}
+-- Baseline messages (ITU-T G.988, clause 11.2): what a list of bytes asks or answers, and how a
+-- request and a reply are spelled. Bytes are counted from 0, and bits from the lowest.
+use Rattle.std.specs.Prelude.{◌≡◌, ◌<◌, ◌≤◌, ℕ, ◌+◌, ◌/◌, ◌%◌, ◌^◌, Bool, true, false, not, ◌&&◌, ◌||◌, List, [], ◌∷◌, ◌++◌, Option, Some, None, option_map, unwrap_or, Result, Ok, Err, if◌then◌else◌, ◌==◌, length, take, drop, slice_index, refl}
 use Rattle.byteorder.specs.Endian.{big_number, big_bytes}
 use Rattle.omci_msg.specs.Code.{is_other_code}
 use Rattle.omci_msg.specs.declared.action.Action.{Action}
@@ -8,7 +8,7 @@ use Rattle.omci_msg.specs.declared.action.Action.TheVariants.{Create, Delete, Se
 use Rattle.omci_msg.specs.declared.request.Request.{Request}
 use Rattle.omci_msg.specs.declared.reply.Reply.{Reply}
 use Rattle.omci_msg.specs.declared.fault.MsgFault.{MsgFault}
-use Rattle.omci_msg.specs.declared.fault.MsgFault.TheVariants.{Length, Destination, NotRequest, Device}
+use Rattle.omci_msg.specs.declared.fault.MsgFault.TheVariants.{Length, Destination, NotRequest, NotReply, Device}
 
 -- ---- actions
 
@@ -62,9 +62,17 @@ is_for_another kind = is_bit_set kind 7
 abbrev pub asks_answer : ℕ → Bool
 asks_answer kind = is_bit_set kind 6
 
--- AK: this is an answer
-abbrev pub is_answer : ℕ → Bool
-is_answer kind = is_bit_set kind 5
+-- AK: this answers
+abbrev pub acknowledges : ℕ → Bool
+acknowledges kind = is_bit_set kind 5
+
+-- the type of a request: AK 0
+abbrev pub is_request : ℕ → Bool
+is_request kind = not (acknowledges kind)
+
+-- the type of a reply: AR 0, AK 1
+abbrev pub is_reply : ℕ → Bool
+is_reply kind = not (asks_answer kind) && acknowledges kind
 
 -- The action of the low five bits. Each number of five bits has one, so the default is never taken.
 abbrev pub action_in : ℕ → Action
@@ -80,25 +88,60 @@ is_message_length n = n == 48 || n == 44
 abbrev pub number_at : ℕ → List ℕ → ℕ
 number_at place bytes = big_number 2 (drop place bytes)
 
--- the fields of a message: identifier, type, device, class, instance, contents; the trailer isn't looked at
+-- the message type
+abbrev pub type_of : List ℕ → ℕ
+type_of bytes = slice_index bytes 2
+
+-- the device identifier
+abbrev pub device_of : List ℕ → ℕ
+device_of bytes = slice_index bytes 3
+
+abbrev pub contents_of : List ℕ → List ℕ
+contents_of bytes = take 32 (drop 8 bytes)
+
+-- the fields of a request: identifier, type, class, instance, contents; the trailer isn't looked at
 abbrev pub request_fields : List ℕ → Request
 request_fields bytes = record {
   tci = number_at 0 bytes;
-  action = action_in (slice_index bytes 2);
-  wants_answer = asks_answer (slice_index bytes 2);
+  action = action_in (type_of bytes);
+  wants_answer = asks_answer (type_of bytes);
   class = number_at 4 bytes;
   instance = number_at 6 bytes;
-  contents = take 32 (drop 8 bytes);
+  contents = contents_of bytes;
 }
+
+-- the same fields of a reply
+abbrev pub reply_fields : List ℕ → Reply
+reply_fields bytes = record {
+  tci = number_at 0 bytes;
+  action = action_in (type_of bytes);
+  class = number_at 4 bytes;
+  instance = number_at 6 bytes;
+  contents = contents_of bytes;
+}
+
+-- the message type, of as many bytes as a message has that are for this end of the line
+abbrev pub type_for_this_end : List ℕ → Result ℕ MsgFault
+type_for_this_end bytes =
+    if not (is_message_length (length bytes)) then Err (Length (length bytes))
+    else (if is_for_another (type_of bytes) then Err Destination else Ok (type_of bytes))
+
+-- what the fields say of a baseline message whose type is expected, or the first fault of the bytes
+abbrev pub read_as : {A : Type 0} → (ℕ → Bool) → MsgFault → (List ℕ → A) → List ℕ → Result A MsgFault
+read_as is_expected unexpected fields bytes =
+    if not (is_message_length (length bytes)) then Err (Length (length bytes))
+    else (if is_for_another (type_of bytes) then Err Destination
+    else (if not (is_expected (type_of bytes)) then Err unexpected
+    else (if not (device_of bytes == 0x0a) then Err (Device (device_of bytes))
+    else Ok (fields bytes))))
 
 -- what the bytes ask, or the first fault that they have
 unfoldable pub request_of : List ℕ → Result Request MsgFault
-request_of bytes =
-    if not (is_message_length (length bytes)) then Err (Length (length bytes))
-    else (if is_for_another (slice_index bytes 2) then Err Destination
-    else (if is_answer (slice_index bytes 2) then Err NotRequest
-    else (if not (slice_index bytes 3 == 0x0a) then Err (Device (slice_index bytes 3))
-    else Ok (request_fields bytes))))
+request_of bytes = read_as is_request NotRequest request_fields bytes
+
+-- what the bytes answer, or the first fault that they have
+unfoldable pub reply_of : List ℕ → Result Reply MsgFault
+reply_of bytes = read_as is_reply NotReply reply_fields bytes
 
 -- ---- writing
 
@@ -106,7 +149,38 @@ request_of bytes =
 abbrev pub trailer : List ℕ
 trailer = 0 ∷ 0 ∷ 0 ∷ 0x28 ∷ 0 ∷ 0 ∷ 0 ∷ 0 ∷ []
 
--- the one spelling of a reply: AR 0, AK 1
+-- the bytes of a baseline message: identifier, type, device, class, instance, contents, trailer
+abbrev pub spelling : ℕ → ℕ → ℕ → ℕ → List ℕ → List ℕ
+spelling tci kind class instance contents =
+    big_bytes 2 tci ++ kind ∷ 0x0a ∷ [] ++ big_bytes 2 class ++ big_bytes 2 instance ++ contents ++ trailer
+
+-- the message type of a request: AR where an answer is wanted, AK 0
+abbrev pub request_type : Request → ℕ
+request_type request = (if request.wants_answer then 0x40 else 0) + code_of request.action
+
+-- the message type of a reply: AR 0, AK 1
+abbrev pub reply_type : Reply → ℕ
+reply_type reply = 0x20 + code_of reply.action
+
+-- the one spelling of a request
+unfoldable pub request_spelling : Request → List ℕ
+request_spelling request =
+    spelling request.tci (request_type request) request.class request.instance request.contents
+
+-- the one spelling of a reply
 unfoldable pub reply_spelling : Reply → List ℕ
-reply_spelling reply =
-    big_bytes 2 reply.tci ++ (0x20 + code_of reply.action) ∷ 0x0a ∷ [] ++ big_bytes 2 reply.class ++ big_bytes 2 reply.instance ++ reply.contents ++ trailer
+reply_spelling reply = spelling reply.tci (reply_type reply) reply.class reply.instance reply.contents
+
+-- ---- what is written is read
+
+-- the sizes that the types of a request and of a reply keep
+pub record FieldsFit (tci class instance : ℕ) (contents : List ℕ) : Type 0 where
+  pub tci_fits : tci < 2 ^ 16
+  pub class_fits : class < 2 ^ 16
+  pub instance_fits : instance < 2 ^ 16
+  pub contents_whole : length contents ≡ 32
+
+-- what a request or a reply is spelled as is read as it
+pub record SpellingsAreRead : Type 0 where
+  pub request : (q : Request) → FieldsFit q.tci q.class q.instance q.contents → request_of (request_spelling q) ≡ Ok q
+  pub reply : (r : Reply) → FieldsFit r.tci r.class r.instance r.contents → reply_of (reply_spelling r) ≡ Ok r

@@ -1,4 +1,4 @@
-//! Why bytes are no request.
+//! Why bytes are no request, or no reply.
 
 use thiserror::Error;
 
@@ -12,9 +12,12 @@ pub enum MsgFault {
     /// The destination bit is 1 (bit 8 of the message type; ITU-T G.988, clause 11.2.2).
     #[error("destination bit 1, expected 0")]
     Destination,
-    /// The bit AK is 1: this is an answer.
+    /// The bit AK is 1, where a request is read: this is an answer.
     #[error("acknowledgement bit 1, expected 0 of a request")]
     NotRequest,
+    /// The bit AR isn't 0 or the bit AK isn't 1, where a reply is read.
+    #[error("acknowledgement request bit 1 or acknowledgement bit 0, expected 0 and 1 of a reply")]
+    NotReply,
     /// The device identifier isn't that of the baseline message set (clause 11.2.3).
     #[error("device identifier {0}, expected 10")]
     Device(u8),
@@ -32,6 +35,7 @@ impl MsgFault {
             MsgFault::Length(_) => 1,
             MsgFault::Destination => 2,
             MsgFault::NotRequest => 3,
+            MsgFault::NotReply => 5,
             MsgFault::Device(_) => 4,
         }
     }

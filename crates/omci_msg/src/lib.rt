@@ -14,11 +14,11 @@ pub mod writing;
 
 pub use action::{Action, OtherCode};
 pub use fault::MsgFault;
-pub use laws::law_of_action_codes;
-pub use reading::read;
+pub use laws::{law_of_action_codes, law_of_spellings};
+pub use reading::{read, read_reply};
 pub use reply::Reply;
 pub use request::Request;
-pub use writing::write;
+pub use writing::{write, write_request};
 
 #[cfg(test)]
 mod tests;

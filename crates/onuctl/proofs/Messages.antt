@@ -15,7 +15,7 @@ use Rattle.hex.specs.Hex.{encode_lower, encode_with, lower_digits}
 use Rattle.omci_msg.specs.Fault.{number_of_fault}
 use Rattle.omci_msg.specs.Message.{is_message_length, request_of}
 use Rattle.omci_msg.specs.declared.fault.MsgFault.{MsgFault}
-use Rattle.omci_msg.specs.declared.fault.MsgFault.TheVariants.{Length, Destination, NotRequest, Device}
+use Rattle.omci_msg.specs.declared.fault.MsgFault.TheVariants.{Length, Destination, NotRequest, NotReply, Device}
 use Rattle.omci_msg.specs.declared.request.Request.{Request}
 
 long_enough : (n : ℕ) → is_message_length n ≡ true → 44 ≤ n
@@ -34,6 +34,7 @@ small_number : (fault : MsgFault) → number_of_fault fault < 10
 small_number (Length n) = lit< tt
 small_number Destination = lit< tt
 small_number NotRequest = lit< tt
+small_number NotReply = lit< tt
 small_number (Device n) = lit< tt
 
 -- the number of a fault is one digit
