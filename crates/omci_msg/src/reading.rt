@@ -1,5 +1,5 @@
 //! A request or a reply from its bytes.
-ghost use Rattle.std.specs.Prelude.{◌≡◌, ◌≢◌, ◌<◌, ◌≤◌, OnOk, IfErr, length};
+ghost use Rattle.std.specs.Prelude.{◌≡◌, ◌≢◌, ◌<◌, ◌≤◌, OnOk, OnErr, IfErr, length};
 ghost use Rattle.omci_msg.specs.declared.fault.MsgFault.TheVariants.{Device};
 ghost use Rattle.omci_msg.specs.Message.{is_bit_set, action_in as five_bits_action, contents_of as middle_bytes, device_of, type_for_this_end, reply_of, request_of};
 
@@ -40,11 +40,12 @@ fn type_for_this_end(bytes: &[u8]) -> Result<u8, MsgFault>
     Ok(kind)
 }
 
-/// Whether the device identifier is that of the baseline message set.
+/// That the device identifier is the one of the baseline message set.
 fn check_device(bytes: &[u8]) -> Result<(), MsgFault>
     requires { 44 ≤ length bytes.now }
     ensures baseline { OnOk result (device_of bytes.now ≡ 0x0a) }
-    ensures other { IfErr result (λ fault. (fault ≡ Device (device_of bytes.now)) × (device_of bytes.now ≢ 0x0a)) }
+    ensures other { OnErr result (device_of bytes.now ≢ 0x0a) }
+    ensures fault { IfErr result (λ fault. fault ≡ Device (device_of bytes.now)) }
 {
     match bytes[3] {
         BASELINE => Ok(()),
@@ -83,7 +84,8 @@ pub fn read(bytes: &[u8]) -> Result<Request, MsgFault>
     })
 }
 
-/// What the bytes of a message answer (ITU-T G.988, clause 11.2), of 48 bytes or 44 as `read`.
+/// What the bytes of a message answer (ITU-T G.988, clause 11.2). As for `read`, the trailer isn't
+/// looked at, and there are 48 bytes or 44.
 #[tactic(auto, unfolding(crate::specs::Message::reply_of))]
 pub fn read_reply(bytes: &[u8]) -> Result<Reply, MsgFault>
     ensures { result ≡ reply_of bytes.now }
