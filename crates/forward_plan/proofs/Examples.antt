@@ -11,7 +11,8 @@ use Rattle.mib_state.specs.Step.{step, create, create_in, delete, delete_in}
 use Rattle.forward_plan.specs.declared.reason.Reason.TheVariants.{Runt, CutTag, NoMapper, NullPointer, NoInterwork, NoGem, Direction}
 use Rattle.forward_plan.specs.declared.verdict.Verdict.{Verdict}
 use Rattle.forward_plan.specs.declared.verdict.Verdict.TheVariants.{Forward, Drop}
-use Rattle.forward_plan.specs.Meaning.{table_at, input_tpid_of, tags_at, mapper_at, priority_of, pointer_of, carries_upstream, port_id_of, gem_port_behind, gem_port_of, gem_port_at, forwarded_by, meaning}
+use Rattle.pmapper.specs.Mapper.{priority_of, pointer_of}
+use Rattle.forward_plan.specs.Meaning.{table_at, input_tpid_of, tags_at, mapper_at, carries_upstream, port_id_of, gem_port_behind, gem_port_of, gem_port_at, forwarded_by, meaning}
 
 -- ---- the entities
 
@@ -99,7 +100,7 @@ tag priority = record { tpid = 0x8100; pcp = priority; dei = true; vid = 100 }
 -- two mappers of one port: the one of least number counts, whatever came first. Its default priority is 13, so 5.
 abbrev by_priority : Entities
 by_priority =
-    and_then led (request Create 130 0x0600 (1 ∷ 1 ∷ 0xff ∷ 0xff ∷ 0x05 ∷ 0x99 ∷ 0xff ∷ 0xff ∷ 0xff ∷ 0xff ∷ 0xff ∷ 0xff ∷ 0x05 ∷ 0x01 ∷ 0xff ∷ 0xff ∷ 0xff ∷ 0xff ∷ 0 ∷ 13 ∷ 1 ∷ []))
+    and_then led (request Create 130 0x0600 (1 ∷ 1 ∷ 0xff ∷ 0xff ∷ 0x05 ∷ 0x99 ∷ 0xff ∷ 0xff ∷ 0xff ∷ 0xff ∷ 0xff ∷ 0xff ∷ 0x05 ∷ 0x01 ∷ 0xff ∷ 0xff ∷ 0xff ∷ 0xff ∷ 1 ∷ 13 ∷ 1 ∷ []))
 
 -- the pointer is that of the outermost tag's priority
 priorities : (meaning by_priority 257 untagged ≡ forwarded [] packet)

@@ -1,6 +1,6 @@
 -- What the managed entities mean for a frame that comes in at a port: the GEM port and the tags that it leaves with, or
 -- the first reason to drop it (ITU-T G.988, clauses 9.3.13, 9.3.10, 9.2.4 and 9.2.3). Attributes are numbered from 1, as there.
-use Rattle.std.specs.Prelude.{ℕ, ◌+◌, ◌%◌, Bool, ◌||◌, ◌==◌, if◌then◌else◌, List, [], ◌∷◌, Option, Some, None, Result, Ok, Err, ok_or}
+use Rattle.std.specs.Prelude.{ℕ, Bool, ◌||◌, ◌==◌, if◌then◌else◌, List, [], ◌∷◌, map, Option, Some, None, Result, Ok, Err, ok_or}
 use Rattle.std.specs.Option.{option_and_then, option_map}
 use Rattle.std.specs.Result.{result_map_both}
 use Rattle.tag_view.specs.Tag.{TagFields}
@@ -9,6 +9,7 @@ use Rattle.tag_view.specs.Dscp.{dscp_of}
 use Rattle.vlan_rule.specs.declared.settings.TableSettings.{TableSettings}
 use Rattle.vlan_rule.specs.Choice.{choice, entry_at, matches}
 use Rattle.treatment.specs.Treatment.{treated}
+use Rattle.pmapper.specs.Mapper.{Unmarked, pointer_of, priority_of}
 use Rattle.mib_state.specs.Entities.{Entities, Instance, find, attribute_bytes, attribute_number}
 use Rattle.mib_state.specs.Attached.{mapper_of_port, table_of_port}
 use Rattle.forward_plan.specs.declared.reason.Reason.{Reason}
@@ -73,19 +74,19 @@ tags_at (Some table) frame = tags_by table frame
 unfoldable pub mapper_at : Entities → ℕ → Option Instance
 mapper_at e port = option_and_then (λ n. find n e.mappers) (mapper_of_port e port)
 
--- the priority of a frame without a tag: the default P-bit assumption, attribute 12, whatever the unmarked frame option,
--- attribute 10. That its low three bits count is a choice of this project.
-abbrev pub unmarked_priority_of : Instance → ℕ
-unmarked_priority_of mapper = attribute_number 12 mapper % 8
+-- what a mapper says of frames without a tag: the unmarked frame option, the DSCP to P-bit mapping and the default P-bit
+-- assumption, attributes 10, 11 and 12
+abbrev pub unmarked_at : Instance → Unmarked
+unmarked_at mapper =
+    record {
+      option = attribute_number 10 mapper;
+      dscp_map = attribute_bytes 11 mapper;
+      default_p_bit = attribute_number 12 mapper;
+    }
 
--- the priority of a frame that leaves with these tags, outermost first
-unfoldable pub priority_of : Instance → List TagFields → ℕ
-priority_of mapper [] = unmarked_priority_of mapper
-priority_of mapper (outermost ∷ inner) = outermost.pcp
-
--- the interwork TP pointer of a priority, attribute 2 for priority 0 up to attribute 9 for 7; 0xFFFF points to nothing
-unfoldable pub pointer_of : Instance → ℕ → Option ℕ
-pointer_of mapper priority = let pointer = attribute_number (2 + priority) mapper in if pointer == 0xFFFF then None else Some pointer
+-- the interwork TP pointers of a mapper, attribute 2 for priority 0 up to attribute 9 for 7
+abbrev pub pointers_at : Instance → List ℕ
+pointers_at mapper = map (λ n. attribute_number n mapper) (2 ∷ 3 ∷ 4 ∷ 5 ∷ 6 ∷ 7 ∷ 8 ∷ 9 ∷ [])
 
 -- ---- the GEM port (clauses 9.2.3 and 9.2.4)
 
@@ -104,12 +105,14 @@ gem_port_behind e point = found_then (ok_or (find (attribute_number 1 point) e.g
 -- the GEM port of the frames of a priority that come to a mapper
 unfoldable pub gem_port_of : Entities → Instance → ℕ → Result ℕ Reason
 gem_port_of e mapper priority =
-    found_then (ok_or (pointer_of mapper priority) NullPointer) (λ pointer.
+    found_then (ok_or (pointer_of (pointers_at mapper) priority) NullPointer) (λ pointer.
     found_then (ok_or (find pointer e.interworks) NoInterwork) (gem_port_behind e))
 
--- the GEM port of frames that leave a port with these tags
-unfoldable pub gem_port_at : Entities → ℕ → List TagFields → Result ℕ Reason
-gem_port_at e port tags = found_then (ok_or (mapper_at e port) NoMapper) (λ mapper. gem_port_of e mapper (priority_of mapper tags))
+-- the GEM port of frames with a DSCP, if they have one, that leave a port with these tags
+unfoldable pub gem_port_at : Entities → ℕ → List TagFields → Option ℕ → Result ℕ Reason
+gem_port_at e port tags dscp =
+    found_then (ok_or (mapper_at e port) NoMapper) (λ mapper.
+    gem_port_of e mapper (priority_of (unmarked_at mapper) tags dscp))
 
 -- ---- the frame
 
@@ -122,7 +125,7 @@ unfoldable pub forwarded_by : Entities → ℕ → List ℕ → Result (ℕ × R
 forwarded_by e port bytes =
     found_then (read_at (table_at e port) bytes) (λ frame.
     found_then (tags_at (table_at e port) frame) (λ tags.
-    found_then (gem_port_at e port tags) (λ gem.
+    found_then (gem_port_at e port tags (dscp_of frame.rest)) (λ gem.
     Ok (gem, record frame { tags = tags }))))
 
 abbrev pub verdict_of : Result (ℕ × Reading) Reason → Verdict

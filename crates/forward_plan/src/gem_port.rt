@@ -1,12 +1,12 @@
 //! The GEM port of a frame: the entities that the port of the frame leads to (ITU-T G.988, clauses 9.3.10, 9.2.4 and 9.2.3).
-ghost use Rattle.std.specs.Prelude.{◌≡◌, ◌<◌, ℕ, MatchOption};
+ghost use Rattle.std.specs.Prelude.{◌≡◌, ◌<◌, ℕ, IfSome, MatchOption};
 ghost use Rattle.mib_state.specs.Shown.{mapper_instance, interwork_instance, gem_port_instance};
-ghost use Rattle.forward_plan.specs.Meaning.{mapper_at, carries_upstream, port_id_of, gem_port_behind, gem_port_of, gem_port_at};
+ghost use Rattle.pmapper.specs.Mapper.{pointer_of};
+ghost use Rattle.forward_plan.specs.Meaning.{mapper_at, pointers_at, carries_upstream, port_id_of, gem_port_behind, gem_port_of, gem_port_at};
 
-use crate::mapping::{pointer, priority};
 use crate::reason::Reason;
 use mib_state::Mib;
-use pmapper::{GemPort, Interwork, Mapper};
+use pmapper::{GemPort, Interwork, Mapper, pointer, priority};
 use tag_view::Tag;
 
 /// The mapper of a port.
@@ -15,6 +15,15 @@ fn mapper_at(mib: &Mib, port: u16) -> Option<&Mapper>
     ensures { MatchOption result (mapper_at mib.now port ≡ None) (λ mapper. (n : ℕ) × (mapper_at mib.now port ≡ Some (mapper_instance n mapper.now))) }
 {
     mib.mapper(mib.mapper_of_port(port)?)
+}
+
+/// The GEM interworking termination point of the frames of a priority.
+fn pointer_of(mapper: &Mapper, priority: u8) -> Option<u16>
+    requires { priority < 8 }
+    ensures { (n : ℕ) → result ≡ pointer_of (pointers_at (mapper_instance n mapper.now)) priority }
+{
+    let pointer = pointer(mapper, priority)?;
+    Some(pointer)
 }
 
 /// Whether a GEM port network CTP carries frames upstream.
@@ -49,16 +58,17 @@ fn gem_port_of(mib: &Mib, mapper: &Mapper, priority: u8) -> Result<u16, Reason>
     requires { priority < 8 }
     ensures { (n : ℕ) → result ≡ gem_port_of mib.now (mapper_instance n mapper.now) priority }
 {
-    let pointer = pointer(mapper, priority).ok_or(Reason::NullPointer)?;
+    let pointer = pointer_of(mapper, priority).ok_or(Reason::NullPointer)?;
     let point = mib.interwork(pointer).ok_or(Reason::NoInterwork)?;
     gem_port_behind(mib, point)
 }
 
-/// The GEM port of frames that leave a port with these tags.
+/// The GEM port of frames with a DSCP, if they have one, that leave a port with these tags.
 #[tactic(auto, unfolding(crate::specs::Meaning::gem_port_at))]
-pub fn gem_port_at(mib: &Mib, port: u16, tags: &[Tag]) -> Result<u16, Reason>
-    ensures { result ≡ gem_port_at mib.now port tags.now }
+pub fn gem_port_at(mib: &Mib, port: u16, tags: &[Tag], dscp: Option<u8>) -> Result<u16, Reason>
+    requires { IfSome dscp (λ dscp. dscp < 64) }
+    ensures { result ≡ gem_port_at mib.now port tags.now dscp }
 {
     let mapper = mapper_at(mib, port).ok_or(Reason::NoMapper)?;
-    gem_port_of(mib, mapper, priority(mapper, tags))
+    gem_port_of(mib, mapper, priority(mapper, tags, dscp))
 }

@@ -15,7 +15,6 @@
 #![tactic(auto)]
 
 mod gem_port;
-mod mapping;
 mod out_frame;
 mod reason;
 mod spelling;

@@ -20,7 +20,7 @@ fn forwarded_by<'a>(mib: &Mib, port: u16, bytes: &'a [u8]) -> Result<(u16, OutFr
     let table = PortTable::at(mib, port);
     let frame = view(bytes, input_tpid(&table))?;
     let tags = tags_at(&table, &frame)?;
-    let gem = gem_port_at(mib, port, &tags)?;
+    let gem = gem_port_at(mib, port, &tags, frame.dscp())?;
     Ok((gem, OutFrame::new(&frame, tags)))
 }
 

@@ -38,6 +38,6 @@ fn main(rt: HostRuntime) -> ExitCode {
 }
 
 #[cfg(test)]
-mod tests;
+mod frame_tests;
 #[cfg(test)]
-mod treatment_tests;
+mod tests;

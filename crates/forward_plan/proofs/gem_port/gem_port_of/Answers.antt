@@ -5,14 +5,14 @@ use Rattle.forward_plan.proofs.gem_port.gem_port_of.Goals as goal
 
 pub returns-in_err-pointer : goal.returns-in_err-pointer
 unfolding gem_port_of
-returns-in_err-pointer c = λ n. let is_pointer = c.pointer.ensures n in search rules
+returns-in_err-pointer c = λ n. let is_pointer = c.pointer_of.ensures n in search rules
 
 pub returns-in_err-point : goal.returns-in_err-point
 unfolding gem_port_of
-returns-in_err-point c = λ n. let is_pointer = c.pointer.ensures n in search rules
+returns-in_err-point c = λ n. let is_pointer = c.pointer_of.ensures n in search rules
 
 pub returns : goal.returns
 returns c = λ n.
     c.gem_port_behind.ensures c.in_ok-pointer.pointer
-    ∙ sym (of_some c.args.mib.now _ c.args.priority c.in_ok-pointer.pointer _ (rw c.in_ok-pointer.ensures.ok_part at (sym (c.pointer.ensures n)))
+    ∙ sym (of_some c.args.mib.now _ c.args.priority c.in_ok-pointer.pointer _ (rw c.in_ok-pointer.ensures.ok_part at (sym (c.pointer_of.ensures n)))
     (sym (rw c.in_ok-point.ensures.ok_part at c.interwork.ensures)))

@@ -1,4 +1,4 @@
-//! Frames that leave with other tags, by the table of their port.
+//! What becomes of frames, by the table and the mapper of their port.
 
 use crate::replay::replay;
 use crate::tests::{CREATED, PORT_257, messages, push_message};
@@ -42,9 +42,15 @@ impl Dialogue {
     }
 
     /// Sends a frame, and hears either what leaves or `d N`. Frames are given without their addresses.
-    fn send(&mut self, alloc: Global, frame: &str, answer: &str) -> Result<(), AllocError> {
+    fn send(
+        &mut self,
+        alloc: Global,
+        port: u16,
+        frame: &str,
+        answer: &str,
+    ) -> Result<(), AllocError> {
         let digits = frame.replace(alloc, " ", "")?;
-        let line = format!(in alloc; "f 257 {ADDRESSES}{digits}\n")?;
+        let line = format!(in alloc; "f {port} {ADDRESSES}{digits}\n")?;
         self.script.push_str(line.as_str())?;
         let line = if answer.starts_with("d ") {
             format!(in alloc; "{answer}\n")?
@@ -57,16 +63,19 @@ impl Dialogue {
 }
 
 /// What a line of a row is.
-enum Step {
+#[derive(Clone, Copy)]
+enum Step<'s> {
     /// A message, and the reply.
-    Ask(&'static str, &'static str),
+    Ask(&'s str, &'s str),
     /// An entry for the table, which takes it.
-    Put(&'static str),
-    /// A frame, and what becomes of it.
-    Send(&'static str, &'static str),
+    Put(&'s str),
+    /// A frame that comes in at port 257, and what becomes of it.
+    Send(&'s str, &'s str),
+    /// The same at another port.
+    SendAt(u16, &'s str, &'s str),
 }
 
-use Step::{Ask, Put, Send};
+use Step::{Ask, Put, Send, SendAt};
 
 const UNTAGGED: &str = "08004500";
 
@@ -79,13 +88,14 @@ const PUSH_VLAN_100: &str = "f8000000f8000000 000f000000000324";
 const TRANSLATE_100_TO_200: &str = "f800000080320000 400f000000080644";
 
 /// What is written, and what is to be: the answers to the four messages of the port, and to the steps.
-fn answered(alloc: Global, steps: &[Step]) -> Result<(Vec<u8>, String), Fail> {
+fn answered(alloc: Global, steps: &[Step<'_>]) -> Result<(Vec<u8>, String), Fail> {
     let mut dialogue = Dialogue::new(alloc)?;
     for step in steps {
-        match step {
+        match *step {
             Ask(message, reply) => dialogue.ask(message, reply)?,
             Put(entry) => dialogue.put(alloc, entry)?,
-            Send(frame, answer) => dialogue.send(alloc, frame, answer)?,
+            Send(frame, answer) => dialogue.send(alloc, 257, frame, answer)?,
+            SendAt(port, frame, answer) => dialogue.send(alloc, port, frame, answer)?,
         }
     }
     let mut written = Vec::new(alloc);
@@ -202,6 +212,50 @@ fn frames_leave_with_what_the_treatment_copies_and_removes(rt: HostRuntime) -> R
         ),
     ] {
         let (written, answers) = answered(rt.alloc(), steps)?;
+        assert_eq!(rt; written.as_slice(), answers.as_bytes(), "{what}");
+    }
+    Ok(())
+}
+
+/// A DSCP to P-bit mapping that gives DSCP 46 priority 5, and every other 0.
+const DSCP_46_TO_5: &str = "0000000000000000000000000000000000 28 000000000000";
+
+#[test]
+fn frames_leave_by_the_pointer_of_their_priority(rt: HostRuntime) -> Result<(), Fail> {
+    let alloc = rt.alloc();
+    let map_dscp = format!(in alloc; "0006480a00820601 0020 {DSCP_46_TO_5}")?;
+    for (what, steps) in [
+        (
+            "option 0: the priority of the DSCP, or the default one",
+            &[
+                Ask(map_dscp.as_str(), "0006280a00820601 00"),
+                // no pointer of priority 3, option 0, default priority 3
+                Ask("0007480a00820601 0850 ffff0003", "0007280a00820601 00"),
+                Send("0800 45b8", "0800 45b8"),
+                Send("0806 0001", "d 6"),
+            ][..],
+        ),
+        (
+            "each entity on the way has its reason",
+            &[
+                Send(UNTAGGED, UNTAGGED),
+                Ask("0006480a00820601 4000 ffff", "0006280a00820601 00"),
+                Send(UNTAGGED, "d 6"),
+                Ask("0007480a00820601 4000 0599", "0007280a00820601 00"),
+                Send(UNTAGGED, "d 7"),
+                Ask("0008480a00820601 4000 0501", "0008280a00820601 00"),
+                Ask("0009480a010a0501 8000 0499", "0009280a010a0501 00"),
+                Send(UNTAGGED, "d 8"),
+                Ask("000a480a010a0501 8000 0401", "000a280a010a0501 00"),
+                Ask("000b480a010c0401 2000 02", "000b280a010c0401 00"),
+                Send(UNTAGGED, "d 9"),
+                SendAt(258, UNTAGGED, "d 5"),
+                Ask("000c460a00820601", "000c260a00820601 00"),
+                Send(UNTAGGED, "d 5"),
+            ][..],
+        ),
+    ] {
+        let (written, answers) = answered(alloc, steps)?;
         assert_eq!(rt; written.as_slice(), answers.as_bytes(), "{what}");
     }
     Ok(())
