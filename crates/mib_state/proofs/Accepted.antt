@@ -6,15 +6,16 @@ use Rattle.omci_msg.specs.declared.Request.{Request}
 use Rattle.omci_msg.specs.declared.Action.{Action}
 use Rattle.omci_msg.specs.declared.Action.TheVariants.{Create, Delete, Set, Get, GetNext, MibUpload, MibUploadNext, MibReset, Other}
 use Rattle.mib_state.specs.declared.refusal.Refusal.{Refusal}
+use Rattle.mib_state.specs.Answer.{left_by, told}
 use Rattle.mib_state.specs.Entities.{Entities, nothing}
-use Rattle.mib_state.specs.Step.{changed, create, delete, set, carried_out, step}
+use Rattle.mib_state.specs.Step.{create, delete, set, done, answered, left, step}
 use Rattle.mib_state.specs.After.{may_change, is_accepted, after_from, accepted_from, AcceptedSuffice}
 
-changed_refused : (e : Entities) (r : Result Entities Refusal) → nat_eq (slice_index (changed e r).0 0) 0 ≡ false → (changed e r).1 ≡ e
+changed_refused : {A : Type 0} (e : A) (r : Result A Refusal) → nat_eq (slice_index (told (done r)) 0) 0 ≡ false → left_by e r ≡ e
 changed_refused e (Ok now) h = absurd (false≢true (sym h))
 changed_refused e (Err refusal) h = refl
 
-action_refused : (a : Action) (e : Entities) (q : Request) → (may_change a && nat_eq (slice_index (carried_out a e q).0 0) 0) ≡ false → (carried_out a e q).1 ≡ e
+action_refused : (a : Action) (e : Entities) (q : Request) → (may_change a && nat_eq (slice_index (told (answered a e q)) 0) 0) ≡ false → left a e q ≡ e
 action_refused Create e q h = changed_refused e (create e q) h
 action_refused Delete e q h = changed_refused e (delete e q) h
 action_refused Set e q h = changed_refused e (set e q) h

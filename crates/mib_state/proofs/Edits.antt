@@ -1,7 +1,8 @@
 -- Create and Delete among instances in ascending order, by what a search finds.
-use Rattle.std.proofs.Common.{◌≡◌, ℕ, ◌<◌, ◌≤◌, ◌≢◌, List, length, get_or, map, Some, Ok, Err, refl, sym, ap, ◌∙◌}
+use Rattle.std.proofs.Common.{◌≡◌, ℕ, ◌<◌, ◌≤◌, ◌≢◌, List, length, get_or, map, Some, Ok, Err, is_ok, true, refl, sym, ap, ◌∙◌}
 use Rattle.std.specs.List as list
-use Rattle.std.proofs.lemmas.Bool.{ne_eqb, le-leb, lt-leb}
+use Rattle.std.proofs.lemmas.Bool.{ne_eqb, eq-eqb, le-leb, lt-leb}
+use mathlib.Core.Bool.{false≢true}
 use Rattle.std.proofs.lemmas.List.{get_or-map, length-map}
 use Rattle.mib_state.specs.declared.attribute.Attribute.{Attribute}
 use Rattle.mib_state.specs.declared.refusal.Refusal.TheVariants.{ProcessingError, UnknownInstance, InstanceExists}
@@ -16,6 +17,11 @@ delete_found n l i up at = rw (find_at l n i up at, remove_at l n i up at) refl
 pub delete_missing : (n : ℕ) (l : List Instance) (i : ℕ) → IsGapFor l n i → delete_in n l ≡ Err UnknownInstance
 unfolding delete_in
 delete_missing n l i gap = rw (find_gap l n i gap) refl
+
+-- an instance that can be created isn't 0xFFFF
+pub create_usual : (layout : List Attribute) (room n : ℕ) (contents : List ℕ) (l : List Instance) → is_ok (create_in layout room n contents l) ≡ true → n ≢ 65535
+unfolding create_in
+create_usual layout room n contents l h is = absurd (false≢true (rw (eq-eqb n 65535 is) at h))
 
 module _ (layout : List Attribute) (room n : ℕ) (contents : List ℕ) (l : List Instance) (i : ℕ) (usual : n ≢ 65535) where
   pub create_exists : IsAscending l → IsAt l n i → create_in layout room n contents l ≡ Err InstanceExists

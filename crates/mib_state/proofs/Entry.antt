@@ -2,10 +2,15 @@
 use Rattle.std.proofs.Common.{◌≡◌, ℕ, zero, suc, ◌+◌, ◌<◌, ◌≤◌, Bool, true, false, cond, eqb, List, [], ◌∷◌, length, get_or, drop, Some, None, Option, refl, sym, ap, ◌∙◌, arith, add-one}
 use Rattle.std.specs.Prelude.{if◌then◌else◌, ◌&&◌, option_map}
 use Rattle.std.proofs.lemmas.Bool.{eqb-true, false≢true}
+use Rattle.std.specs.Prelude.{Result, Ok, Err}
+use Rattle.vlan_rule.specs.declared.fault.TableFault.{TableFault}
+use Rattle.vlan_rule.specs.Table.{Change}
+use Rattle.vlan_rule.specs.Table as table
+use Rattle.mib_state.specs.Answer.{left_by}
 use Rattle.mib_state.specs.declared.attribute.Attribute.{Attribute}
 use Rattle.mib_state.specs.Class.{is_table, has_table, tables_fit}
 use Rattle.mib_state.specs.Mask.{names, named_width}
-use Rattle.mib_state.specs.Step.{entry_at}
+use Rattle.mib_state.specs.Step.{entry_at, entries_by}
 
 -- the offset of the entry, from place i on
 entry_step : (mask p : ℕ) (layout : List Attribute) (d : Attribute) (i : ℕ) → i < length layout
@@ -60,3 +65,8 @@ fits_cases w at n false false f h o fits e later = let rest = later (both true f
 pub entry_fits : (mask p : ℕ) (layout : List Attribute) (at : ℕ) → tables_fit layout ≡ true → entry_at mask p layout ≡ Some at → (at + 16 ≤ named_width mask p layout) × (has_table layout ≡ true)
 entry_fits mask p [] at fits e = absurd (let none : ◌≡◌ {A = Option ℕ} None (Some at) = e in cc)
 entry_fits mask p (a ∷ layout) at fits e = fits_cases a.width at (named_width mask (suc p) layout) (names mask p) (is_table a.access) (tables_fit layout) (has_table layout) (entry_at mask (suc p) layout) fits e (λ ok x is. entry_fits mask (suc p) layout x ok is)
+
+-- what a put leaves, as the entries of a class
+pub left_by_put : (old : List (List ℕ)) (r : Result Change TableFault) → table.left_by old r ≡ left_by old (entries_by r)
+left_by_put old (Ok change) = refl
+left_by_put old (Err fault) = refl

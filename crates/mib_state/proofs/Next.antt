@@ -1,5 +1,5 @@
 -- The least number that isn't under another is that at the place of a search.
-use Rattle.std.proofs.Common.{◌≡◌, ℕ, zero, suc, ◌<◌, ◌≤◌, List, [], ◌∷◌, length, get_or, map, Option, Some, None, refl, sym, ap, ◌∙◌, arith}
+use Rattle.std.proofs.Common.{◌≡◌, ℕ, zero, suc, ◌<◌, ◌≤◌, List, [], ◌∷◌, length, get_or, map, Some, None, refl, ap, arith}
 use Rattle.std.proofs.lemmas.Bool.{le-leb, lt-leb}
 use Rattle.mib_state.specs.Entities.{Instance, next, IsAscending, IsAt, IsGapFor}
 use Rattle.mib_state.proofs.Place.{tail_at, tail_gap, tail_ascending, head_smaller}

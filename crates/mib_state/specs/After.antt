@@ -1,11 +1,11 @@
 -- The entities after a list of requests.
-use Rattle.std.specs.Prelude.{ℕ, ◌≡◌, Bool, true, false, ◌&&◌, ◌==◌, List, [], ◌∷◌, if◌then◌else◌, slice_index}
+use Rattle.std.specs.Prelude.{◌≡◌, Bool, true, false, ◌&&◌, ◌==◌, List, [], ◌∷◌, if◌then◌else◌}
 use Rattle.omci_msg.specs.declared.Request.{Request}
 use Rattle.omci_msg.specs.declared.Action.{Action}
 use Rattle.omci_msg.specs.declared.Action.TheVariants.{Create, Delete, Set, Get, GetNext, MibUpload, MibUploadNext, MibReset, Other}
 use Rattle.mib_state.specs.Answer.{success_code}
 use Rattle.mib_state.specs.Entities.{Entities, nothing}
-use Rattle.mib_state.specs.Step.{carried_out, step}
+use Rattle.mib_state.specs.Step.{result_of, step}
 
 -- the entities after each request in turn
 abbrev pub after_from : Entities → List Request → Entities
@@ -28,13 +28,9 @@ may_change MibUploadNext = false
 may_change MibReset = true
 may_change (Other code) = false
 
--- the result that a request is answered: the first byte of the contents
-abbrev pub result_of : Entities → Request → ℕ
-result_of e q = slice_index (carried_out q.action e q).0 0
-
 -- a request is accepted where it may change the entities and its result is success
 abbrev pub is_accepted : Entities → Request → Bool
-is_accepted e q = may_change q.action && result_of e q == success_code
+is_accepted e q = may_change q.action && result_of (step e q).0 == success_code
 
 -- the requests of a list that are accepted, each where it comes
 abbrev pub accepted_from : Entities → List Request → List Request

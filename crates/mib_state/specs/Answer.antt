@@ -58,12 +58,7 @@ abbrev pub left_by : {A : Type 0} → A → Result A Refusal → A
 left_by old (Ok new) = new
 left_by old (Err refusal) = old
 
--- the contents of its answer
-abbrev pub answer_to : {A : Type 0} → Result A Refusal → List ℕ
-answer_to (Ok new) = success
-answer_to (Err refusal) = refused refusal
-
--- the contents of the answer to a question
+-- the contents of an answer
 abbrev pub told : Result (List ℕ) Refusal → List ℕ
 told (Ok contents) = contents
 told (Err refusal) = refused refusal

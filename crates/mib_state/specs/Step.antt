@@ -1,6 +1,6 @@
 -- One step: what a request is answered, and the entities that it leaves (ITU-T G.988, clauses 11.2 and A.2). Each
 -- action is one definition over the attributes of a class. Refusals come in the order in which they are written.
-use Rattle.std.specs.Prelude.{ℕ, suc, ◌+◌, ◌-◌, ◌*◌, not, ◌&&◌, List, [], ◌∷◌, ◌++◌, Option, Some, None, is_some, option_map, if◌then◌else◌, ◌==◌, nat_le, nat_lt, length, take, drop, map, Result, Ok, Err}
+use Rattle.std.specs.Prelude.{ℕ, suc, ◌+◌, ◌-◌, ◌*◌, not, ◌&&◌, List, [], ◌∷◌, ◌++◌, Option, Some, None, is_some, option_map, if◌then◌else◌, ◌==◌, nat_le, nat_lt, length, slice_index, take, drop, map, Result, Ok, Err}
 use Rattle.byteorder.specs.Endian.{big_bytes, big_number}
 use Rattle.omci_msg.specs.declared.Request.{Request}
 use Rattle.omci_msg.specs.declared.Reply.{Reply}
@@ -15,7 +15,7 @@ use Rattle.vlan_rule.specs.Table.{Change, put}
 use Rattle.mib_state.specs.Class.{is_known, attributes_of, room_of, initial_value, initial_entries, is_table, has_table}
 use Rattle.mib_state.specs.Entities.{Entities, Instance, nothing, instances_of, with_instances, find, insert, remove, replace}
 use Rattle.mib_state.specs.Mask.{bit_of, names, unknown_of, given_mask, unwritable_of, named_width}
-use Rattle.mib_state.specs.Answer.{padded, success_code, partial_code, refused, left_by, answer_to, told}
+use Rattle.mib_state.specs.Answer.{padded, success_code, partial_code, success, left_by, told}
 
 -- the mask of a Get or a Set: its first two bytes
 unfoldable pub mask_of : List ℕ → ℕ
@@ -165,11 +165,6 @@ counted e class (Ok instances) =
     Ok (if class == 2 then with_instances e class instances else record (with_instances e class instances) { sync = next_sync e.sync })
 counted e class (Err refusal) = Err refusal
 
--- the entities, counting a change if it was one
-abbrev pub counted_if : Result (Unit {0}) Refusal → Entities → Entities
-counted_if (Ok done) e = record e { sync = next_sync e.sync }
-counted_if (Err refusal) e = e
-
 unfoldable pub create : Entities → Request → Result Entities Refusal
 create e q =
     if not (is_known q.class) then Err UnknownEntity
@@ -189,21 +184,34 @@ set e q =
 
 -- ---- the step
 
--- the contents of the answer to a change, and what it leaves: a refused one leaves the entities
-abbrev pub changed : Entities → Result Entities Refusal → List ℕ × Entities
-changed e r = (answer_to r, left_by e r)
+-- the answer to a change, or why it is refused
+abbrev pub done : {A : Type 0} → Result A Refusal → Result (List ℕ) Refusal
+done (Ok new) = Ok success
+done (Err refusal) = Err refusal
 
--- the same of each action; a MIB reset leaves no instance, and sync 0
-abbrev pub carried_out : Action → Entities → Request → List ℕ × Entities
-carried_out Create e q = changed e (create e q)
-carried_out Delete e q = changed e (delete e q)
-carried_out Set e q = changed e (set e q)
-carried_out Get e q = (told (get e q), e)
-carried_out GetNext e q = (refused NotSupported, e)
-carried_out MibUpload e q = (refused NotSupported, e)
-carried_out MibUploadNext e q = (refused NotSupported, e)
-carried_out MibReset e q = changed e (Ok nothing)
-carried_out (Other code) e q = (refused NotSupported, e)
+-- the contents of the answer to an action, or why it is refused
+abbrev pub answered : Action → Entities → Request → Result (List ℕ) Refusal
+answered Create e q = done (create e q)
+answered Delete e q = done (delete e q)
+answered Set e q = done (set e q)
+answered Get e q = get e q
+answered GetNext e q = Err NotSupported
+answered MibUpload e q = Err NotSupported
+answered MibUploadNext e q = Err NotSupported
+answered MibReset e q = Ok success
+answered (Other code) e q = Err NotSupported
+
+-- the entities that an action leaves; a refused one leaves those that there were
+abbrev pub left : Action → Entities → Request → Entities
+left Create e q = left_by e (create e q)
+left Delete e q = left_by e (delete e q)
+left Set e q = left_by e (set e q)
+left Get e q = e
+left GetNext e q = e
+left MibUpload e q = e
+left MibUploadNext e q = e
+left MibReset e q = nothing
+left (Other code) e q = e
 
 -- an answer has the identifier, action, class and instance of its request
 abbrev pub reply_to : Request → List ℕ → Reply
@@ -211,4 +219,8 @@ reply_to q contents = record { tci = q.tci; action = q.action; class = q.class; 
 
 -- the reply to a request, and the entities that it leaves
 abbrev pub step : Entities → Request → Reply × Entities
-step e q = let done = carried_out q.action e q in (reply_to q done.0, done.1)
+step e q = (reply_to q (told (answered q.action e q)), left q.action e q)
+
+-- the result of a reply: the first byte of its contents
+abbrev pub result_of : Reply → ℕ
+result_of reply = slice_index reply.contents 0

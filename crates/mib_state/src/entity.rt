@@ -59,10 +59,14 @@ pub trait ManagedEntity: Drop {
         ensures values { values self.new ≡ slice_set (values self.old) place bytes.now }
         ensures entries { entries self.new ≡ entries self.old };
 
-    /// Puts an entry into the table, if the class has one.
-    fn put_entry(&mut self, entry: &[u8]) -> Result<(), Refusal>
+    /// Whether the table, if the class has one, takes an entry.
+    fn check_entry(&self, entry: &[u8]) -> Result<(), Refusal>
         requires { length entry.now ≡ 16 }
-        ensures outcome { result ≡ outcome_of (entries_with layout (entries self.old) entry.now) }
+        ensures { result ≡ outcome_of (entries_with layout (entries self.now) entry.now) };
+
+    /// Puts an entry into the table; one that it doesn't take changes nothing.
+    fn put_entry(&mut self, entry: &[u8])
+        requires { length entry.now ≡ 16 }
         ensures entries { entries self.new ≡ left_by (entries self.old) (entries_with layout (entries self.old) entry.now) }
         ensures values { values self.new ≡ values self.old };
 

@@ -96,7 +96,9 @@ impl ManagedEntity for GemPort {
         }
     }
 
-    fn put_entry(&mut self, _entry: &[u8]) -> Result<(), Refusal> {
+    fn check_entry(&self, _entry: &[u8]) -> Result<(), Refusal> {
         Err(Refusal::NotSupported)
     }
+
+    fn put_entry(&mut self, _entry: &[u8]) {}
 }

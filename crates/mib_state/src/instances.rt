@@ -1,17 +1,19 @@
 //! The instances of a class, by ascending number, in room that is reserved.
-ghost use Rattle.std.specs.Prelude.{◌≡◌, [], length, map, option_map, IfOk, IfErr, vec_len, vec_capacity, ◌≤◌};
+ghost use Rattle.std.specs.Prelude.{◌≡◌, [], length, map, option_map, drop, is_ok, true, IfOk, IfErr, vec_len, vec_capacity, ◌≤◌};
 ghost use Rattle.mib_state.specs.Class.{table_at};
 ghost use Rattle.mib_state.specs.Entities.{find, next, shown_as, value_at, IsAscending, IsAt, IsGapFor};
 ghost use Rattle.mib_state.specs.Attached.{least_instance};
 ghost use Rattle.mib_state.specs.Answer.{outcome_of, left_by};
-ghost use Rattle.mib_state.specs.Step.{get_found, create_in, delete_in, set_in};
+ghost use Rattle.mib_state.specs.Step.{mask_of, get_found, create_in, delete_in, set_in};
 
 use crate::bytes::Bytes;
 use crate::entity::{ManagedEntity, PortEntity};
 use crate::get::get_contents;
+use crate::mask::mask_of;
 use crate::refusal::Refusal;
-use crate::set::set;
+use crate::set::{check_set, set, set_values};
 use crate::write::create;
+use omci_msg::Request;
 use std::alloc::{AllocError, Global};
 use std::marker::Model;
 
@@ -83,51 +85,13 @@ impl<E: ManagedEntity> Instances<E> {
         entity.returned(place)
     }
 
-    /// The answer to a Get of the instance of a number.
-    pub fn read(&self, number: u16, mask: u16) -> Result<[u8; 32], Refusal>
-        ensures { result ≡ get_found E.layout mask (find number self.now) }
+    /// The answer to a Get.
+    pub fn read(&self, request: &Request) -> Result<[u8; 32], Refusal>
+        ensures { result ≡ get_found E.layout (mask_of request.now.contents) (find request.now.instance self.now) }
     {
-        match self.get(number) {
-            Some(entity) => Ok(get_contents(entity, mask)),
+        match self.get(request.instance) {
+            Some(entity) => Ok(get_contents(entity, mask_of(&request.contents))),
             None => Err(Refusal::UnknownInstance),
-        }
-    }
-
-    /// Creates an instance.
-    #[tactic(auto, unfolding(crate::specs::Step::create_in))]
-    pub fn create(&mut self, number: u16, contents: &[u8; 32]) -> Result<(), Refusal>
-        ensures outcome { result ≡ outcome_of (create_in E.layout E.ROOM number contents.now self.old) }
-        ensures after { self.new ≡ left_by self.old (create_in E.layout E.ROOM number contents.now self.old) }
-    {
-        if number == u16::MAX {
-            return Err(Refusal::ParameterError);
-        }
-        match self.search(number) {
-            Ok(_) => Err(Refusal::InstanceExists),
-            Err(at) => match self.spare.pop() {
-                None => Err(Refusal::ProcessingError),
-                Some(mut entity) => {
-                    create(&mut entity, contents);
-                    let _ = self.rows.insert(at, Row { number, entity });
-                    Ok(())
-                }
-            },
-        }
-    }
-
-    /// Writes the attributes of an instance that a mask names.
-    #[tactic(auto, unfolding(crate::specs::Step::set_in))]
-    pub fn set(&mut self, number: u16, mask: u16, bytes: &[u8]) -> Result<(), Refusal>
-        requires { length bytes.now ≡ 30 }
-        ensures outcome { result ≡ outcome_of (set_in E.layout number mask bytes.now self.old) }
-        ensures after { self.new ≡ left_by self.old (set_in E.layout number mask bytes.now self.old) }
-    {
-        match self.search(number) {
-            Ok(at) => {
-                let row = &mut self.rows[at];
-                set(&mut row.entity, mask, bytes)
-            }
-            Err(_) => Err(Refusal::UnknownInstance),
         }
     }
 
@@ -143,19 +107,82 @@ impl<E: ManagedEntity> Instances<E> {
         }
     }
 
-    /// Deletes an instance.
-    #[tactic(auto, unfolding(crate::specs::Step::delete_in))]
-    pub fn delete(&mut self, number: u16) -> Result<(), Refusal>
-        ensures outcome { result ≡ outcome_of (delete_in number self.old) }
-        ensures after { self.new ≡ left_by self.old (delete_in number self.old) }
+    /// Whether a Create is refused.
+    pub fn check_create(&self, request: &Request) -> Result<(), Refusal>
+        ensures { result ≡ outcome_of (create_in E.layout E.ROOM request.now.instance request.now.contents self.now) }
     {
-        match self.search(number) {
-            Ok(at) => {
-                let Row { number: _, entity } = self.rows.remove(at);
-                let _ = self.spare.push(entity);
-                Ok(())
+        if request.instance == u16::MAX {
+            return Err(Refusal::ParameterError);
+        }
+        match self.search(request.instance) {
+            Ok(_) => Err(Refusal::InstanceExists),
+            Err(_) if self.spare.is_empty() => Err(Refusal::ProcessingError),
+            Err(_) => Ok(()),
+        }
+    }
+
+    /// Creates an instance, by a Create that isn't refused.
+    pub fn create(&mut self, request: &Request)
+        requires { is_ok (create_in E.layout E.ROOM request.now.instance request.now.contents self.old) ≡ true }
+        ensures { self.new ≡ left_by self.old (create_in E.layout E.ROOM request.now.instance request.now.contents self.old) }
+    {
+        let number = request.instance;
+        if let Err(at) = self.search(number) {
+            if let Some(mut entity) = self.spare.pop() {
+                create(&mut entity, &request.contents);
+                let _ = self.rows.insert(at, Row { number, entity });
             }
-            Err(_) => Err(Refusal::UnknownInstance),
+        }
+    }
+
+    /// Whether a Delete is refused.
+    #[tactic(auto, unfolding(crate::specs::Step::delete_in))]
+    pub fn check_delete(&self, request: &Request) -> Result<(), Refusal>
+        ensures { result ≡ outcome_of (delete_in request.now.instance self.now) }
+    {
+        match self.get(request.instance) {
+            Some(_) => Ok(()),
+            None => Err(Refusal::UnknownInstance),
+        }
+    }
+
+    /// Deletes an instance; one that isn't there changes nothing.
+    pub fn delete(&mut self, request: &Request)
+        ensures { self.new ≡ left_by self.old (delete_in request.now.instance self.old) }
+    {
+        if let Ok(at) = self.search(request.instance) {
+            let Row { number: _, entity } = self.rows.remove(at);
+            let _ = self.spare.push(entity);
+        }
+    }
+
+    /// Whether a Set is refused.
+    #[tactic(auto, unfolding(crate::specs::Step::set_in), using(crate::proofs::Setting::set_outcome))]
+    pub fn check_set(&self, request: &Request) -> Result<(), Refusal>
+        ensures { result ≡ outcome_of (set_in E.layout request.now.instance (mask_of request.now.contents) (drop 2 request.now.contents) self.now) }
+    {
+        match self.get(request.instance) {
+            Some(entity) => check_set(
+                entity,
+                mask_of(&request.contents),
+                set_values(&request.contents),
+            ),
+            None => Err(Refusal::UnknownInstance),
+        }
+    }
+
+    /// Writes the attributes that a Set names, which isn't refused.
+    pub fn set(&mut self, request: &Request)
+        requires { is_ok (set_in E.layout request.now.instance (mask_of request.now.contents) (drop 2 request.now.contents) self.old) ≡ true }
+        ensures { self.new ≡ left_by self.old (set_in E.layout request.now.instance (mask_of request.now.contents) (drop 2 request.now.contents) self.old) }
+    {
+        if let Ok(at) = self.search(request.instance) {
+            let row = &mut self.rows[at];
+            set(
+                &mut row.entity,
+                mask_of(&request.contents),
+                set_values(&request.contents),
+            );
         }
     }
 

@@ -90,7 +90,9 @@ impl ManagedEntity for Interwork {
         }
     }
 
-    fn put_entry(&mut self, _entry: &[u8]) -> Result<(), Refusal> {
+    fn check_entry(&self, _entry: &[u8]) -> Result<(), Refusal> {
         Err(Refusal::NotSupported)
     }
+
+    fn put_entry(&mut self, _entry: &[u8]) {}
 }

@@ -19,6 +19,8 @@ ghost use Rattle.mib_state.specs.After.{AcceptedSuffice};
 
 mod attribute;
 mod bytes;
+mod check;
+mod class;
 mod entity;
 mod gem_port;
 mod get;
@@ -30,6 +32,7 @@ mod mib;
 mod onu_data;
 mod refusal;
 mod set;
+mod step;
 mod vlan;
 mod write;
 

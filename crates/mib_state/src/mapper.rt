@@ -116,9 +116,11 @@ impl ManagedEntity for Mapper {
         }
     }
 
-    fn put_entry(&mut self, _entry: &[u8]) -> Result<(), Refusal> {
+    fn check_entry(&self, _entry: &[u8]) -> Result<(), Refusal> {
         Err(Refusal::NotSupported)
     }
+
+    fn put_entry(&mut self, _entry: &[u8]) {}
 }
 
 impl PortEntity for Mapper {

@@ -1,6 +1,17 @@
 //! Attribute masks (ITU-T G.988, clause A.2).
 ghost use Rattle.std.specs.Prelude.{◌≡◌, ◌≤◌, ◌<◌};
 ghost use Rattle.mib_state.specs.Mask.{bit_of, names, unknown_of};
+ghost use Rattle.mib_state.specs.Step.{mask_of};
+
+use byteorder::{BigEndian, ByteOrder};
+
+/// The mask of a Get or a Set.
+#[tactic(auto, unfolding(crate::specs::Step::mask_of))]
+pub fn mask_of(contents: &[u8; 32]) -> u16
+    ensures { result ≡ mask_of contents.now }
+{
+    BigEndian::read_u16(contents)
+}
 
 /// Whether a mask names the attribute at a place.
 pub fn names(mask: u16, place: usize) -> bool

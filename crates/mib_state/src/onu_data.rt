@@ -6,8 +6,10 @@ use crate::attribute::Attribute;
 use crate::bytes::{Bytes, byte, one};
 use crate::entity::ManagedEntity;
 use crate::get::get_contents;
+use crate::mask::mask_of;
 use crate::refusal::Refusal;
-use crate::set::set;
+use crate::set::{check_set, set, set_values};
+use omci_msg::Request;
 use std::alloc::{AllocError, Global};
 
 /// ONU data (ITU-T G.988, clause 9.1.3).
@@ -18,11 +20,11 @@ pub struct OnuData {
 }
 
 impl OnuData {
-    ghost use Rattle.std.specs.Prelude.{◌≡◌, length};
+    ghost use Rattle.std.specs.Prelude.{◌≡◌, drop, is_ok, true};
     ghost use Rattle.mib_state.specs.Answer.{outcome_of, left_by};
     ghost use Rattle.mib_state.specs.Class.{onu_data_layout};
     ghost use Rattle.mib_state.specs.Entities.{find, onu_data, sync_of};
-    ghost use Rattle.mib_state.specs.Step.{next_sync, get_found, set_in};
+    ghost use Rattle.mib_state.specs.Step.{next_sync, mask_of, get_found, set_in};
 
     /// Counts a change: 255 is followed by 1.
     pub fn count(&mut self)
@@ -31,27 +33,44 @@ impl OnuData {
         self.sync = self.sync.checked_add(1).unwrap_or(1);
     }
 
-    /// The answer to a Get of the instance of a number; there is instance 0 alone.
-    pub fn read(&self, number: u16, mask: u16) -> Result<[u8; 32], Refusal>
-        ensures { result ≡ get_found onu_data_layout mask (find number (onu_data self.now.sync ∷ [])) }
+    /// The answer to a Get; there is instance 0 alone.
+    pub fn read(&self, request: &Request) -> Result<[u8; 32], Refusal>
+        ensures { result ≡ get_found onu_data_layout (mask_of request.now.contents) (find request.now.instance (onu_data self.now.sync ∷ [])) }
     {
-        if number != 0 {
+        if request.instance != 0 {
             return Err(Refusal::UnknownInstance);
         }
-        Ok(get_contents(self, mask))
+        Ok(get_contents(self, mask_of(&request.contents)))
     }
 
-    /// Writes the attributes of the instance of a number that a mask names; there is instance 0 alone.
-    #[tactic(auto, unfolding(crate::specs::Step::set_in), using(crate::proofs::Sync::written_sync))]
-    pub fn set(&mut self, number: u16, mask: u16, bytes: &[u8]) -> Result<(), Refusal>
-        requires { length bytes.now ≡ 30 }
-        ensures outcome { result ≡ outcome_of (set_in onu_data_layout number mask bytes.now (onu_data self.old.sync ∷ [])) }
-        ensures after { self.new.sync ≡ sync_of (left_by (onu_data self.old.sync ∷ []) (set_in onu_data_layout number mask bytes.now (onu_data self.old.sync ∷ []))) }
+    /// Whether a Set is refused; there is instance 0 alone.
+    #[tactic(auto, unfolding(crate::specs::Step::set_in), using(crate::proofs::Setting::set_outcome))]
+    pub fn check_set(&self, request: &Request) -> Result<(), Refusal>
+        ensures { result ≡ outcome_of (set_in onu_data_layout request.now.instance (mask_of request.now.contents) (drop 2 request.now.contents) (onu_data self.now.sync ∷ [])) }
     {
-        if number != 0 {
+        if request.instance != 0 {
             return Err(Refusal::UnknownInstance);
         }
-        set(self, mask, bytes)
+        check_set(
+            self,
+            mask_of(&request.contents),
+            set_values(&request.contents),
+        )
+    }
+
+    /// Writes the attributes that a Set names, which isn't refused.
+    #[tactic(auto, unfolding(crate::specs::Step::set_in))]
+    pub fn set(&mut self, request: &Request)
+        requires { is_ok (set_in onu_data_layout request.now.instance (mask_of request.now.contents) (drop 2 request.now.contents) (onu_data self.old.sync ∷ [])) ≡ true }
+        ensures { self.new.sync ≡ sync_of (left_by (onu_data self.old.sync ∷ []) (set_in onu_data_layout request.now.instance (mask_of request.now.contents) (drop 2 request.now.contents) (onu_data self.old.sync ∷ []))) }
+    {
+        if request.instance == 0 {
+            set(
+                self,
+                mask_of(&request.contents),
+                set_values(&request.contents),
+            );
+        }
     }
 }
 
@@ -111,7 +130,9 @@ impl ManagedEntity for OnuData {
         }
     }
 
-    fn put_entry(&mut self, _entry: &[u8]) -> Result<(), Refusal> {
+    fn check_entry(&self, _entry: &[u8]) -> Result<(), Refusal> {
         Err(Refusal::NotSupported)
     }
+
+    fn put_entry(&mut self, _entry: &[u8]) {}
 }

@@ -1,9 +1,9 @@
-//! What a Set does to an instance.
-ghost use Rattle.std.specs.Prelude.{◌≡◌, ◌≤◌, ℕ, length};
+//! What a Set does to an instance: a check, which may refuse it, and the change.
+ghost use Rattle.std.specs.Prelude.{◌≡◌, ◌≤◌, ℕ, length, drop};
 ghost use Rattle.mib_state.specs.Entities.{shown_as};
 ghost use Rattle.mib_state.specs.Mask.{named_width, unwritable_of};
 ghost use Rattle.mib_state.specs.Answer.{outcome_of, left_by};
-ghost use Rattle.mib_state.specs.Step.{entry_at, entries_after, set_instance};
+ghost use Rattle.mib_state.specs.Step.{entry_at, entries_after, set_instance, written};
 
 use crate::attribute::Attribute;
 use crate::entity::ManagedEntity;
@@ -56,26 +56,33 @@ fn unwritable(layout: &[Attribute], mask: u16) -> u16
     unwritable
 }
 
-/// Puts the entry of the table, if the mask names the table.
-fn put_named<E: ManagedEntity>(entity: &mut E, mask: u16, bytes: &[u8]) -> Result<(), Refusal>
+/// Whether the table takes the entry that is set, if the mask names the table.
+fn check_named<E: ManagedEntity>(entity: &E, mask: u16, bytes: &[u8]) -> Result<(), Refusal>
     requires { named_width mask 0 E.layout ≤ length bytes.now }
-    ensures outcome { result ≡ outcome_of (entries_after (entry_at mask 0 E.layout) bytes.now (E.entries entity.old)) }
-    ensures entries { E.entries entity.new ≡ left_by (E.entries entity.old) (entries_after (entry_at mask 0 E.layout) bytes.now (E.entries entity.old)) }
-    ensures values { E.values entity.new ≡ E.values entity.old }
+    ensures { result ≡ outcome_of (entries_after (entry_at mask 0 E.layout) bytes.now (E.entries entity.now)) }
 {
     match entry_at(E::layout(), mask) {
-        Some(at) => entity.put_entry(&bytes[at..at + 16]),
+        Some(at) => entity.check_entry(&bytes[at..at + 16]),
         None => Ok(()),
     }
 }
 
-/// Writes the attributes that a mask names, or none of them. The table, which alone can refuse its value, comes first.
-#[tactic(auto, unfolding(crate::specs::Step::set_instance))]
-pub fn set<E: ManagedEntity>(entity: &mut E, mask: u16, bytes: &[u8]) -> Result<(), Refusal>
+/// Puts the entry that is set into the table, if the mask names the table.
+fn put_named<E: ManagedEntity>(entity: &mut E, mask: u16, bytes: &[u8])
+    requires { named_width mask 0 E.layout ≤ length bytes.now }
+    ensures entries { E.entries entity.new ≡ left_by (E.entries entity.old) (entries_after (entry_at mask 0 E.layout) bytes.now (E.entries entity.old)) }
+    ensures values { E.values entity.new ≡ E.values entity.old }
+{
+    if let Some(at) = entry_at(E::layout(), mask) {
+        entity.put_entry(&bytes[at..at + 16]);
+    }
+}
+
+/// Whether a Set of the attributes that a mask names is refused.
+#[tactic(auto, unfolding(crate::specs::Step::set_instance), using(crate::proofs::Setting::outcome_of_with_entries))]
+pub fn check_set<E: ManagedEntity>(entity: &E, mask: u16, bytes: &[u8]) -> Result<(), Refusal>
     requires { length bytes.now ≡ 30 }
-    ensures outcome { (n : ℕ) → result ≡ outcome_of (set_instance E.layout mask bytes.now (shown_as n (E.values entity.old) (E.entries entity.old))) }
-    ensures after { (n : ℕ) → shown_as n (E.values entity.new) (E.entries entity.new)
-        ≡ left_by (shown_as n (E.values entity.old) (E.entries entity.old)) (set_instance E.layout mask bytes.now (shown_as n (E.values entity.old) (E.entries entity.old))) }
+    ensures { (n : ℕ) → result ≡ outcome_of (set_instance E.layout mask bytes.now (shown_as n (E.values entity.now) (E.entries entity.now))) }
 {
     let layout = E::layout();
     let unknown = unknown(mask, layout.len());
@@ -86,7 +93,24 @@ pub fn set<E: ManagedEntity>(entity: &mut E, mask: u16, bytes: &[u8]) -> Result<
     if named_width(layout, mask) > 30 {
         return Err(Refusal::ParameterError);
     }
-    put_named(entity, mask, bytes)?;
+    check_named(entity, mask, bytes)
+}
+
+/// Writes the attributes that a mask names, by a Set that isn't refused.
+pub fn set<E: ManagedEntity>(entity: &mut E, mask: u16, bytes: &[u8])
+    requires fits { named_width mask 0 E.layout ≤ length bytes.now }
+    requires writable { unwritable_of mask 0 E.layout ≡ 0 }
+    ensures values { E.values entity.new ≡ written mask 0 E.layout bytes.now (E.values entity.old) }
+    ensures entries { E.entries entity.new ≡ left_by (E.entries entity.old) (entries_after (entry_at mask 0 E.layout) bytes.now (E.entries entity.old)) }
+{
+    put_named(entity, mask, bytes);
     write(entity, mask, bytes);
-    Ok(())
+}
+
+/// The values of a Set.
+pub fn set_values(contents: &[u8; 32]) -> &[u8]
+    ensures values { result.now ≡ drop 2 contents.now }
+    ensures len { length result.now ≡ 30 }
+{
+    &contents[2..]
 }

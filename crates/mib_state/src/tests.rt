@@ -2,6 +2,7 @@ use crate::Mib;
 use omci_msg::{Action, OtherCode, Reply, Request};
 use pmapper::{GemPort, Interwork, Mapper};
 use std::alloc::{AllocError, Global};
+use std::process::Abort;
 use std::test::Fail;
 use tag_view::DscpMap;
 
@@ -24,6 +25,23 @@ fn request(action: Action, class: u16, instance: u16, bytes: &[u8]) -> Request {
         instance,
         contents: contents(bytes),
     }
+}
+
+/// The contents of the answer to a Get: its first bytes, and the two masks behind the values.
+fn got(first: &[u8], masks: [u8; 4]) -> [u8; 32] {
+    let mut contents = contents(first);
+    contents[28..].copy_from_slice(&masks);
+    contents
+}
+
+/// A Get of the attributes of a mask.
+fn get(class: u16, instance: u16, mask: u16) -> Request {
+    request(Action::Get, class, instance, &mask.to_be_bytes())
+}
+
+/// The deletion of an instance.
+fn delete(class: u16, instance: u16) -> Request {
+    request(Action::Delete, class, instance, &[])
 }
 
 /// The creation of a GEM port network CTP: port-ID 1024, T-CONT 0x8001, both directions.
@@ -68,7 +86,7 @@ fn set(class: u16, instance: u16, mask: u16, values: &[u8]) -> Request {
 
 /// A Set of an entry of table 0x0701, by its four words.
 fn set_entry(words: [u32; 4]) -> Request {
-    let mut set = request(Action::Set, 171, 0x0701, &[4, 0]);
+    let mut set = set(171, 0x0701, 0x0400, &[]);
     for (to, word) in set.contents[2..].chunks_exact_mut(4).zip(words) {
         to.copy_from_slice(&word.to_be_bytes());
     }
@@ -83,6 +101,25 @@ fn set_up(alloc: Global) -> Result<Mib, AllocError> {
     let _ = mib.step(&create_mapper(0x0601, 257, 0x0501));
     let _ = mib.step(&create_vlan(0x0701, 257));
     Ok(mib)
+}
+
+/// A request, the contents of its answer, and the sync after it.
+type Turn = (Request, [u8; 32], u8);
+
+/// Carries requests out, one after another. `result_of` gives the result of each before.
+fn take(rt: &impl Abort, mib: &mut Mib, turns: &[Turn]) -> Result<(), Fail> {
+    for (at, (sent, wanted, sync)) in turns.iter().enumerate() {
+        let told = mib.result_of(sent);
+        assert_eq!(rt; mib.step(sent).contents, *wanted, "the answer of turn {at}");
+        assert_eq!(rt; told, wanted[0], "the result of turn {at}");
+        assert_eq!(rt; mib.sync(), *sync, "the sync after turn {at}");
+    }
+    Ok(())
+}
+
+/// The contents of an answer that has the result alone.
+fn only(code: u8) -> [u8; 32] {
+    contents(&[code])
 }
 
 #[test]
@@ -118,77 +155,30 @@ fn a_get_returns_each_attribute_that_fits_and_names_the_others(
     rt: HostRuntime,
 ) -> Result<(), Fail> {
     let mut mib = set_up(rt.alloc())?;
-    let all = [9, 0xff, 0xc0, 4, 0, 0x80, 1, 3];
-    let table = [0, 4, 0, 0, 0, 0, 0x30];
-    let of_vlan = [
+    let ten = [9, 0xff, 0xc0, 4, 0, 0x80, 1, 3];
+    let of_table = [
         9, 0xfe, 0, 2, 0, 64, 0x81, 0, 0x81, 0, 0, 0, 0, 0, 0x30, 1, 1,
     ];
-    for (class, instance, mask, wanted, last, what) in [
-        (
-            268,
-            0x0401,
-            0xffff,
-            all.as_slice(),
-            [0, 0x3f, 0, 0],
-            "ten that are there, six that aren't",
-        ),
-        (268, 0x0401, 0, [0].as_slice(), [0, 0, 0, 0], "none"),
-        (
-            266,
-            0x0501,
-            0x8100,
-            [0, 0x81, 0, 4, 1, 0].as_slice(),
-            [0, 0, 0, 0],
-            "the first and the last",
-        ),
-        (
-            130,
-            0x0601,
-            0x8020,
-            [9, 0x80, 0, 1, 1].as_slice(),
-            [0, 0, 0, 0x20],
-            "1 and 11",
-        ),
-        (
-            130,
-            0x0601,
-            0x8030,
-            [9, 0x80, 0x10, 1, 1, 0].as_slice(),
-            [0, 0, 0, 0x20],
-            "1, 11 and 12",
-        ),
-        (
-            130,
-            0x0601,
-            0x0030,
-            [0, 0, 0x30].as_slice(),
-            [0, 0, 0, 0],
-            "11 and 12, 25 bytes",
-        ),
-        (
-            171,
-            0x0701,
-            0x0400,
-            table.as_slice(),
-            [0, 0, 0, 0],
-            "the table",
-        ),
-        (
-            171,
-            0x0701,
-            0xff00,
-            of_vlan.as_slice(),
-            [0, 0, 1, 0],
-            "all of a table's",
-        ),
-    ] {
-        let reply = mib.step(&request(Action::Get, class, instance, &u16::to_be_bytes(mask)));
-        let mut contents = contents(wanted);
-        contents[28..].copy_from_slice(&last);
-        assert_eq!(rt; reply.contents, contents, "the answer to a Get of {what}");
-        assert_eq!(rt; mib.sync(), 4, "the sync after a Get of {what}");
-    }
-    Ok(())
+    let size = [0, 4, 0, 0, 0, 0, 0x30];
+    let map = [0, 0, 0, 0x20];
+    take(
+        &rt,
+        &mut mib,
+        &[
+            (get(268, 0x0401, 0xffff), got(&ten, [0, 0x3f, 0, 0]), 4),
+            (get(130, 0x0601, 0x8020), got(&[9, 0x80, 0, 1, 1], map), 4),
+            (
+                get(130, 0x0601, 0x8030),
+                got(&[9, 0x80, 0x10, 1, 1], map),
+                4,
+            ),
+            (get(130, 0x0601, 0x0030), contents(&[0, 0, 0x30]), 4),
+            (get(266, 0x0501, 0x8100), contents(&[0, 0x81, 0, 4, 1]), 4),
+            (get(171, 0x0701, 0x0400), contents(&size), 4),
+            (get(171, 0x0701, 0xff00), got(&of_table, [0, 0, 1, 0]), 4),
+            (get(268, 0x0401, 0), only(0), 4),
+        ],
+    )
 }
 
 #[test]
@@ -196,78 +186,22 @@ fn the_sync_is_an_attribute_of_onu_data_and_a_set_of_it_counts_nothing(
     rt: HostRuntime,
 ) -> Result<(), Fail> {
     let mut mib = Mib::new(rt.alloc())?;
-    let get = request(Action::Get, 2, 0, &[0x80, 0]);
-    let get_two = request(Action::Get, 2, 0, &[0xc0, 0]);
-    for (sent, wanted, last, sync, what) in [
-        (
-            create_gem_port(0x0401),
-            [0, 0, 0, 0, 0],
-            [0, 0],
-            1,
-            "a Create",
-        ),
-        (
-            create_gem_port(0x0401),
-            [7, 0, 0, 0, 0],
-            [0, 0],
-            1,
-            "the same again",
-        ),
-        (get, [0, 0x80, 0, 1, 0], [0, 0], 1, "a Get of the sync"),
-        (
-            get_two,
-            [9, 0x80, 0, 1, 0],
-            [0x40, 0],
-            1,
-            "a Get of two attributes",
-        ),
-        (
-            set(2, 0, 0x8000, &[254]),
-            [0, 0, 0, 0, 0],
-            [0, 0],
-            254,
-            "a Set of the sync",
-        ),
-        (
-            set(2, 0, 0, &[7]),
-            [0, 0, 0, 0, 0],
-            [0, 0],
-            254,
-            "a Set of nothing",
-        ),
-        (
-            set(2, 0, 0xc000, &[7]),
-            [9, 0x40, 0, 0, 0],
-            [0, 0],
-            254,
-            "a Set of two attributes",
-        ),
-        (
-            create_gem_port(0x0402),
-            [0, 0, 0, 0, 0],
-            [0, 0],
-            255,
-            "a Create",
-        ),
-        (
-            create_gem_port(0x0403),
-            [0, 0, 0, 0, 0],
-            [0, 0],
-            1,
-            "a third Create",
-        ),
-    ] {
-        let mut contents = contents(&wanted);
-        contents[28..30].copy_from_slice(&last);
-        assert_eq!(rt; mib.step(&sent).contents, contents, "the answer to {what}");
-        assert_eq!(rt; mib.sync(), sync, "the sync after {what}");
-        let shown = mib.attribute(2, 0, 1);
-        assert_eq!(rt;
-            shown.as_ref().map(|bytes| bytes.as_slice()),
-            Some([sync].as_slice())
-        );
-    }
-    Ok(())
+    let two = got(&[9, 0x80, 0, 1], [0x40, 0, 0, 0]);
+    take(
+        &rt,
+        &mut mib,
+        &[
+            (create_gem_port(0x0401), only(0), 1),
+            (create_gem_port(0x0401), only(7), 1),
+            (get(2, 0, 0x8000), contents(&[0, 0x80, 0, 1]), 1),
+            (get(2, 0, 0xc000), two, 1),
+            (set(2, 0, 0x8000, &[254]), only(0), 254),
+            (set(2, 0, 0, &[7]), only(0), 254),
+            (set(2, 0, 0xc000, &[7]), contents(&[9, 0x40]), 254),
+            (create_gem_port(0x0402), only(0), 255),
+            (create_gem_port(0x0403), only(0), 1),
+        ],
+    )
 }
 
 #[test]
@@ -275,73 +209,92 @@ fn refusals_have_their_results(rt: HostRuntime) -> Result<(), Fail> {
     let mut mib = Mib::new(rt.alloc())?;
     let _ = mib.step(&create_gem_port(0x0401));
     let other = Action::Other(OtherCode { code: 25 });
-    for (action, class, instance, wanted, what) in [
-        (Action::Create, 45, 1, 4, "a class that isn't known"),
-        (Action::Delete, 45, 1, 4, "a Delete of such a class"),
-        (Action::Set, 45, 1, 4, "a Set of such a class"),
-        (Action::Get, 45, 1, 4, "a Get of such a class"),
-        (
-            Action::Create,
-            268,
-            0xffff,
-            3,
-            "the instance that means none",
-        ),
-        (Action::Create, 268, 0x0401, 7, "an instance that exists"),
-        (
-            Action::Delete,
-            268,
-            0x0999,
-            5,
-            "a Delete of one that doesn't",
-        ),
-        (Action::Set, 268, 0x0999, 5, "a Set of one that doesn't"),
-        (Action::Get, 268, 0x0999, 5, "a Get of one that doesn't"),
-        (Action::Get, 130, 0x0999, 5, "a Get of an absent mapper"),
-        (Action::Get, 171, 0x0999, 5, "a Get of an absent table"),
-        (Action::Create, 2, 0, 2, "the creation of ONU data"),
-        (
-            Action::Create,
-            2,
-            0xffff,
-            2,
-            "that of its instance that means none",
-        ),
-        (Action::Delete, 2, 0, 2, "the deletion of ONU data"),
-        (
-            Action::Delete,
-            2,
-            7,
-            2,
-            "that of an instance that isn't there",
-        ),
-        (Action::Set, 2, 1, 5, "a Set of a second ONU data"),
-        (Action::Get, 2, 1, 5, "a Get of a second ONU data"),
-        (Action::GetNext, 268, 0x0401, 2, "Get next"),
-        (Action::MibUpload, 2, 0, 2, "MIB upload"),
-        (Action::MibUploadNext, 2, 0, 2, "MIB upload next"),
-        (other, 2, 0, 2, "Get all alarms next"),
+    for (action, class, instance, wanted) in [
+        (Action::Create, 45, 1, 4),
+        (Action::Create, 45, 0xffff, 4),
+        (Action::Delete, 45, 1, 4),
+        (Action::Set, 45, 1, 4),
+        (Action::Get, 45, 1, 4),
+        (Action::Create, 2, 0, 2),
+        (Action::Create, 2, 0xffff, 2),
+        (Action::Delete, 2, 0, 2),
+        (Action::Delete, 2, 7, 2),
+        (Action::Create, 268, 0xffff, 3),
+        (Action::Create, 268, 0x0401, 7),
+        (Action::Delete, 268, 0x0999, 5),
+        (Action::Set, 268, 0x0999, 5),
+        (Action::Get, 268, 0x0999, 5),
+        (Action::Get, 130, 0x0999, 5),
+        (Action::Get, 171, 0x0999, 5),
+        (Action::Set, 2, 1, 5),
+        (Action::Get, 2, 1, 5),
+        (Action::GetNext, 268, 0x0401, 2),
+        (Action::MibUpload, 2, 0, 2),
+        (Action::MibUploadNext, 2, 0, 2),
+        (other, 2, 0, 2),
     ] {
-        let reply = mib.step(&request(action, class, instance, &[0xff, 0xff]));
-        assert_eq!(rt; reply.contents, contents(&[wanted]), "the answer to {what}");
-        assert_eq!(rt; mib.sync(), 1, "sync after {what}");
+        let sent = request(action, class, instance, &[0xff, 0xff]);
+        assert_eq!(rt;
+            mib.result_of(&sent),
+            wanted,
+            "{action:?} of {class} {instance}"
+        );
+        assert_eq!(rt;
+            mib.step(&sent).contents,
+            only(wanted),
+            "{action:?} of {class} {instance}"
+        );
+        assert_eq!(rt;
+            mib.sync(),
+            1,
+            "the sync after {action:?} of {class} {instance}"
+        );
     }
     Ok(())
 }
 
 #[test]
-fn the_sync_goes_from_255_to_1_and_the_room_ends_at_256(rt: HostRuntime) -> Result<(), Fail> {
+fn the_first_refusal_counts_and_the_room_ends_at_256(rt: HostRuntime) -> Result<(), Fail> {
+    let mut mib = set_up(rt.alloc())?;
+    let size = [0, 4, 0, 0, 0, 0, 0x30];
+    let alarms = request(Action::Other(OtherCode { code: 25 }), 2, 0, &[]);
+    take(
+        &rt,
+        &mut mib,
+        &[
+            (request(Action::Create, 45, 1, &[]), only(4), 4),
+            (request(Action::Create, 2, 0, &[]), only(2), 4),
+            (create_gem_port(0xffff), only(3), 4),
+            (delete(268, 0x0999), only(5), 4),
+            (alarms, only(2), 4),
+            (get(171, 0x0701, 0x0400), contents(&size), 4),
+        ],
+    )?;
+    for number in 0..255 {
+        assert_eq!(rt;
+            mib.step(&create_gem_port(number)).contents,
+            only(0),
+            "Create {number}"
+        );
+    }
+    assert_eq!(rt; mib.result_of(&create_gem_port(255)), 1);
+    assert_eq!(rt; mib.step(&create_gem_port(255)).contents, only(1));
+    Ok(())
+}
+
+#[test]
+fn the_sync_goes_from_255_to_1(rt: HostRuntime) -> Result<(), Fail> {
     let mut mib = Mib::new(rt.alloc())?;
     for made in 1..=256 {
         // From the greatest number down, so that each goes before the others.
-        let reply = mib.step(&create_gem_port(1000 - made));
-        assert_eq!(rt; reply.contents, [0; 32], "the answer to Create {made}");
+        assert_eq!(rt;
+            mib.step(&create_gem_port(1000 - made)).contents,
+            only(0),
+            "Create {made}"
+        );
         let wanted = if made == 256 { 1 } else { made };
         assert_eq!(rt; mib.sync() as u16, wanted, "the sync after Create {made}");
     }
-    assert_eq!(rt; mib.step(&create_gem_port(1000)).contents, contents(&[1]));
-    assert_eq!(rt; mib.sync(), 1);
-    assert_eq!(rt; mib.gem_port(1000).copied(), None);
     assert_eq!(rt; mib.gem_port(999).is_some(), true);
     assert_eq!(rt; mib.gem_port(744).is_some(), true);
     Ok(())
@@ -353,8 +306,7 @@ fn a_mib_reset_leaves_no_instance_and_sync_0(rt: HostRuntime) -> Result<(), Fail
     // Its class and its instance aren't looked at.
     let reset = request(Action::MibReset, 45, 0xffff, &[0xff]);
     let write = set(268, 0x0401, 0x8000, &[4, 0]);
-    assert_eq!(rt; mib.step(&reset).contents, [0; 32]);
-    assert_eq!(rt; mib.sync(), 0);
+    take(&rt, &mut mib, &[(reset, only(0), 0)])?;
     for class in [130, 171, 266, 268] {
         assert_eq!(rt;
             mib.next_instance(class, 0),
@@ -362,76 +314,27 @@ fn a_mib_reset_leaves_no_instance_and_sync_0(rt: HostRuntime) -> Result<(), Fail
             "class {class} after a MIB reset"
         );
     }
-    assert_eq!(rt; mib.step(&create_gem_port(0x0401)).contents, [0; 32]);
-    for _n in 0..254 {
-        assert_eq!(rt; mib.step(&write).contents, [0; 32]);
+    take(&rt, &mut mib, &[(create_gem_port(0x0401), only(0), 1)])?;
+    for count in 2..=255 {
+        take(&rt, &mut mib, &[(write, only(0), count)])?;
     }
-    assert_eq!(rt; mib.sync(), 0xff);
-    assert_eq!(rt; mib.step(&write).contents, [0; 32]);
-    assert_eq!(rt; mib.sync(), 1);
-    for number in 0..15 {
-        assert_eq!(rt; mib.step(&create_vlan(number, 257)).contents, [0; 32]);
-    }
-    assert_eq!(rt; mib.step(&reset).contents, [0; 32]);
-    assert_eq!(rt; mib.sync(), 0);
+    take(
+        &rt,
+        &mut mib,
+        &[
+            (write, only(0), 1),
+            (create_vlan(0, 257), only(0), 2),
+            (reset, only(0), 0),
+        ],
+    )?;
     for number in 0..16 {
-        assert_eq!(rt; mib.step(&create_vlan(number, 257)).contents, [0; 32]);
-    }
-    assert_eq!(rt; mib.step(&create_vlan(16, 257)).contents, contents(&[1]));
-    Ok(())
-}
-
-#[test]
-fn the_first_refusal_counts_and_the_room_ends_at_256(rt: HostRuntime) -> Result<(), Fail> {
-    let mut mib = set_up(rt.alloc())?;
-    let alarms = Action::Other(OtherCode { code: 25 });
-    for (sent, wanted, what) in [
-        (
-            request(Action::Create, 45, 1, &[]),
-            [4, 0, 0, 0, 0, 0, 0],
-            "an unknown class",
-        ),
-        (
-            request(Action::Create, 2, 0, &[]),
-            [2, 0, 0, 0, 0, 0, 0],
-            "the creation of ONU data",
-        ),
-        (
-            create_gem_port(0xffff),
-            [3, 0, 0, 0, 0, 0, 0],
-            "the instance that means none",
-        ),
-        (
-            request(Action::Delete, 268, 0x0999, &[]),
-            [5, 0, 0, 0, 0, 0, 0],
-            "an absent instance",
-        ),
-        (
-            request(alarms, 2, 0, &[]),
-            [2, 0, 0, 0, 0, 0, 0],
-            "Get all alarms next",
-        ),
-        (
-            request(Action::Get, 171, 0x0701, &[4, 0]),
-            [0, 4, 0, 0, 0, 0, 0x30],
-            "a Get of a table",
-        ),
-    ] {
         assert_eq!(rt;
-            mib.step(&sent).contents,
-            contents(&wanted),
-            "the answer to {what}"
+            mib.step(&create_vlan(number, 257)).contents,
+            only(0),
+            "table {number}"
         );
     }
-    for number in 0..255 {
-        assert_eq!(rt;
-            mib.step(&create_gem_port(number)).contents,
-            [0; 32],
-            "Create {number}"
-        );
-    }
-    assert_eq!(rt; mib.step(&create_gem_port(255)).contents, contents(&[1]));
-    Ok(())
+    take(&rt, &mut mib, &[(create_vlan(16, 257), only(1), 16)])
 }
 
 #[test]
@@ -503,69 +406,50 @@ fn points_and_mappers_are_created_shown_and_deleted(rt: HostRuntime) -> Result<(
         service_profile_pointer: 0x0601,
         ..Interwork::default()
     };
-    let mut port = GemPort {
+    let port = GemPort {
         port_id: 1024,
         t_cont_pointer: 0x8001,
-        direction: 3,
+        direction: 2,
         ..GemPort::default()
     };
-    for (set_up, what) in [
-        (create_gem_port(0x0401), "GEM port network CTP"),
-        (
-            create_interwork(0x0501),
-            "GEM interworking termination point",
-        ),
-        (create_mapper(0x0601, 257, 0x0501), "mapper"),
-        (create_mapper(0x0602, 258, 0xffff), "mapper of another port"),
-    ] {
-        assert_eq!(rt;
-            mib.step(&set_up).contents,
-            [0; 32],
-            "the answer to the creation of a {what}"
-        );
-    }
-    assert_eq!(rt; mib.gem_port(0x0401).copied(), Some(port));
+    take(
+        &rt,
+        &mut mib,
+        &[
+            (create_interwork(0x0501), only(0), 1),
+            (create_mapper(0x0601, 257, 0x0501), only(0), 2),
+            (create_mapper(0x0602, 258, 0xffff), only(0), 3),
+        ],
+    )?;
     assert_eq!(rt; mib.interwork(0x0501).copied(), Some(point));
     assert_eq!(rt; mib.mapper(0x0601).copied(), Some(mapper));
     assert_eq!(rt; mib.mapper_of_port(257), Some(0x0601));
     assert_eq!(rt; mib.mapper_of_port(258), Some(0x0602));
     assert_eq!(rt; mib.mapper_of_port(259), None);
     let again = request(Action::Create, 268, 0x0401, &[4, 0, 0x80, 1, 2]);
-    port.direction = 2;
-    for (change, what) in [
-        (
-            request(Action::Delete, 268, 0x0401, &[]),
-            "GEM port network CTP's deletion",
-        ),
-        (again, "GEM port network CTP's second creation"),
-        (
-            request(Action::Delete, 266, 0x0501, &[]),
-            "GEM interworking termination point's deletion",
-        ),
-        (
-            request(Action::Delete, 130, 0x0601, &[]),
-            "mapper's deletion",
-        ),
-    ] {
-        assert_eq!(rt;
-            mib.step(&change).contents,
-            [0; 32],
-            "the answer to the {what}"
-        );
-    }
+    take(
+        &rt,
+        &mut mib,
+        &[
+            (create_gem_port(0x0401), only(0), 4),
+            (delete(268, 0x0401), only(0), 5),
+            (again, only(0), 6),
+            (delete(266, 0x0501), only(0), 7),
+            (delete(130, 0x0601), only(0), 8),
+        ],
+    )?;
     assert_eq!(rt; mib.gem_port(0x0401).copied(), Some(port));
     assert_eq!(rt; mib.interwork(0x0501).copied(), None);
     assert_eq!(rt; mib.mapper(0x0601).copied(), None);
     assert_eq!(rt; mib.mapper_of_port(257), None);
     assert_eq!(rt; mib.mapper_of_port(258), Some(0x0602));
-    assert_eq!(rt; mib.sync(), 8);
     Ok(())
 }
 
 #[test]
 fn of_two_mappers_of_a_port_the_least_is_its_own(rt: HostRuntime) -> Result<(), Fail> {
     let mut mib = Mib::new(rt.alloc())?;
-    let bridge = request(Action::Create, 130, 0x0500, &[1, 1]);
+    let of_bridge = request(Action::Create, 130, 0x0500, &[1, 1]);
     for (change, wanted, what) in [
         (
             create_mapper(0x0601, 257, 0x0501),
@@ -582,26 +466,14 @@ fn of_two_mappers_of_a_port_the_least_is_its_own(rt: HostRuntime) -> Result<(), 
             Some(0x0600),
             "a greater one is made",
         ),
-        (bridge, Some(0x0600), "one with another TP type is made"),
-        (
-            request(Action::Delete, 130, 0x0600, &[]),
-            Some(0x0601),
-            "the least is deleted",
-        ),
-        (
-            request(Action::Delete, 130, 0x0601, &[]),
-            Some(0x0602),
-            "the next is deleted",
-        ),
-        (
-            request(Action::Delete, 130, 0x0602, &[]),
-            None,
-            "the last is deleted",
-        ),
+        (of_bridge, Some(0x0600), "one with another TP type is made"),
+        (delete(130, 0x0600), Some(0x0601), "the least is deleted"),
+        (delete(130, 0x0601), Some(0x0602), "the next is deleted"),
+        (delete(130, 0x0602), None, "the last is deleted"),
     ] {
         assert_eq!(rt;
             mib.step(&change).contents,
-            [0; 32],
+            only(0),
             "the answer where {what}"
         );
         assert_eq!(rt; mib.mapper_of_port(257), wanted, "the mapper after {what}");
@@ -610,147 +482,120 @@ fn of_two_mappers_of_a_port_the_least_is_its_own(rt: HostRuntime) -> Result<(), 
 }
 
 #[test]
-fn a_class_has_room_of_its_own_and_a_deletion_gives_it_back(rt: HostRuntime) -> Result<(), Fail> {
-    let mut mib = Mib::new(rt.alloc())?;
-    for number in 0..32 {
-        let reply = mib.step(&create_mapper(number, 257, 0x0501));
-        assert_eq!(rt; reply.contents[0], 0, "the answer to mapper {number}");
+fn of_two_tables_of_a_port_the_least_is_its_own(rt: HostRuntime) -> Result<(), Fail> {
+    let mut mib = set_up(rt.alloc())?;
+    let of_mapper = request(Action::Create, 171, 0x0600, &[1, 1, 1]);
+    let entry = set_entry([0xf800_0000, 0xf800_0000, 0x000f_0000, 0x0000_0324]);
+    for (change, wanted, what) in [
+        (entry, Some(0x0701), "an entry is set"),
+        (
+            create_vlan(0x0700, 257),
+            Some(0x0700),
+            "a lesser one is made",
+        ),
+        (of_mapper, Some(0x0700), "one of a mapper is made"),
+        (delete(171, 0x0700), Some(0x0701), "the least is deleted"),
+        (delete(171, 0x0701), None, "the last is deleted"),
+        (create_vlan(0x0701, 257), Some(0x0701), "it is made again"),
+    ] {
+        assert_eq!(rt;
+            mib.step(&change).contents,
+            only(0),
+            "the answer where {what}"
+        );
+        assert_eq!(rt; mib.table_of_port(257), wanted, "the table after {what}");
     }
-    assert_eq!(rt; mib.step(&create_mapper(32, 257, 0x0501)).contents[0], 1);
-    for number in 0..256 {
-        let reply = mib.step(&create_interwork(number));
-        assert_eq!(rt; reply.contents[0], 0, "the answer to point {number}");
-    }
-    assert_eq!(rt; mib.step(&create_interwork(256)).contents[0], 1);
-    let delete = request(Action::Delete, 130, 7, &[]);
-    assert_eq!(rt; mib.step(&delete).contents[0], 0);
-    assert_eq!(rt; mib.step(&delete).contents[0], 5);
-    assert_eq!(rt; mib.step(&create_mapper(32, 257, 0x0501)).contents[0], 0);
-    assert_eq!(rt; mib.step(&create_mapper(33, 257, 0x0501)).contents[0], 1);
+    assert_eq!(rt; mib.table_of_port(258), None);
+    let vlan = mib.vlan(0x0701).ok_or("the table is gone")?;
+    assert_eq!(rt; vlan.table.len(), 3, "a table that is made again is new");
     Ok(())
 }
 
 #[test]
-fn a_set_is_refused_for_what_is_unknown_first(rt: HostRuntime) -> Result<(), Fail> {
-    let mut mib = set_up(rt.alloc())?;
-    assert_eq!(rt; mib.sync(), 4);
-    for (change, wanted, sync, what) in [
-        (
-            set(171, 0x0701, 0x0500, &[]),
-            [3, 0, 0, 0, 0],
-            4,
-            "40 bytes",
-        ),
-        (
-            set(171, 0x0701, 0x0580, &[]),
-            [9, 0, 0x80, 0, 0],
-            4,
-            "attribute 9 among them",
-        ),
-        (set(171, 0x0701, 0, &[]), [0, 0, 0, 0, 0], 5, "nothing"),
-        (
-            set(171, 0x0702, 0, &[]),
-            [5, 0, 0, 0, 0],
-            5,
-            "an absent instance",
-        ),
-    ] {
-        let reply = mib.step(&change);
-        assert_eq!(rt;
-            reply.contents,
-            contents(&wanted),
-            "the answer to a Set of {what}"
-        );
-        assert_eq!(rt; mib.sync(), sync, "the sync after a Set of {what}");
+fn a_class_has_room_of_its_own_and_a_deletion_gives_it_back(rt: HostRuntime) -> Result<(), Fail> {
+    let mut mib = Mib::new(rt.alloc())?;
+    for number in 0..32 {
+        let reply = mib.step(&create_mapper(number, 257, 0x0501));
+        assert_eq!(rt; reply.contents, only(0), "the answer to mapper {number}");
     }
-    Ok(())
+    for number in 0..256 {
+        let reply = mib.step(&create_interwork(number));
+        assert_eq!(rt; reply.contents, only(0), "the answer to point {number}");
+    }
+    take(
+        &rt,
+        &mut mib,
+        &[
+            (create_mapper(32, 257, 0x0501), only(1), 33),
+            (create_interwork(256), only(1), 33),
+            (delete(130, 7), only(0), 34),
+            (delete(130, 7), only(5), 34),
+            (create_mapper(32, 257, 0x0501), only(0), 35),
+            (create_mapper(33, 257, 0x0501), only(1), 35),
+        ],
+    )
 }
 
 #[test]
 fn a_table_holds_64_entries_and_overwrites_a_held_key(rt: HostRuntime) -> Result<(), Fail> {
     let mut mib = set_up(rt.alloc())?;
     for k in 1..=62 {
-        let entry = [
+        let entry = set_entry([
             0xf800_0000,
             0x8000_0000 + k * 32768,
             0x000f_0000,
             0x000f_0000,
-        ];
+        ]);
         let wanted = if k == 62 { 1 } else { 0 };
-        let reply = mib.step(&set_entry(entry));
+        assert_eq!(rt; mib.result_of(&entry), wanted, "the result of entry {k}");
         assert_eq!(rt;
-            reply.contents,
-            contents(&[wanted]),
+            mib.step(&entry).contents,
+            only(wanted),
             "the answer to entry {k}"
         );
     }
     let again = set_entry([0xf800_0000, 0x801e_8000, 0xc00f_0000, 0x000f_0000]);
-    assert_eq!(rt; mib.step(&again).contents, [0; 32]);
-    assert_eq!(rt; mib.vlan(0x0701).map(|vlan| vlan.table.len()), Some(64));
-    assert_eq!(rt; mib.sync(), 66);
-    let size = request(Action::Get, 171, 0x0701, &[4, 0]);
-    assert_eq!(rt; mib.step(&size).contents, contents(&[0, 4, 0, 0, 0, 4, 0]));
-    Ok(())
+    take(
+        &rt,
+        &mut mib,
+        &[
+            (again, only(0), 66),
+            (get(171, 0x0701, 0x0400), contents(&[0, 4, 0, 0, 0, 4]), 66),
+        ],
+    )
 }
 
 #[test]
 fn a_refused_set_keeps_nothing(rt: HostRuntime) -> Result<(), Fail> {
     let mut mib = set_up(rt.alloc())?;
-    let reserved = [
-        0xf8, 0, 0, 0, 0xf8, 0, 0, 0, 0, 0x0f, 0, 0, 0, 0, 0x7f, 0xfc,
-    ];
-    let mut with_tpid = [0; 18];
-    with_tpid[0] = 0x91;
-    with_tpid[2..].copy_from_slice(&reserved);
-    for (change, wanted, what) in [
-        (
-            set(171, 0x0701, 0x0400, &reserved),
-            [3, 0, 0, 0, 0],
-            "a reserved VID to add",
-        ),
-        (
-            set_entry([0xf800_0000, 0x9800_0000, 0x000f_0000, 0x000f_0000]),
-            [3, 0, 0, 0, 0],
-            "a reserved priority",
-        ),
-        (
-            set_entry([0x3800_0000, 0xe800_0000, 0x000f_0000, 0x000f_0000]),
-            [3, 0, 0, 0, 0],
-            "priorities of no kind",
-        ),
-        (
-            set(171, 0x0701, 0x1400, &with_tpid),
-            [3, 0, 0, 0, 0],
-            "the output TPID and an entry",
-        ),
-        (
-            set(171, 0x0701, 0x6000, &[0, 5, 0x91, 0]),
-            [9, 0, 0, 0x40, 0],
-            "the max size and the input TPID",
-        ),
-        (
-            set(171, 0x0701, 0x0080, &[]),
-            [9, 0, 0x80, 0, 0],
-            "attribute 9",
-        ),
-    ] {
-        let reply = mib.step(&change);
-        assert_eq!(rt; reply.contents, contents(&wanted), "the answer to {what}");
-        let vlan = mib.vlan(0x0701).ok_or("the table is gone")?;
-        assert_eq!(rt; vlan.table.len(), 3, "the entries after {what}");
-        assert_eq!(rt;
-            vlan.settings.input_tpid,
-            0x8100,
-            "the input TPID after {what}"
-        );
-        assert_eq!(rt;
-            vlan.settings.output_tpid,
-            0x8100,
-            "the output TPID after {what}"
-        );
-        assert_eq!(rt; mib.sync(), 4, "the sync after {what}");
-    }
-    Ok(())
+    let bad_vid = set_entry([0xf800_0000, 0xf800_0000, 0x000f_0000, 0x0000_7ffc]);
+    let bad_priority = set_entry([0xf800_0000, 0x9800_0000, 0x000f_0000, 0x000f_0000]);
+    let no_kind = set_entry([0x3800_0000, 0xe800_0000, 0x000f_0000, 0x000f_0000]);
+    let mut with_tpid = set(171, 0x0701, 0x1400, &[0x91, 0]);
+    with_tpid.contents[4..20].copy_from_slice(&bad_vid.contents[2..18]);
+    let fixed = contents(&[9, 0, 0, 0x40, 0]);
+    let ninth = contents(&[9, 0, 0x80, 0, 0]);
+    let as_new = contents(&[0, 0x34, 0, 0x81, 0, 0x81, 0, 0, 0, 0, 0x30]);
+    take(
+        &rt,
+        &mut mib,
+        &[
+            // A reserved VID to add, a reserved priority, priorities of no kind.
+            (bad_vid, only(3), 4),
+            (bad_priority, only(3), 4),
+            (no_kind, only(3), 4),
+            // The output TPID with the first of them, the max size with the input TPID.
+            (with_tpid, only(3), 4),
+            (set(171, 0x0701, 0x6000, &[0, 5, 0x91, 0]), fixed, 4),
+            // Attribute 9, attributes of 40 bytes with it and without it.
+            (set(171, 0x0701, 0x0080, &[]), ninth, 4),
+            (set(171, 0x0701, 0x0580, &[]), ninth, 4),
+            (set(171, 0x0701, 0x0500, &[]), only(3), 4),
+            (get(171, 0x0701, 0x3400), as_new, 4),
+            (set(171, 0x0701, 0, &[]), only(0), 5),
+            (set(171, 0x0702, 0, &[]), only(5), 5),
+        ],
+    )
 }
 
 #[test]
@@ -759,31 +604,16 @@ fn each_class_is_written(rt: HostRuntime) -> Result<(), Fail> {
     let vlan_values = [
         0x88, 0xa8, 0x91, 0, 0xf8, 0, 0, 0, 0xf8, 0, 0, 0, 0, 0x0f, 0, 0, 0, 0, 0x03, 0x24,
     ];
-    for (change, what) in [
-        (
-            set(268, 0x0401, 0xa000, &[4, 1, 2]),
-            "the port-ID and the direction",
-        ),
-        (
-            set(266, 0x0501, 0x8100, &[4, 0x99, 7]),
-            "the GEM port pointer and the loopback",
-        ),
-        (
-            set(130, 0x0601, 0x0820, &[0xff, 0xfe, 0x38]),
-            "a pointer and the DSCP mapping",
-        ),
-        (
-            set(171, 0x0701, 0x3400, &vlan_values),
-            "the TPIDs and an entry",
-        ),
-    ] {
-        assert_eq!(rt;
-            mib.step(&change).contents,
-            [0; 32],
-            "the answer to a Set of {what}"
-        );
-    }
-    assert_eq!(rt; mib.sync(), 8);
+    take(
+        &rt,
+        &mut mib,
+        &[
+            (set(268, 0x0401, 0xa000, &[4, 1, 2]), only(0), 5),
+            (set(266, 0x0501, 0x8100, &[4, 0x99, 7]), only(0), 6),
+            (set(130, 0x0601, 0x0820, &[0xff, 0xfe, 0x38]), only(0), 7),
+            (set(171, 0x0701, 0x3400, &vlan_values), only(0), 8),
+        ],
+    )?;
     for (class, instance, n, wanted) in [
         (268, 0x0401, 1, [4, 1].as_slice()),
         (268, 0x0401, 2, [0x80, 1].as_slice()),
@@ -810,43 +640,5 @@ fn each_class_is_written(rt: HostRuntime) -> Result<(), Fail> {
         "the table has no bytes of its own"
     );
     assert_eq!(rt; mib.vlan(0x0701).map(|vlan| vlan.table.len()), Some(4));
-    Ok(())
-}
-
-#[test]
-fn of_two_tables_of_a_port_the_least_is_its_own(rt: HostRuntime) -> Result<(), Fail> {
-    let mut mib = set_up(rt.alloc())?;
-    let of_mapper = request(Action::Create, 171, 0x0600, &[1, 1, 1]);
-    let entry = set_entry([0xf800_0000, 0xf800_0000, 0x000f_0000, 0x0000_0324]);
-    for (change, wanted, what) in [
-        (entry, Some(0x0701), "an entry is set"),
-        (
-            create_vlan(0x0700, 257),
-            Some(0x0700),
-            "a lesser one is made",
-        ),
-        (of_mapper, Some(0x0700), "one of a mapper is made"),
-        (
-            request(Action::Delete, 171, 0x0700, &[]),
-            Some(0x0701),
-            "the least is deleted",
-        ),
-        (
-            request(Action::Delete, 171, 0x0701, &[]),
-            None,
-            "the last is deleted",
-        ),
-        (create_vlan(0x0701, 257), Some(0x0701), "it is made again"),
-    ] {
-        assert_eq!(rt;
-            mib.step(&change).contents,
-            [0; 32],
-            "the answer where {what}"
-        );
-        assert_eq!(rt; mib.table_of_port(257), wanted, "the table after {what}");
-    }
-    assert_eq!(rt; mib.table_of_port(258), None);
-    let vlan = mib.vlan(0x0701).ok_or("the table is gone")?;
-    assert_eq!(rt; vlan.table.len(), 3, "a table that is made again is new");
     Ok(())
 }

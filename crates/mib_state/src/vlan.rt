@@ -1,5 +1,5 @@
 //! The extended VLAN tagging operation configuration data, class 171.
-ghost use Rattle.std.specs.Prelude.{refl};
+ghost use Rattle.std.specs.Prelude.{◌≡◌, length, refl};
 ghost use Rattle.std.proofs.Common.{rules};
 
 use crate::attribute::{Access, Attribute};
@@ -148,12 +148,25 @@ impl ManagedEntity for VlanConfig {
         }
     }
 
-    fn put_entry(&mut self, entry: &[u8]) -> Result<(), Refusal> {
-        let mut bytes = [0; 16];
-        bytes.copy_from_slice(entry);
-        self.table.put(Entry(bytes))?;
+    fn check_entry(&self, entry: &[u8]) -> Result<(), Refusal> {
+        self.table.check(&entry_of(entry))?;
         Ok(())
     }
+
+    #[tactic(auto, using(crate::proofs::Entry::left_by_put))]
+    fn put_entry(&mut self, entry: &[u8]) {
+        let _ = self.table.put(entry_of(entry));
+    }
+}
+
+/// The entry of 16 bytes.
+fn entry_of(bytes: &[u8]) -> Entry
+    requires { length bytes.now ≡ 16 }
+    ensures { result.0 ≡ bytes.now }
+{
+    let mut entry = [0; 16];
+    entry.copy_from_slice(bytes);
+    Entry(entry)
 }
 
 impl PortEntity for VlanConfig {

@@ -1,0 +1,107 @@
+//! One step of the management information base.
+ghost use Rattle.std.specs.Prelude.{◌≡◌, is_ok, true};
+ghost use Rattle.mib_state.specs.Answer.{left_by};
+ghost use Rattle.mib_state.specs.Entities.{nothing};
+ghost use Rattle.mib_state.specs.Step.{answered, create, delete, left, set, step};
+
+use crate::check::told;
+use crate::class::{GEM_PORT, INTERWORK, MAPPER, ONU_DATA, VLAN};
+use crate::mib::Mib;
+use omci_msg::{Action, Reply, Request};
+
+impl Mib {
+    #[tactic(auto, using(crate::proofs::Counted::counts), unfolding(crate::specs::Step::create))]
+    fn create(&mut self, request: &Request)
+        requires { is_ok (create self.old request.now) ≡ true }
+        ensures { self.new ≡ left_by self.old (create self.old request.now) }
+    {
+        self.onu_data.count();
+        match request.class {
+            MAPPER => self.mappers.create(request),
+            VLAN => self.vlans.create(request),
+            INTERWORK => self.interworks.create(request),
+            GEM_PORT => self.gem_ports.create(request),
+            _ => {}
+        }
+    }
+
+    #[tactic(auto, using(crate::proofs::Counted::counts), unfolding(crate::specs::Step::delete))]
+    fn delete(&mut self, request: &Request)
+        requires { is_ok (delete self.old request.now) ≡ true }
+        ensures { self.new ≡ left_by self.old (delete self.old request.now) }
+    {
+        self.onu_data.count();
+        match request.class {
+            MAPPER => self.mappers.delete(request),
+            VLAN => self.vlans.delete(request),
+            INTERWORK => self.interworks.delete(request),
+            GEM_PORT => self.gem_ports.delete(request),
+            _ => {}
+        }
+    }
+
+    /// A Set of ONU data isn't counted.
+    #[tactic(auto, using(crate::proofs::Counted::counts), unfolding(crate::specs::Step::set))]
+    fn set(&mut self, request: &Request)
+        requires { is_ok (set self.old request.now) ≡ true }
+        ensures { self.new ≡ left_by self.old (set self.old request.now) }
+    {
+        if request.class == ONU_DATA {
+            return self.onu_data.set(request);
+        }
+        self.onu_data.count();
+        match request.class {
+            MAPPER => self.mappers.set(request),
+            VLAN => self.vlans.set(request),
+            INTERWORK => self.interworks.set(request),
+            GEM_PORT => self.gem_ports.set(request),
+            _ => {}
+        }
+    }
+
+    /// No instance, and sync 0.
+    fn reset(&mut self)
+        ensures { self.new ≡ nothing }
+    {
+        self.onu_data.sync = 0;
+        self.mappers.clear();
+        self.vlans.clear();
+        self.interworks.clear();
+        self.gem_ports.clear();
+    }
+
+    /// Makes the change of a request that isn't refused.
+    #[tactic(auto, using(crate::proofs::Answered::answers))]
+    fn change(&mut self, request: &Request)
+        requires { is_ok (answered request.now.action self.old request.now) ≡ true }
+        ensures { self.new ≡ left request.now.action self.old request.now }
+    {
+        match request.action {
+            Action::Create => self.create(request),
+            Action::Delete => self.delete(request),
+            Action::Set => self.set(request),
+            Action::MibReset => self.reset(),
+            _ => {}
+        }
+    }
+
+    /// One step: carries a request out, and answers it. It takes no memory; a refusal changes nothing. The definition
+    /// `step` gives the refusals of each action in their order, and what each answer holds (ITU-T G.988, clause A.2).
+    #[tactic(auto, using(crate::proofs::Answered::left_refused))]
+    pub fn step(&mut self, request: &Request) -> Reply
+        ensures reply { result ≡ (step self.old request.now).0 }
+        ensures after { self.new ≡ (step self.old request.now).1 }
+    {
+        let outcome = self.decide(request);
+        if outcome.is_ok() {
+            self.change(request);
+        }
+        Reply {
+            tci: request.tci,
+            action: request.action,
+            class: request.class,
+            instance: request.instance,
+            contents: told(outcome),
+        }
+    }
+}
