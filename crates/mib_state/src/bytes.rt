@@ -59,7 +59,8 @@ pub fn number(bytes: &[u8]) -> u16
 
 /// The bytes of a DSCP to P-bit mapping.
 pub fn whole(map: &DscpMap) -> Bytes
-    ensures { result.items ≡ map.now.0 }
+    ensures value { result.items ≡ map.now.0 }
+    ensures len { length result.items ≡ 24 }
 {
     ArrayVec::from(map.0)
 }

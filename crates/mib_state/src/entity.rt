@@ -1,5 +1,5 @@
 //! What a class of managed entities says of itself.
-ghost use Rattle.std.specs.Prelude.{◌≡◌, ◌≤◌, List, ℕ, length, map, option_map, slice_get, slice_set};
+ghost use Rattle.std.specs.Prelude.{◌≡◌, ◌≤◌, List, ℕ, IfSome, length, map, option_map, slice_get, slice_set};
 
 use crate::attribute::Attribute;
 use crate::bytes::Bytes;
@@ -49,7 +49,8 @@ pub trait ManagedEntity: Drop {
 
     /// What a Get returns of the attribute at a place.
     fn returned(&self, place: usize) -> Option<Bytes>
-        ensures { option_map (λ (v : _). v.items) result ≡ slice_get (returned_values layout (values self.now) (entries self.now)) place };
+        ensures value { option_map (λ (v : _). v.items) result ≡ slice_get (returned_values layout (values self.now) (entries self.now)) place }
+        ensures width { table_at layout place ≡ false → IfSome result (λ v. length v.items ≡ width_at layout place) };
 
     /// Writes the attribute at a place.
     fn set_attribute(&mut self, place: usize, bytes: &[u8])

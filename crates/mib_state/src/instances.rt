@@ -1,7 +1,7 @@
 //! The instances of a class, by ascending number, in room that is reserved.
-ghost use Rattle.std.specs.Prelude.{◌≡◌, [], length, map, option_map, drop, is_ok, true, IfOk, IfErr, vec_len, vec_capacity, ◌≤◌};
-ghost use Rattle.mib_state.specs.Class.{table_at};
-ghost use Rattle.mib_state.specs.Entities.{find, next, shown_as, value_at, IsAscending, IsAt, IsGapFor};
+ghost use Rattle.std.specs.Prelude.{◌≡◌, ◌<◌, ℕ, [], length, map, option_map, drop, is_ok, true, IfOk, IfErr, IfSome, vec_len, vec_capacity, ◌≤◌};
+ghost use Rattle.mib_state.specs.Class.{table_at, width_at};
+ghost use Rattle.mib_state.specs.Entities.{find, next, shown_as, value_at, number_at, IsAscending, IsAt, IsGapFor};
 ghost use Rattle.mib_state.specs.Attached.{least_instance};
 ghost use Rattle.mib_state.specs.Answer.{outcome_of, left_by};
 ghost use Rattle.mib_state.specs.Step.{mask_of, get_found, create_in, delete_in, set_in};
@@ -22,6 +22,7 @@ use std::marker::Model;
 struct Row<E> {
     number: u16,
     entity: E,
+    ghost fits: { number < 65536 },
 }
 
 /// The instances of a class, and those that stand ready to be created.
@@ -76,7 +77,8 @@ impl<E: ManagedEntity> Instances<E> {
     /// The attribute at a place of the instance of a number; None for the table.
     #[tactic(auto, using(crate::proofs::Returned::plain_values))]
     pub fn attribute(&self, number: u16, place: usize) -> Option<Bytes>
-        ensures { option_map (λ (bytes : _). bytes.items) result ≡ value_at E.layout place (find number self.now) }
+        ensures value { option_map (λ (bytes : _). bytes.items) result ≡ value_at E.layout place (find number self.now) }
+        ensures width { IfSome result (λ bytes. length bytes.items ≡ width_at E.layout place) }
     {
         let entity = self.get(number)?;
         if is_table::<E>(place) {
@@ -99,6 +101,8 @@ impl<E: ManagedEntity> Instances<E> {
     pub fn next(&self, from: u16) -> Option<u16>
         ensures value { result ≡ next from self.now }
         ensures ascending { IsAscending self.now }
+        ensures room { length self.now ≤ E.ROOM }
+        ensures numbers { (i : ℕ) → i < length self.now → number_at self.now i < 65536 }
     {
         match self.search(from) {
             Ok(_) => Some(from),

@@ -1,7 +1,7 @@
 //! The management information base, and what it shows.
-ghost use Rattle.std.specs.Prelude.{◌≡◌, IfOk, option_map};
-ghost use Rattle.mib_state.specs.Class.{attributes_of};
-ghost use Rattle.mib_state.specs.Entities.{nothing, instances_of, find, next, attribute_of, IsAscending};
+ghost use Rattle.std.specs.Prelude.{◌≡◌, ◌<◌, ◌≤◌, ◌-◌, ℕ, IfOk, IfSome, option_map, length};
+ghost use Rattle.mib_state.specs.Class.{attributes_of, room_of, width_at};
+ghost use Rattle.mib_state.specs.Entities.{nothing, instances_of, find, next, attribute_of, number_at, IsAscending};
 ghost use Rattle.mib_state.specs.Attached.{mapper_of_port, table_of_port};
 ghost use Rattle.mib_state.specs.Shown.{mapper_instance, vlan_instance, interwork_instance, gem_port_instance};
 
@@ -61,6 +61,8 @@ impl Mib {
     pub fn next_instance(&self, class: u16, from: u16) -> Option<u16>
         ensures value { result ≡ next from (instances_of self.now class) }
         ensures ascending { IsAscending (instances_of self.now class) }
+        ensures room { length (instances_of self.now class) ≤ room_of class }
+        ensures numbers { (i : ℕ) → i < length (instances_of self.now class) → number_at (instances_of self.now class) i < 65536 }
     {
         match class {
             ONU_DATA if from == 0 => Some(0),
@@ -75,7 +77,8 @@ impl Mib {
     /// The bytes of attribute `n` of an instance, attributes numbered from 1: None for what isn't there and for a table.
     /// Attribute 1 of ONU data, class 2, is the sync.
     pub fn attribute(&self, class: u16, instance: u16, n: u16) -> Option<ArrayVec<u8, 24>>
-        ensures { option_map (λ (bytes : _). bytes.items) result ≡ attribute_of (attributes_of class) n (find instance (instances_of self.now class)) }
+        ensures value { option_map (λ (bytes : _). bytes.items) result ≡ attribute_of (attributes_of class) n (find instance (instances_of self.now class)) }
+        ensures width { IfSome result (λ bytes. length bytes.items ≡ width_at (attributes_of class) (n - 1)) }
     {
         let place = (n as usize).checked_sub(1)?;
         match class {

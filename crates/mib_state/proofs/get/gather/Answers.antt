@@ -28,13 +28,13 @@ loop-place-preserved g c =
           let named = sym c.names.ensures ∙ w.if-names.true in
           let fits = rw w.deref.ensures.0 at w.in-Ok.ensures.variant.0 refl in
           let grown = rw w.deref.ensures.0 at w.in-Ok.ensures.ok in
-          rw (w.returned-is, w.left_out-is, w.bytes-is, w.bit-returned.ensures, grown) (keeps_returned _ _ _ _ _ _ kept small _ (sym w.in-Some.ensures) named fits)
+          rw (w.returned-is, w.left_out-is, w.bytes-is, w.bit-returned.ensures, grown) (keeps_returned _ _ _ _ _ _ kept small _ (sym w.in-Some.ensures.value) named fits)
       | then-names+in-Some+in-Err w ↦
           let named = sym c.names.ensures ∙ w.if-names.true in
           let over = over_from _ _ (rw w.deref.ensures.0 at w.in-Err.ensures.variant.1) in
           let same_bytes = w.in-Err.ensures.err in
-          rw (w.returned-is, w.left_out-is, w.bytes-is, w.bit-left_out.ensures, same_bytes) (keeps_left_out _ _ _ _ _ _ kept small _ (sym w.in-Some.ensures) named over)
-      | then-names+in_default w ↦ absurd (not_none _ _ w.in_default.ensures (next_of values c.loop-place.place within).1)
+          rw (w.returned-is, w.left_out-is, w.bytes-is, w.bit-left_out.ensures, same_bytes) (keeps_left_out _ _ _ _ _ _ kept small _ (sym w.in-Some.ensures.value) named over)
+      | then-names+in_default w ↦ absurd (not_none _ _ w.in_default.ensures.value (next_of values c.loop-place.place within).1)
       | else-names w ↦ rw (w.returned-is, w.left_out-is, w.bytes-is) (keeps_other _ _ _ _ _ _ kept small within (sym c.names.ensures ∙ w.if-names.false))
     ]
 

@@ -1,7 +1,8 @@
-use Rattle.std.proofs.Common.{◌≤◌, length, sym, subst, arith}
+use Rattle.std.proofs.Common.{◌≤◌, length, refl, sym, subst, arith}
 use Rattle.std.proofs.lemmas.List.{length-map}
 use Rattle.mib_state.specs.Entities.{shown_as, IsAscending}
-use Rattle.mib_state.proofs.Next.{next_at, next_shown, next_past}
+use Rattle.mib_state.specs.declared.instances.Row.{Row}
+use Rattle.mib_state.proofs.Next.{next_at, next_shown, next_past, numbers_fit}
 use Rattle.mib_state.proofs.instances.Instances.next.Goals as goal
 
 pub returns-in-Ok-clause-value : goal.returns-in-Ok-clause-value
@@ -24,3 +25,21 @@ returns-in-Err-clause-ascending g c = subst IsAscending c.self.view_is c.self.in
 
 pub returns-in-Err-2-clause-ascending : goal.returns-in-Err-2-clause-ascending
 returns-in-Err-2-clause-ascending g c = subst IsAscending c.self.view_is c.self.invariant.0
+
+pub returns-in-Ok-clause-room : goal.returns-in-Ok-clause-room
+returns-in-Ok-clause-room g c = rw (← c.self.view_is, length-map) (omega (arith, c.self.invariant.3, c.self.inside.rows.ok.0))
+
+pub returns-in-Err-clause-room : goal.returns-in-Err-clause-room
+returns-in-Err-clause-room g c = rw (← c.self.view_is, length-map) (omega (arith, c.self.invariant.3, c.self.inside.rows.ok.0))
+
+pub returns-in-Err-2-clause-room : goal.returns-in-Err-2-clause-room
+returns-in-Err-2-clause-room g c = rw (← c.self.view_is, length-map) (omega (arith, c.self.invariant.3, c.self.inside.rows.ok.0))
+
+pub returns-in-Ok-clause-numbers : goal.returns-in-Ok-clause-numbers
+returns-in-Ok-clause-numbers g c = rw (← c.self.view_is) (numbers_fit (λ (row : Row _). row.number) (λ row. row.fits) (λ row. shown_as row.number (g.E.ManagedEntity.values row.entity) (g.E.ManagedEntity.entries row.entity)) (λ row. refl) c.self.inside.rows.items)
+
+pub returns-in-Err-clause-numbers : goal.returns-in-Err-clause-numbers
+returns-in-Err-clause-numbers g c = rw (← c.self.view_is) (numbers_fit (λ (row : Row _). row.number) (λ row. row.fits) (λ row. shown_as row.number (g.E.ManagedEntity.values row.entity) (g.E.ManagedEntity.entries row.entity)) (λ row. refl) c.self.inside.rows.items)
+
+pub returns-in-Err-2-clause-numbers : goal.returns-in-Err-2-clause-numbers
+returns-in-Err-2-clause-numbers g c = rw (← c.self.view_is) (numbers_fit (λ (row : Row _). row.number) (λ row. row.fits) (λ row. shown_as row.number (g.E.ManagedEntity.values row.entity) (g.E.ManagedEntity.entries row.entity)) (λ row. refl) c.self.inside.rows.items)

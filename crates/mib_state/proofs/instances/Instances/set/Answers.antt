@@ -32,7 +32,7 @@ pub invariant_of-self : goal.invariant_of-self
 invariant_of-self g c =
     let shown : Row g.row.E.Denot → Instance = λ row. shown_as row.number (g.E.ManagedEntity.values row.entity) (g.E.ManagedEntity.entries row.entity) in (
       ascending_again shown c.self.inside.rows.items c.args.request.now.instance c.in-Ok.at c.index_mut-row.result.now c.self.invariant.0 (rw (← c.self.view_is) at c.in-Ok.ensures.found) c.index_mut-row.ensures.value
-          (record { number = c.index_mut-row.result.now.number; entity = c.set.new.entity }) refl,
+          (record { number = c.index_mut-row.result.now.number; entity = c.set.new.entity; fits = _ }) refl,
       c.self.invariant.1,
       c.self.invariant.2,
       c.self.invariant.3,
@@ -47,7 +47,7 @@ returns-in-Ok g c =
     let row = c.index_mut-row.result.now in
     let there = rw (← c.self.view_is) at c.in-Ok.ensures.found in
     let accepted = accepted_at shown c.self.inside.rows.items c.args.request.now.instance c.in-Ok.at row c.self.invariant.0 there c.index_mut-row.ensures.value layout mask bytes (rw (← c.self.view_is) at c.requires) in
-    let new : Row g.row.E.Denot = record { number = row.number; entity = c.set.new.entity } in
+    let new : Row g.row.E.Denot = record { number = row.number; entity = c.set.new.entity; fits = _ } in
     rw (← c.self.view_is) (set_left_at shown c.self.inside.rows.items c.args.request.now.instance c.in-Ok.at row c.self.invariant.0 there c.index_mut-row.ensures.value layout mask bytes new
     (written_as layout row.number _ _ _ _ mask _ bytes _ c.mask_of.ensures c.set_values.ensures.values c.set.ensures.values c.set.ensures.entries accepted))
 
