@@ -4,8 +4,8 @@ use Rattle.std.specs.Prelude.{option_map, is_none}
 use Rattle.std.proofs.lemmas.List.{append-nil, drop-drop, get_or-drop}
 use Rattle.std.proofs.lemmas.Bool.{eqb-true, eq-eqb, cases_lt}
 use Rattle.memchr.specs.Find.{IsFirstByte, is_byte}
-use Rattle.mib_state.specs.Entities.{Entities}
-use Rattle.onuctl.specs.Answers.{answer, answers_from, before_bad, entities_from, line_answer}
+use Rattle.mib_upload.specs.Upload.{State}
+use Rattle.onuctl.specs.Answers.{answer, answers_from, before_bad, state_from, line_answer}
 use Rattle.onuctl.specs.Line.{Asked, asked_by}
 use Rattle.onuctl.specs.Text.{cut}
 use Rattle.onuctl.proofs.Cutting.{NoFeedBelow, cut-first, cut-none}
@@ -15,12 +15,12 @@ abbrev pub asked_in : List ℕ → List (Option Asked)
 asked_in text = map asked_by (cut text).ended
 
 -- the lines so far are answered, the next one begins at start, and no line ends from there up to from
-pub record IsAnswering (begun : Entities) (old piece : List ℕ) (e : Entities) (items : List ℕ) (lines start from : ℕ) : Type 0 where
+pub record IsAnswering (begun : State) (old piece : List ℕ) (e : State) (items : List ℕ) (lines start from : ℕ) : Type 0 where
   pub bad : option_map (λ n. lines + n) (before_bad (asked_in (drop start piece))) ≡ before_bad (asked_in piece)
   pub count : lines + length (cut (drop start piece)).ended ≡ length (cut piece).ended
   pub rest : (cut (drop start piece)).rest ≡ (cut piece).rest
   pub items_are : items ++ answers_from e (asked_in (drop start piece)) ≡ old ++ answers_from begun (asked_in piece)
-  pub entities_are : entities_from e (asked_in (drop start piece)) ≡ entities_from begun (asked_in piece)
+  pub state_is : state_from e (asked_in (drop start piece)) ≡ state_from begun (asked_in piece)
   pub few : lines ≤ start
   pub in_order : start ≤ from
   pub within : from ≤ length piece
@@ -31,13 +31,13 @@ none_before None = refl
 none_before (Some n) = ap Some (omega arith)
 
 -- at the start
-pub answering_start : (e : Entities) (old piece : List ℕ) (searched : ℕ) → searched ≤ length piece → NoFeedBelow piece searched → IsAnswering e old piece e old 0 0 searched
+pub answering_start : (e : State) (old piece : List ℕ) (searched : ℕ) → searched ≤ length piece → NoFeedBelow piece searched → IsAnswering e old piece e old 0 0 searched
 answering_start e old piece searched within none = record {
   bad = none_before (before_bad (asked_in piece));
   count = omega arith;
   rest = refl;
   items_are = refl;
-  entities_are = refl;
+  state_is = refl;
   few = omega arith;
   in_order = omega arith;
   within = within;
@@ -48,7 +48,7 @@ one_more : (lines : ℕ) (o : Option ℕ) → option_map (λ n. lines + n) (opti
 one_more lines None = refl
 one_more lines (Some n) = ap Some (omega arith)
 
-module _ (begun : Entities) (old piece : List ℕ) (e : Entities) (items : List ℕ) (lines start from : ℕ) (now : IsAnswering begun old piece e items lines start from) where
+module _ (begun : State) (old piece : List ℕ) (e : State) (items : List ℕ) (lines start from : ℕ) (now : IsAnswering begun old piece e items lines start from) where
   -- where the next line ends
   pub line_end : (offset : ℕ) → IsFirstByte (is_byte 10) (drop from piece) (Some offset) → from + offset < length piece
   line_end offset found = omega (arith, found.0.high, length-drop from piece, now.within)
@@ -96,7 +96,7 @@ module _ (begun : Entities) (old piece : List ℕ) (e : Entities) (items : List 
         count = omega (arith, rw there at now.count);
         rest = rw there at now.rest;
         items_are = append_assoc items (answer e asked).0 _ ∙ rw (there, is) at now.items_are;
-        entities_are = rw (there, is) at now.entities_are;
+        state_is = rw (there, is) at now.state_is;
         few = omega (arith, now.few, now.in_order);
         in_order = omega arith;
         within = omega (arith, line_end offset found);
@@ -115,7 +115,7 @@ module _ (begun : Entities) (old piece : List ℕ) (e : Entities) (items : List 
       → record {
         bad : before_bad (asked_in piece) ≡ Some lines;
         items_are : items ++ (line_answer e asked).0 ≡ old ++ answers_from begun (asked_in piece);
-        entities_are : (line_answer e asked).1 ≡ entities_from begun (asked_in piece);
+        state_is : (line_answer e asked).1 ≡ state_from begun (asked_in piece);
       }
   answering_bad offset (Some asked) found is none = absurd (cc)
   answering_bad offset None found is none =
@@ -123,7 +123,7 @@ module _ (begun : Entities) (old piece : List ℕ) (e : Entities) (items : List 
       record {
         bad = sym (rw (there, is) at now.bad) ∙ ap Some (omega arith);
         items_are = rw (there, is) at now.items_are;
-        entities_are = rw (there, is) at now.entities_are;
+        state_is = rw (there, is) at now.state_is;
       }
 
   -- no line ends any more
@@ -133,7 +133,7 @@ module _ (begun : Entities) (old piece : List ℕ) (e : Entities) (items : List 
         count : lines ≡ length (cut piece).ended;
         rest : drop start piece ≡ (cut piece).rest;
         items_are : items ≡ old ++ answers_from begun (asked_in piece);
-        entities_are : e ≡ entities_from begun (asked_in piece);
+        state_is : e ≡ state_from begun (asked_in piece);
       }
   answering_end found =
       let there = cut-none (drop start piece) (none_left found) in
@@ -142,5 +142,5 @@ module _ (begun : Entities) (old piece : List ℕ) (e : Entities) (items : List 
         count = omega (arith, rw there at now.count);
         rest = rw there at now.rest;
         items_are = sym (append-nil items) ∙ rw there at now.items_are;
-        entities_are = rw there at now.entities_are;
+        state_is = rw there at now.state_is;
       }

@@ -5,7 +5,7 @@ use Rattle.std.proofs.lemmas.List.{append-nil, map-append, take-append-le}
 use Rattle.std.proofs.Math.Seq.{take-append-add, take-append_seam, drop-append_seam}
 use Rattle.std.proofs.KnownBytes.{Appends-trans}
 use Rattle.std.specs.Io.KnownBytes.{Appends, Consumes, IsAtEnd}
-use Rattle.mib_state.specs.Entities.{Entities, nothing}
+use Rattle.mib_upload.specs.Upload.{State, start}
 use Rattle.onuctl.specs.Answers.{answer, answers, answers_from, before_bad, script_of}
 use Rattle.onuctl.specs.Line.{Asked, asked_by}
 use Rattle.onuctl.specs.Replay.{ended_script, IsAnswered, StopsAtLine, StopsAtRead, StopsAtWrite}
@@ -15,7 +15,7 @@ use Rattle.onuctl.specs.Written.{AppendsPart}
 -- ---- parts of the answers
 
 -- the answers to lines begin with those to the first of them
-answers_front : (e : Entities) (lines more : List (Option Asked)) → (rest : List ℕ) × (answers_from e (lines ++ more) ≡ answers_from e lines ++ rest)
+answers_front : (e : State) (lines more : List (Option Asked)) → (rest : List ℕ) × (answers_from e (lines ++ more) ≡ answers_from e lines ++ rest)
 answers_front e [] more = (answers_from e more, refl)
 answers_front e (None ∷ lines) more = ([], refl)
 answers_front e (Some asked ∷ lines) more =
@@ -31,11 +31,11 @@ part_behind a b c bs more first part =
     (length bs + part.0, simp length-append (omega (arith, part.1)), rw (take-append-add bs more part.0) (Appends-trans a b c bs (take part.0 more) first part.2))
 
 -- a part of the answers to the lines that end is a part of the answers
-pub part_of_ended : (old new : Option (List ℕ)) (text : List ℕ) → AppendsPart old new (answers_from nothing (ended_script text)) → AppendsPart old new (answers text)
+pub part_of_ended : (old new : Option (List ℕ)) (text : List ℕ) → AppendsPart old new (answers_from start (ended_script text)) → AppendsPart old new (answers text)
 part_of_ended old new text part =
-    let front = answers_front nothing (ended_script text) (map asked_by (last_line (cut text).rest)) in
+    let front = answers_front start (ended_script text) (map asked_by (last_line (cut text).rest)) in
     let whole : script_of text ≡ ended_script text ++ map asked_by (last_line (cut text).rest) = map-append asked_by (cut text).ended (last_line (cut text).rest) in
-    rw (whole, front.1) (part_grown old new (answers_from nothing (ended_script text)) front.0 part)
+    rw (whole, front.1) (part_grown old new (answers_from start (ended_script text)) front.0 part)
 
 -- ---- the known text
 
@@ -56,7 +56,7 @@ ends_bad (Some text) (Some rest) before after read done n took bad written =
     let there = bad rest in
     record { first = rw (took, there.first) refl; written = rw (took, there.written) written }
 
-pub ends_read : (known left before after : Option (List ℕ)) (read : List ℕ) → Consumes known left read → before_bad (ended_script read) ≡ None → Appends before after (answers_from nothing (ended_script read))
+pub ends_read : (known left before after : Option (List ℕ)) (read : List ℕ) → Consumes known left read → before_bad (ended_script read) ≡ None → Appends before after (answers_from start (ended_script read))
     → IfSome known (λ text. StopsAtRead (length read) text left before after)
 ends_read None left before after read took good written = tt
 ends_read (Some text) None before after read took good written = absurd took

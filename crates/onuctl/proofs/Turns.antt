@@ -3,8 +3,8 @@ use Rattle.std.proofs.Common.{◌≡◌, ℕ, zero, suc, ◌+◌, ◌≤◌, Lis
 use Rattle.std.specs.Prelude.{option_map}
 use Rattle.std.proofs.lemmas.List.{map-append}
 use Rattle.std.proofs.lemmas.Bool.{ne_eqb}
-use Rattle.mib_state.specs.Entities.{Entities}
-use Rattle.onuctl.specs.Answers.{answer, answers_from, before_bad, entities_from, script_of}
+use Rattle.mib_upload.specs.Upload.{State}
+use Rattle.onuctl.specs.Answers.{answer, answers_from, before_bad, state_from, script_of}
 use Rattle.onuctl.specs.Line.{Asked, asked_by}
 use Rattle.onuctl.specs.Replay.{ended_script}
 use Rattle.onuctl.specs.Text.{cut, in_front, last_line, lines_of}
@@ -34,17 +34,17 @@ before_bad-append (None ∷ lines) more good = absurd (cc)
 before_bad-append (Some asked ∷ lines) more good =
     ap (option_map suc) (before_bad-append lines more (tail_good (before_bad lines) good)) ∙ one_before (length lines) (before_bad more)
 
-pub answers-append : (e : Entities) (lines more : List (Option Asked)) → before_bad lines ≡ None → answers_from e (lines ++ more) ≡ answers_from e lines ++ answers_from (entities_from e lines) more
+pub answers-append : (e : State) (lines more : List (Option Asked)) → before_bad lines ≡ None → answers_from e (lines ++ more) ≡ answers_from e lines ++ answers_from (state_from e lines) more
 answers-append e [] more good = refl
 answers-append e (None ∷ lines) more good = absurd (cc)
 answers-append e (Some asked ∷ lines) more good =
     ap (λ rest. (answer e asked).0 ++ rest) (answers-append (answer e asked).1 lines more (tail_good (before_bad lines) good))
     ∙ sym (append_assoc (answer e asked).0 (answers_from (answer e asked).1 lines) _)
 
-pub entities-append : (e : Entities) (lines more : List (Option Asked)) → before_bad lines ≡ None → entities_from e (lines ++ more) ≡ entities_from (entities_from e lines) more
-entities-append e [] more good = refl
-entities-append e (None ∷ lines) more good = absurd (cc)
-entities-append e (Some asked ∷ lines) more good = entities-append (answer e asked).1 lines more (tail_good (before_bad lines) good)
+pub state-append : (e : State) (lines more : List (Option Asked)) → before_bad lines ≡ None → state_from e (lines ++ more) ≡ state_from (state_from e lines) more
+state-append e [] more good = refl
+state-append e (None ∷ lines) more good = absurd (cc)
+state-append e (Some asked ∷ lines) more good = state-append (answer e asked).1 lines more (tail_good (before_bad lines) good)
 
 -- ---- and behind a bad one
 
@@ -55,7 +55,7 @@ before_bad-found (Some asked ∷ lines) more n bad =
     let tail = tail_found (before_bad lines) n bad in
     ap (option_map suc) (before_bad-found lines more tail.0 tail.1) ∙ ap Some tail.2
 
-pub answers-found : (e : Entities) (lines more : List (Option Asked)) (n : ℕ) → before_bad lines ≡ Some n → answers_from e (lines ++ more) ≡ answers_from e lines
+pub answers-found : (e : State) (lines more : List (Option Asked)) (n : ℕ) → before_bad lines ≡ Some n → answers_from e (lines ++ more) ≡ answers_from e lines
 answers-found e [] more n bad = absurd (cc)
 answers-found e (None ∷ lines) more n bad = refl
 answers-found e (Some asked ∷ lines) more n bad =

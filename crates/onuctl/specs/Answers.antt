@@ -13,8 +13,7 @@ use Rattle.forward_plan.specs.declared.reason.Reason.{Reason}
 use Rattle.forward_plan.specs.declared.verdict.Verdict.{Verdict}
 use Rattle.forward_plan.specs.declared.verdict.Verdict.TheVariants.{Forward, Drop}
 use Rattle.tag_view.specs.Frame.{Reading, spelled}
-use Rattle.mib_state.specs.Entities.{Entities, nothing}
-use Rattle.mib_state.specs.Step.{step}
+use Rattle.mib_upload.specs.Upload.{State, answered, start}
 use Rattle.onuctl.specs.Line.{Asked, asked_by}
 use Rattle.onuctl.specs.Line.Asked.{Message, Frame, Nothing}
 use Rattle.onuctl.specs.Text.{lines_of}
@@ -47,33 +46,33 @@ abbrev pub verdict_line : Verdict → List ℕ
 verdict_line (Forward gem frame) = forwarded_line gem frame
 verdict_line (Drop reason) = dropped_line reason
 
--- the answer to a message under given entities, and what it leaves: one with a fault leaves them
-abbrev pub message_answer : Entities → Result Request MsgFault → List ℕ × Entities
-message_answer e (Ok request) = let done = step e request in (request_line request done.0, done.1)
-message_answer e (Err fault) = (fault_line fault, e)
+-- the answer to a message in a given state, and the state that it leaves: one with a fault leaves it
+abbrev pub message_answer : State → Result Request MsgFault → List ℕ × State
+message_answer s (Ok request) = let done = answered s request in (request_line request done.0, done.1)
+message_answer s (Err fault) = (fault_line fault, s)
 
 -- the same of a line that isn't bad
-abbrev pub answer : Entities → Asked → List ℕ × Entities
-answer e (Message bytes) = message_answer e (request_of bytes)
-answer e (Frame port bytes) = (verdict_line (meaning e port bytes), e)
-answer e Nothing = ([], e)
+abbrev pub answer : State → Asked → List ℕ × State
+answer s (Message bytes) = message_answer s (request_of bytes)
+answer s (Frame port bytes) = (verdict_line (meaning s.entities port bytes), s)
+answer s Nothing = ([], s)
 
 -- the same of any line: a bad one has no answer
-abbrev pub line_answer : Entities → Option Asked → List ℕ × Entities
-line_answer e None = ([], e)
-line_answer e (Some asked) = answer e asked
+abbrev pub line_answer : State → Option Asked → List ℕ × State
+line_answer s None = ([], s)
+line_answer s (Some asked) = answer s asked
 
 -- the answers to lines in turn, up to the first bad one
-abbrev pub answers_from : Entities → List (Option Asked) → List ℕ
-answers_from e [] = []
-answers_from e (None ∷ lines) = []
-answers_from e (Some asked ∷ lines) = let done = answer e asked in done.0 ++ answers_from done.1 lines
+abbrev pub answers_from : State → List (Option Asked) → List ℕ
+answers_from s [] = []
+answers_from s (None ∷ lines) = []
+answers_from s (Some asked ∷ lines) = let done = answer s asked in done.0 ++ answers_from done.1 lines
 
--- the entities after them
-abbrev pub entities_from : Entities → List (Option Asked) → Entities
-entities_from e [] = e
-entities_from e (None ∷ lines) = e
-entities_from e (Some asked ∷ lines) = entities_from (answer e asked).1 lines
+-- the state after them
+abbrev pub state_from : State → List (Option Asked) → State
+state_from s [] = s
+state_from s (None ∷ lines) = s
+state_from s (Some asked ∷ lines) = state_from (answer s asked).1 lines
 
 -- how many lines stand before the first bad one, if there is one
 abbrev pub before_bad : List (Option Asked) → Option ℕ
@@ -87,4 +86,4 @@ script_of text = map asked_by (lines_of text)
 
 -- the answers to a text, up to its first bad line
 abbrev pub answers : List ℕ → List ℕ
-answers text = answers_from nothing (script_of text)
+answers text = answers_from start (script_of text)

@@ -1,7 +1,7 @@
 -- What a replay of a known text leaves.
 use Rattle.std.specs.Prelude.{◌≡◌, ◌≤◌, ℕ, suc, List, Option, Some, None, Result, Ok, Err, length, map, take, drop, option_map}
 use Rattle.std.specs.Io.KnownBytes.{Appends, IsAtEnd, Keeps}
-use Rattle.mib_state.specs.Entities.{nothing}
+use Rattle.mib_upload.specs.Upload.{start}
 use Rattle.onuctl.specs.Answers.{answers, answers_from, before_bad, script_of}
 use Rattle.onuctl.specs.Line.{Asked, asked_by}
 use Rattle.onuctl.specs.Text.{cut}
@@ -29,7 +29,7 @@ pub record StopsAtRead (n : ℕ) (text : List ℕ) (left before after : Option (
   pub within : n ≤ length text
   pub read : left ≡ Some (drop n text)
   pub none_bad : before_bad (ended_script (take n text)) ≡ None
-  pub written : Appends before after (answers_from nothing (ended_script (take n text)))
+  pub written : Appends before after (answers_from start (ended_script (take n text)))
 
 -- n bytes are read, and a front of the answers to them is written
 pub record StopsAtWrite (n : ℕ) (text : List ℕ) (left before after : Option (List ℕ)) : Type 0 where

@@ -13,6 +13,7 @@ use crate::line::{Line, read_line};
 use forward_plan::{OutFrame, Reason, Verdict, plain_walk};
 use itoa::Buffer;
 use mib_state::Mib;
+use mib_upload::Desk;
 use omci_msg::{MsgFault, Reply, read, write};
 use tag_view::Tag;
 
@@ -123,16 +124,16 @@ fn answer_frame(mib: &Mib, port: u16, bytes: &[u8], answers: &mut Vec<u8>)
 
 // Carries a message out, and puts its answer behind those so far. There is room for twice the
 // line that spells it.
-fn answer_message(mib: &mut Mib, bytes: &[u8], answers: &mut Vec<u8>)
+fn answer_message(desk: &mut Desk, bytes: &[u8], answers: &mut Vec<u8>)
     requires { vec_len answers.old + 4 * length bytes.now + 6 ≤ vec_capacity answers.old }
-    ensures items { answers.new.items ≡ answers.old.items ++ (message_answer mib.old (request_of bytes.now)).0 }
-    ensures mib { mib.new ≡ (message_answer mib.old (request_of bytes.now)).1 }
+    ensures items { answers.new.items ≡ answers.old.items ++ (message_answer desk.old (request_of bytes.now)).0 }
+    ensures desk { desk.new ≡ (message_answer desk.old (request_of bytes.now)).1 }
     ensures len { vec_len answers.new ≤ vec_len answers.old + 4 * length bytes.now + 6 }
     ensures capacity { vec_capacity answers.old ≤ vec_capacity answers.new }
 {
     match read(bytes) {
         Ok(request) => {
-            let reply = mib.step(&request);
+            let reply = desk.answer(&request);
             if request.wants_answer {
                 put_reply(answers, &reply);
             } else {
@@ -145,22 +146,22 @@ fn answer_message(mib: &mut Mib, bytes: &[u8], answers: &mut Vec<u8>)
 
 /// Carries out what a line asks for, and puts its answer behind those so far, for which there is
 /// room for three times the line. Whether the line is bad; a bad one changes nothing.
-pub fn answer_line(mib: &mut Mib, line: &[u8], buffer: &mut [u8], answers: &mut Vec<u8>) -> bool
+pub fn answer_line(desk: &mut Desk, line: &[u8], buffer: &mut [u8], answers: &mut Vec<u8>) -> bool
     requires buffer { length buffer.old ≡ 10000 }
     requires room { vec_len answers.old + 3 * length line.now + 3 ≤ vec_capacity answers.old }
     ensures bad { result ≡ is_none (asked_by line.now) }
-    ensures items { answers.new.items ≡ answers.old.items ++ (line_answer mib.old (asked_by line.now)).0 }
-    ensures mib { mib.new ≡ (line_answer mib.old (asked_by line.now)).1 }
+    ensures items { answers.new.items ≡ answers.old.items ++ (line_answer desk.old (asked_by line.now)).0 }
+    ensures desk { desk.new ≡ (line_answer desk.old (asked_by line.now)).1 }
     ensures len { vec_len answers.new ≤ vec_len answers.old + 3 * length line.now + 3 }
     ensures capacity { vec_capacity answers.old ≤ vec_capacity answers.new }
 {
     match read_line(line, buffer) {
         Some(Line::Message(bytes)) => {
-            answer_message(mib, bytes, answers);
+            answer_message(desk, bytes, answers);
             false
         }
         Some(Line::Frame(port, bytes)) => {
-            answer_frame(mib, port, bytes, answers);
+            answer_frame(desk.mib(), port, bytes, answers);
             false
         }
         Some(Line::Nothing) => false,

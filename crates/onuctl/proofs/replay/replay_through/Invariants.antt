@@ -1,6 +1,6 @@
 use Rattle.std.proofs.Common.{◌≡◌, ◌*◌, ◌≤◌, ℕ, List, [], take, vec_len, vec_capacity}
 use Rattle.std.specs.Io.KnownBytes.{Appends, Consumes}
-use Rattle.mib_state.specs.Entities.{nothing}
+use Rattle.mib_upload.specs.Upload.{start}
 use Rattle.onuctl.specs.Answers.{answers_from}
 use Rattle.onuctl.specs.Replay.{ended_script}
 use Rattle.onuctl.proofs.Replaying.{SoFar}
@@ -8,9 +8,9 @@ use Rattle.onuctl.proofs.replay.replay_through.Given as goal
 
 abbrev pub invariant-loop : goal.invariant-loop
 invariant-loop g l = record {
-  so_far : (read : List ℕ) × SoFar read l.mib (take l.begun l.text) l.lines l.total
+  so_far : (read : List ℕ) × SoFar read l.desk (take l.begun l.text) l.lines l.total
       × Consumes (g.R.Read.remaining l.fn.reader) (g.R.Read.remaining l.reader) read
-      × Appends (g.W.Write.contents l.fn.writer) (g.W.Write.contents l.writer) (answers_from nothing (ended_script read));
+      × Appends (g.W.Write.contents l.fn.writer) (g.W.Write.contents l.writer) (answers_from start (ended_script read));
   begun : l.begun ≤ 20000;
   empty : vec_len l.answers ≡ 0;
   none : l.answers.items ≡ [];

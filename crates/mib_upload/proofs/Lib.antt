@@ -1,0 +1,7 @@
+pub mod Parts
+pub mod Once
+pub mod Bounds
+pub mod Reading
+pub mod Walk
+pub mod Classes
+mod Examples

@@ -1,0 +1,96 @@
+//! The reply to every action.
+ghost use Rattle.std.specs.Prelude.{◌≡◌, IfOk, slice_get};
+ghost use Rattle.mib_upload.specs.Upload.{start, answered, upload_contents, row_contents, sequence_number};
+
+use crate::shelf::Shelf;
+use byteorder::{BigEndian, ByteOrder};
+use mib_state::Mib;
+use omci_msg::{Action, Reply, Request};
+use std::alloc::{AllocError, Global};
+use std::marker::Model;
+
+/// The management of an optical network unit as its messages see it: the managed entities, and the rows of the last MIB
+/// upload.
+#[derive(Drop)]
+pub struct Desk {
+    mib: Mib,
+    shelf: Shelf,
+}
+
+impl Model for Desk {
+    ghost use Rattle.mib_upload.specs.Upload.{State};
+
+    ghost Value = { State };
+
+    ghost view = { λ d. record { entities = d.mib; shelf = d.shelf } };
+}
+
+impl Desk {
+    /// No instance, sync 0 and no row, with all the memory that it will need.
+    pub fn new(alloc: Global) -> Result<Self, AllocError>
+        ensures { IfOk result (λ desk. desk ≡ start) }
+    {
+        Ok(Desk {
+            mib: Mib::new(alloc)?,
+            shelf: Shelf::new(alloc)?,
+        })
+    }
+
+    /// The managed entities.
+    pub fn mib(&self) -> &Mib
+        ensures { result.now ≡ self.now.entities }
+    {
+        &self.mib
+    }
+
+    /// Carries a request out, and answers it. A MIB upload puts the rows of this moment on the shelf and answers their
+    /// number; they stand until the next one, a MIB reset notwithstanding. A MIB upload next answers a row of the shelf, or
+    /// all zero where no row has its number. Neither looks at the class and the instance. Every other action is a step of the
+    /// entities. It takes no memory (ITU-T G.988, clauses 11.2 and A.2).
+    pub fn answer(&mut self, request: &Request) -> Reply
+        ensures reply { result ≡ (answered self.old request.now).0 }
+        ensures after { self.new ≡ (answered self.old request.now).1 }
+    {
+        let contents = match request.action {
+            Action::MibUpload => upload_contents(self.shelf.fill(&self.mib)),
+            Action::MibUploadNext => self.row_contents(sequence_number(&request.contents)),
+            _ => return self.mib.step(request),
+        };
+        Reply {
+            tci: request.tci,
+            action: request.action,
+            class: request.class,
+            instance: request.instance,
+            contents,
+        }
+    }
+
+    /// The contents of the answer to a MIB upload next: a row of the shelf, or all zero where no row has the number.
+    #[tactic(auto, unfolding(crate::specs::Upload::row_contents))]
+    fn row_contents(&self, n: u16) -> [u8; 32]
+        ensures { result ≡ row_contents (slice_get self.now.shelf n) }
+    {
+        match self.shelf.row(n) {
+            Some(row) => row.contents(),
+            None => [0; 32],
+        }
+    }
+}
+
+/// The contents of the answer to a MIB upload.
+#[tactic(auto, unfolding(crate::specs::Upload::upload_contents))]
+fn upload_contents(count: u16) -> [u8; 32]
+    ensures { result ≡ upload_contents count }
+{
+    let mut contents = [0; 32];
+    BigEndian::write_u16(&mut contents[..2], count);
+    contents
+}
+
+/// The sequence number that a MIB upload next asks for.
+#[tactic(auto, unfolding(crate::specs::Upload::sequence_number))]
+fn sequence_number(contents: &[u8; 32]) -> u16
+    ensures { result ≡ sequence_number contents.now }
+{
+    BigEndian::read_u16(contents)
+}

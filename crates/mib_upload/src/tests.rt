@@ -1,0 +1,278 @@
+use crate::{Desk, Shelf, law_of_rows};
+use mib_state::Mib;
+use omci_msg::{Action, OtherCode, Reply, Request};
+use std::alloc::{AllocError, Global};
+use std::test::Fail;
+
+/// Contents that begin with these bytes.
+fn contents(bytes: &[u8]) -> [u8; 32] {
+    let mut contents = [0; 32];
+    for (to, from) in contents.iter_mut().zip(bytes) {
+        *to = *from;
+    }
+    contents
+}
+
+/// A request with identifier 1, whose contents begin with these bytes.
+fn request(action: Action, class: u16, instance: u16, bytes: &[u8]) -> Request {
+    Request {
+        tci: 1,
+        action,
+        wants_answer: true,
+        class,
+        instance,
+        contents: contents(bytes),
+    }
+}
+
+/// A MIB upload.
+fn upload() -> Request {
+    request(Action::MibUpload, 2, 0, &[])
+}
+
+/// A MIB upload next with a sequence number.
+fn upload_next(n: u16) -> Request {
+    request(Action::MibUploadNext, 2, 0, &n.to_be_bytes())
+}
+
+/// The creation of a GEM port network CTP: port-ID 1024, T-CONT 0x8001, both directions.
+fn create_gem_port(instance: u16) -> Request {
+    request(Action::Create, 268, instance, &[4, 0, 0x80, 1, 3])
+}
+
+/// The creation of a GEM interworking termination point to GEM port network CTP 0x0401.
+fn create_interwork(instance: u16) -> Request {
+    request(Action::Create, 266, instance, &[4, 1, 5, 6, 1])
+}
+
+/// The creation of a mapper of port 257, whose pointers are all 0x0501; option 1, default 0, TP type 1.
+fn create_mapper(instance: u16) -> Request {
+    request(
+        Action::Create,
+        130,
+        instance,
+        &[
+            1, 1, 5, 1, 5, 1, 5, 1, 5, 1, 5, 1, 5, 1, 5, 1, 5, 1, 1, 0, 1,
+        ],
+    )
+}
+
+/// The creation of an extended VLAN tagging operation configuration data of port 257.
+fn create_vlan(instance: u16) -> Request {
+    request(Action::Create, 171, instance, &[2, 1, 1])
+}
+
+/// A port, 257, with its GEM port network CTP, interworking termination point, mapper and table.
+fn set_up(alloc: Global) -> Result<Desk, AllocError> {
+    let mut desk = Desk::new(alloc)?;
+    let _ = desk.answer(&create_gem_port(0x0401));
+    let _ = desk.answer(&create_interwork(0x0501));
+    let _ = desk.answer(&create_mapper(0x0601));
+    let _ = desk.answer(&create_vlan(0x0701));
+    Ok(desk)
+}
+
+/// The rows of the port: class, instance, mask, and the bytes up to zeros.
+const ROWS: [&[u8]; 7] = [
+    &[0, 2, 0, 0, 0x80, 0, 4],
+    &[
+        0, 0x82, 6, 1, 0xff, 0xc0, 1, 1, 5, 1, 5, 1, 5, 1, 5, 1, 5, 1, 5, 1, 5, 1, 5, 1, 1,
+    ],
+    &[
+        0, 0x82, 6, 1, 0, 0x38, 0, 0, 0, 0, 0, 0, 0, 0, 0, 0, 0, 0, 0, 0, 0, 0, 0, 0, 0, 0, 0, 0,
+        0, 0, 0, 1,
+    ],
+    &[
+        0, 0xab, 7, 1, 0xfa, 0, 2, 0, 0x40, 0x81, 0, 0x81, 0, 0, 1, 1,
+    ],
+    &[0, 0xab, 7, 1, 1, 0],
+    &[1, 0x0a, 5, 1, 0xff, 0, 4, 1, 5, 6, 1],
+    &[1, 0x0c, 4, 1, 0xff, 0xc0, 4, 0, 0x80, 1, 3],
+];
+
+#[test]
+fn rows_are_those_of_the_upload_whatever_is_created_later(rt: HostRuntime) -> Result<(), Fail> {
+    let mut desk = set_up(rt.alloc())?;
+    let reply = desk.answer(&upload());
+    let wanted = Reply {
+        tci: 1,
+        action: Action::MibUpload,
+        class: 2,
+        instance: 0,
+        contents: contents(&[0, 7]),
+    };
+    assert_eq!(rt; reply, wanted);
+    assert_eq!(rt; desk.answer(&create_gem_port(0x0402)).contents, [0; 32]);
+    for (n, row) in (0..7).zip(&ROWS) {
+        let reply = desk.answer(&upload_next(n));
+        assert_eq!(rt; reply.contents, contents(row), "row {n}");
+    }
+    assert_eq!(rt; desk.answer(&upload_next(7)).contents, [0; 32]);
+    assert_eq!(rt; desk.answer(&upload_next(0xffff)).contents, [0; 32]);
+    assert_eq!(rt; desk.answer(&upload()).contents, contents(&[0, 8]));
+    assert_eq!(rt;
+        desk.answer(&upload_next(0)).contents,
+        contents(&[0, 2, 0, 0, 0x80, 0, 5])
+    );
+    assert_eq!(rt; desk.mib().sync(), 5);
+    Ok(())
+}
+
+#[test]
+fn before_an_upload_there_is_no_row(rt: HostRuntime) -> Result<(), Fail> {
+    let mut desk = set_up(rt.alloc())?;
+    for n in [0, 1, 0xffff] {
+        let reply = desk.answer(&upload_next(n));
+        assert_eq!(rt; reply.contents, [0; 32], "row {n}");
+    }
+    Ok(())
+}
+
+#[test]
+fn rows_outlive_a_mib_reset(rt: HostRuntime) -> Result<(), Fail> {
+    let mut desk = set_up(rt.alloc())?;
+    let mut unanswered = upload();
+    unanswered.wants_answer = false;
+    let _ = desk.answer(&unanswered);
+    let reset = request(Action::MibReset, 2, 0, &[]);
+    assert_eq!(rt; desk.answer(&reset).contents, [0; 32]);
+    assert_eq!(rt; desk.mib().sync(), 0);
+    for (n, row) in (0..7).zip(&ROWS) {
+        let reply = desk.answer(&upload_next(n));
+        assert_eq!(rt; reply.contents, contents(row), "row {n}");
+    }
+    assert_eq!(rt; desk.answer(&upload()).contents, contents(&[0, 1]));
+    assert_eq!(rt;
+        desk.answer(&upload_next(0)).contents,
+        contents(&[0, 2, 0, 0, 0x80])
+    );
+    assert_eq!(rt; desk.answer(&upload_next(1)).contents, [0; 32]);
+    Ok(())
+}
+
+#[test]
+fn uploads_look_at_no_class_and_no_instance(rt: HostRuntime) -> Result<(), Fail> {
+    let mut desk = set_up(rt.alloc())?;
+    let first = desk.answer(&request(Action::MibUpload, 45, 7, &[]));
+    assert_eq!(rt; (first.class, first.instance), (45, 7));
+    assert_eq!(rt; first.contents, contents(&[0, 7]));
+    let next = desk.answer(&request(Action::MibUploadNext, 0xffff, 9, &[0, 4]));
+    assert_eq!(rt; (next.class, next.instance), (0xffff, 9));
+    assert_eq!(rt; next.contents, contents(&[0, 0xab, 7, 1, 1]));
+    Ok(())
+}
+
+#[test]
+fn the_sync_follows_255_by_1_and_a_reset_by_0(rt: HostRuntime) -> Result<(), Fail> {
+    let mut desk = Desk::new(rt.alloc())?;
+    let reset = request(Action::MibReset, 2, 0, &[]);
+    let read = request(Action::Get, 2, 0, &[0x80, 0]);
+    let write = request(Action::Set, 268, 0x0401, &[0x80, 0, 4, 0]);
+    assert_eq!(rt; desk.answer(&reset).contents, [0; 32]);
+    assert_eq!(rt; desk.answer(&create_gem_port(0x0401)).contents, [0; 32]);
+    for n in 0..254 {
+        assert_eq!(rt; desk.answer(&write).contents, [0; 32], "Set {n}");
+    }
+    assert_eq!(rt; desk.answer(&read).contents, contents(&[0, 0x80, 0, 0xff]));
+    assert_eq!(rt; desk.answer(&write).contents, [0; 32]);
+    assert_eq!(rt; desk.answer(&read).contents, contents(&[0, 0x80, 0, 1]));
+    assert_eq!(rt; desk.answer(&reset).contents, [0; 32]);
+    assert_eq!(rt; desk.answer(&read).contents, contents(&[0, 0x80, 0, 0]));
+    Ok(())
+}
+
+#[test]
+fn every_other_action_is_a_step_of_the_entities(rt: HostRuntime) -> Result<(), Fail> {
+    let mut desk = set_up(rt.alloc())?;
+    for (request, wanted, what) in [
+        (
+            request(Action::Create, 45, 1, &[]),
+            [4, 0, 0, 0, 0, 0, 0],
+            "a Create of an unknown class",
+        ),
+        (
+            request(Action::Create, 2, 0, &[]),
+            [2, 0, 0, 0, 0, 0, 0],
+            "a Create of ONU data",
+        ),
+        (
+            create_gem_port(0xffff),
+            [3, 0, 0, 0, 0, 0, 0],
+            "a Create of instance 0xffff",
+        ),
+        (
+            request(Action::Delete, 268, 0x0999, &[]),
+            [5, 0, 0, 0, 0, 0, 0],
+            "a Delete of an absent instance",
+        ),
+        (
+            request(Action::Other(OtherCode { code: 25 }), 2, 0, &[]),
+            [2, 0, 0, 0, 0, 0, 0],
+            "an action that isn't carried out",
+        ),
+        (
+            request(Action::Get, 171, 0x0701, &[4, 0]),
+            [0, 4, 0, 0, 0, 0, 0x30],
+            "a Get of the table",
+        ),
+    ] {
+        let reply = desk.answer(&request);
+        assert_eq!(rt; reply.contents, contents(&wanted), "the answer to {what}");
+    }
+    for n in 0..255 {
+        assert_eq!(rt;
+            desk.answer(&create_gem_port(n)).contents,
+            [0; 32],
+            "the answer to GEM port {n}"
+        );
+    }
+    assert_eq!(rt; desk.answer(&create_gem_port(255)).contents, contents(&[1]));
+    Ok(())
+}
+
+#[test]
+fn an_upload_of_all_that_there_may_be_has_609_rows(rt: HostRuntime) -> Result<(), Fail> {
+    let mut mib = Mib::new(rt.alloc())?;
+    let mut shelf = Shelf::new(rt.alloc())?;
+    assert_eq!(rt; shelf.row(0).is_none(), true, "a new shelf holds no row");
+    for n in 0..256 {
+        let _ = mib.step(&create_gem_port(n));
+        let _ = mib.step(&create_interwork(n));
+        if n < 32 {
+            let _ = mib.step(&create_mapper(n));
+        }
+        if n < 16 {
+            let _ = mib.step(&create_vlan(n));
+        }
+    }
+    for what in ["the first upload", "the second upload"] {
+        assert_eq!(rt; shelf.fill(&mib), 609, "the rows of {what}");
+        for (n, class, instance, mask, len) in [
+            (0, 2, 0, 0x8000, 1),
+            (1, 130, 0, 0xffc0, 19),
+            (64, 130, 31, 0x0038, 26),
+            (65, 171, 0, 0xfa00, 10),
+            (96, 171, 15, 0x0100, 24),
+            (97, 266, 0, 0xff00, 12),
+            (352, 266, 255, 0xff00, 12),
+            (353, 268, 0, 0xffc0, 16),
+            (608, 268, 255, 0xffc0, 16),
+        ] {
+            let row = shelf.row(n).ok_or("a row is missing")?;
+            assert_eq!(rt;
+                (row.class, row.instance, row.mask),
+                (class, instance, mask),
+                "row {n} of {what}"
+            );
+            assert_eq!(rt; row.values.len(), len, "the bytes of row {n}");
+        }
+        assert_eq!(rt; shelf.row(609).is_none(), true, "there are no more");
+    }
+    Ok(())
+}
+
+#[test]
+fn entities_have_one_list_of_rows(_rt: HostRuntime) -> Result<(), Fail> {
+    law_of_rows();
+    Ok(())
+}
