@@ -89,7 +89,8 @@ impl<E: ManagedEntity> Instances<E> {
 
     /// The answer to a Get.
     pub fn read(&self, request: &Request) -> Result<[u8; 32], Refusal>
-        ensures { result ≡ get_found E.layout (mask_of request.now.contents) (find request.now.instance self.now) }
+        ensures { result
+            ≡ get_found E.layout (mask_of request.now.contents) (find request.now.instance self.now) }
     {
         match self.get(request.instance) {
             Some(entity) => Ok(get_contents(entity, mask_of(&request.contents))),
@@ -113,7 +114,8 @@ impl<E: ManagedEntity> Instances<E> {
 
     /// Whether a Create is refused.
     pub fn check_create(&self, request: &Request) -> Result<(), Refusal>
-        ensures { result ≡ outcome_of (create_in E.layout E.ROOM request.now.instance request.now.contents self.now) }
+        ensures { result
+            ≡ outcome_of (create_in E.layout E.ROOM request.now.instance request.now.contents self.now) }
     {
         if request.instance == u16::MAX {
             return Err(Refusal::ParameterError);
@@ -127,8 +129,10 @@ impl<E: ManagedEntity> Instances<E> {
 
     /// Creates an instance, by a Create that isn't refused.
     pub fn create(&mut self, request: &Request)
-        requires { is_ok (create_in E.layout E.ROOM request.now.instance request.now.contents self.old) ≡ true }
-        ensures { self.new ≡ left_by self.old (create_in E.layout E.ROOM request.now.instance request.now.contents self.old) }
+        requires { is_ok (create_in E.layout E.ROOM request.now.instance request.now.contents self.old)
+            ≡ true }
+        ensures { self.new ≡ left_by self.old
+            (create_in E.layout E.ROOM request.now.instance request.now.contents self.old) }
     {
         let number = request.instance;
         if let Err(at) = self.search(number) {
@@ -163,7 +167,8 @@ impl<E: ManagedEntity> Instances<E> {
     /// Whether a Set is refused.
     #[tactic(auto, unfolding(crate::specs::Step::set_in), using(crate::proofs::Setting::set_outcome))]
     pub fn check_set(&self, request: &Request) -> Result<(), Refusal>
-        ensures { result ≡ outcome_of (set_in E.layout request.now.instance (mask_of request.now.contents) (drop 2 request.now.contents) self.now) }
+        ensures { result ≡ outcome_of (set_in E.layout request.now.instance
+            (mask_of request.now.contents) (drop 2 request.now.contents) self.now) }
     {
         match self.get(request.instance) {
             Some(entity) => check_set(
@@ -177,8 +182,10 @@ impl<E: ManagedEntity> Instances<E> {
 
     /// Writes the attributes that a Set names, which isn't refused.
     pub fn set(&mut self, request: &Request)
-        requires { is_ok (set_in E.layout request.now.instance (mask_of request.now.contents) (drop 2 request.now.contents) self.old) ≡ true }
-        ensures { self.new ≡ left_by self.old (set_in E.layout request.now.instance (mask_of request.now.contents) (drop 2 request.now.contents) self.old) }
+        requires { is_ok (set_in E.layout request.now.instance
+            (mask_of request.now.contents) (drop 2 request.now.contents) self.old) ≡ true }
+        ensures { self.new ≡ left_by self.old (set_in E.layout request.now.instance
+            (mask_of request.now.contents) (drop 2 request.now.contents) self.old) }
     {
         if let Ok(at) = self.search(request.instance) {
             let row = &mut self.rows[at];

@@ -7,9 +7,12 @@
 //! value says what every request is answered and leaves.
 //!
 //! **Classes are data.** The attributes of a class (their number of bytes, who may write them, their value after Create)
-//! are one table, `specs/Class.antt`, and the code's table is proved to be the same. An action is one definition and one
-//! body over that table. A class is a struct with named fields, which says how its attributes are read and written as
-//! bytes, and nothing else.
+//! are one table, `specs/Class.antt`, and the code's table is proved to be the same. An action is one definition over that
+//! table, and a class is a struct with named fields, which says how its attributes are read and written as bytes, and
+//! nothing else.
+//!
+//! **A check, then a change.** `Mib::decide` says what a request is answered, and whether it is refused; nothing changes.
+//! `result_of` asks it alone; `step` asks it and then makes the change, which can't be refused.
 //!
 //! **Memory.** `Mib::new` makes every instance that there is room for. Create takes one of these and resets it, so a step
 //! takes no memory.

@@ -35,7 +35,8 @@ impl OnuData {
 
     /// The answer to a Get; there is instance 0 alone.
     pub fn read(&self, request: &Request) -> Result<[u8; 32], Refusal>
-        ensures { result ≡ get_found onu_data_layout (mask_of request.now.contents) (find request.now.instance (onu_data self.now.sync ∷ [])) }
+        ensures { result ≡ get_found onu_data_layout (mask_of request.now.contents)
+            (find request.now.instance (onu_data self.now.sync ∷ [])) }
     {
         if request.instance != 0 {
             return Err(Refusal::UnknownInstance);
@@ -46,7 +47,8 @@ impl OnuData {
     /// Whether a Set is refused; there is instance 0 alone.
     #[tactic(auto, unfolding(crate::specs::Step::set_in), using(crate::proofs::Setting::set_outcome))]
     pub fn check_set(&self, request: &Request) -> Result<(), Refusal>
-        ensures { result ≡ outcome_of (set_in onu_data_layout request.now.instance (mask_of request.now.contents) (drop 2 request.now.contents) (onu_data self.now.sync ∷ [])) }
+        ensures { result ≡ outcome_of (set_in onu_data_layout request.now.instance
+            (mask_of request.now.contents) (drop 2 request.now.contents) (onu_data self.now.sync ∷ [])) }
     {
         if request.instance != 0 {
             return Err(Refusal::UnknownInstance);
@@ -61,8 +63,12 @@ impl OnuData {
     /// Writes the attributes that a Set names, which isn't refused.
     #[tactic(auto, unfolding(crate::specs::Step::set_in))]
     pub fn set(&mut self, request: &Request)
-        requires { is_ok (set_in onu_data_layout request.now.instance (mask_of request.now.contents) (drop 2 request.now.contents) (onu_data self.old.sync ∷ [])) ≡ true }
-        ensures { self.new.sync ≡ sync_of (left_by (onu_data self.old.sync ∷ []) (set_in onu_data_layout request.now.instance (mask_of request.now.contents) (drop 2 request.now.contents) (onu_data self.old.sync ∷ []))) }
+        requires { is_ok (set_in onu_data_layout request.now.instance
+            (mask_of request.now.contents) (drop 2 request.now.contents) (onu_data self.old.sync ∷ []))
+            ≡ true }
+        ensures { self.new.sync ≡ sync_of (left_by (onu_data self.old.sync ∷ [])
+            (set_in onu_data_layout request.now.instance (mask_of request.now.contents)
+            (drop 2 request.now.contents) (onu_data self.old.sync ∷ []))) }
     {
         if request.instance == 0 {
             set(

@@ -59,7 +59,8 @@ fn unwritable(layout: &[Attribute], mask: u16) -> u16
 /// Whether the table takes the entry that is set, if the mask names the table.
 fn check_named<E: ManagedEntity>(entity: &E, mask: u16, bytes: &[u8]) -> Result<(), Refusal>
     requires { named_width mask 0 E.layout ≤ length bytes.now }
-    ensures { result ≡ outcome_of (entries_after (entry_at mask 0 E.layout) bytes.now (E.entries entity.now)) }
+    ensures { result
+        ≡ outcome_of (entries_after (entry_at mask 0 E.layout) bytes.now (E.entries entity.now)) }
 {
     match entry_at(E::layout(), mask) {
         Some(at) => entity.check_entry(&bytes[at..at + 16]),
@@ -70,7 +71,8 @@ fn check_named<E: ManagedEntity>(entity: &E, mask: u16, bytes: &[u8]) -> Result<
 /// Puts the entry that is set into the table, if the mask names the table.
 fn put_named<E: ManagedEntity>(entity: &mut E, mask: u16, bytes: &[u8])
     requires { named_width mask 0 E.layout ≤ length bytes.now }
-    ensures entries { E.entries entity.new ≡ left_by (E.entries entity.old) (entries_after (entry_at mask 0 E.layout) bytes.now (E.entries entity.old)) }
+    ensures entries { E.entries entity.new ≡ left_by (E.entries entity.old)
+        (entries_after (entry_at mask 0 E.layout) bytes.now (E.entries entity.old)) }
     ensures values { E.values entity.new ≡ E.values entity.old }
 {
     if let Some(at) = entry_at(E::layout(), mask) {
@@ -82,7 +84,8 @@ fn put_named<E: ManagedEntity>(entity: &mut E, mask: u16, bytes: &[u8])
 #[tactic(auto, unfolding(crate::specs::Step::set_instance), using(crate::proofs::Setting::outcome_of_with_entries))]
 pub fn check_set<E: ManagedEntity>(entity: &E, mask: u16, bytes: &[u8]) -> Result<(), Refusal>
     requires { length bytes.now ≡ 30 }
-    ensures { (n : ℕ) → result ≡ outcome_of (set_instance E.layout mask bytes.now (shown_as n (E.values entity.now) (E.entries entity.now))) }
+    ensures { (n : ℕ) → result ≡ outcome_of
+        (set_instance E.layout mask bytes.now (shown_as n (E.values entity.now) (E.entries entity.now))) }
 {
     let layout = E::layout();
     let unknown = unknown(mask, layout.len());
@@ -101,7 +104,8 @@ pub fn set<E: ManagedEntity>(entity: &mut E, mask: u16, bytes: &[u8])
     requires fits { named_width mask 0 E.layout ≤ length bytes.now }
     requires writable { unwritable_of mask 0 E.layout ≡ 0 }
     ensures values { E.values entity.new ≡ written mask 0 E.layout bytes.now (E.values entity.old) }
-    ensures entries { E.entries entity.new ≡ left_by (E.entries entity.old) (entries_after (entry_at mask 0 E.layout) bytes.now (E.entries entity.old)) }
+    ensures entries { E.entries entity.new ≡ left_by (E.entries entity.old)
+        (entries_after (entry_at mask 0 E.layout) bytes.now (E.entries entity.old)) }
 {
     put_named(entity, mask, bytes);
     write(entity, mask, bytes);
