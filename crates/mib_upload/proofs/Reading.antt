@@ -1,12 +1,12 @@
 -- One attribute after another: what reading attribute n, or finding none, does to what is left.
-use Rattle.std.proofs.Common.{◌≡◌, ℕ, zero, suc, ◌+◌, ◌-◌, ◌^◌, ◌<◌, ◌≤◌, true, false, List, [], ◌∷◌, ◌++◌, length, Bool, Option, Some, None, slice_get, refl, ◌∙◌, arith, add-one, pow-suc}
+use Rattle.std.proofs.Common.{◌≡◌, ℕ, zero, suc, ◌+◌, ◌-◌, ◌^◌, ◌<◌, ◌≤◌, true, false, List, ◌∷◌, ◌++◌, length, Bool, Option, Some, None, slice_get, refl, ◌∙◌, arith, add-one, pow-suc}
 use Rattle.std.specs.Prelude.{All, if◌then◌else◌}
 use Rattle.std.proofs.lemmas.Bool.{le-leb, lt-leb}
 use Rattle.std.proofs.lemmas.List.Elements.{All-nil, All-cons}
 use Rattle.mib_state.specs.declared.attribute.Attribute.{Attribute}
 use Rattle.mib_state.specs.Class.{attributes_of, table_at, width_at}
 use Rattle.mib_state.specs.Entities.{Instance, attribute_of}
-use Rattle.mib_upload.specs.Rows.{Numbered, RowFields, row_room, attributes_from, numbered, FitsRow, begun_row, with_attribute, filled_from}
+use Rattle.mib_upload.specs.Rows.{Numbered, RowFields, row_room, attributes_from, FitsRow, begun_row, with_attribute, filled_from}
 use Rattle.mib_upload.specs.Room.{rows_by, widths_from, instance_room}
 use Rattle.mib_upload.proofs.Bounds.{rows_by_without, rows_by_some}
 

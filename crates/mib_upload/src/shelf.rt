@@ -95,9 +95,11 @@ impl Shelf {
     /// Adds the rows of an instance.
     fn add_instance(&mut self, mib: &Mib, class: u16, number: u16)
         requires { length self.old + instance_room class ≤ shelf_room }
-        ensures rows { self.new ≡ self.old ++ filled_from (begun_row class number) (attributes_from (attributes_of class) (find number (instances_of mib.now class)) 1 16) }
+        ensures rows { self.new ≡ self.old ++ filled_from (begun_row class number)
+            (attributes_from (attributes_of class) (find number (instances_of mib.now class)) 1 16) }
         ensures room { length self.new ≤ length self.old + instance_room class }
-        ensures each { All FitsRow (attributes_from (attributes_of class) (find number (instances_of mib.now class)) 1 16) }
+        ensures each { All FitsRow
+            (attributes_from (attributes_of class) (find number (instances_of mib.now class)) 1 16) }
     {
         let mut row = Row::begin(class, number);
         for n in 1..=16 {
@@ -117,8 +119,10 @@ impl Shelf {
         requires behind { row.old.mask + 2 ^ (17 - n) ≤ 2 ^ 16 }
         requires fits { length value.now ≤ row_room }
         requires room { length self.old < shelf_room }
-        ensures rows { (rest : List Numbered) → self.new ++ filled_from row.new rest ≡ self.old ++ filled_from row.old (record { number = n; bytes = value.now } ∷ rest) }
-        ensures room { (widths : List ℕ) → length self.new + rows_by (length row.new.values) widths ≡ length self.old + rows_by (length row.old.values) (length value.now ∷ widths) }
+        ensures rows { (rest : List Numbered) → self.new ++ filled_from row.new rest
+            ≡ self.old ++ filled_from row.old (record { number = n; bytes = value.now } ∷ rest) }
+        ensures room { (widths : List ℕ) → length self.new + rows_by (length row.new.values) widths
+            ≡ length self.old + rows_by (length row.old.values) (length value.now ∷ widths) }
         ensures mask { row.new.mask + 2 ^ (16 - n) ≤ 2 ^ 16 }
     {
         if !row.has_room_for(value.len()) {

@@ -1,6 +1,6 @@
-use Rattle.std.proofs.Common.{◌≡◌, ◌+◌, ◌<◌, ◌≤◌, Some, None, sym, arith}
+use Rattle.std.proofs.Common.{◌+◌, ◌≤◌, sym, arith}
 use Rattle.mib_state.specs.Entities.{instances_of}
-use Rattle.mib_upload.proofs.Walk.{IsNext, walks_first, is_next, not_under, next_has_room, walks_next, walked_none, walked_last, each_none, each_last, few_rows}
+use Rattle.mib_upload.proofs.Walk.{walks_first, is_next, not_under, next_has_room, walks_next, walked_none, walked_last, each_none, each_last, few_rows}
 use Rattle.mib_upload.proofs.shelf.Shelf.add_class.Goals as goal
 
 pub loop-number-init : goal.loop-number-init

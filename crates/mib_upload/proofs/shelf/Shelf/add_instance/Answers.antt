@@ -1,6 +1,5 @@
-use Rattle.std.proofs.Common.{◌≡◌, ◌≤◌, Some, None, sym, arith}
-use Rattle.mib_state.specs.Class.{attributes_of}
-use Rattle.mib_state.specs.Entities.{find, instances_of, attribute_of}
+use Rattle.std.proofs.Common.{◌≤◌, sym, arith}
+use Rattle.mib_state.specs.Entities.{find, instances_of}
 use Rattle.mib_upload.proofs.Reading.{keeps_first, keeps_none, keeps_some, one_more}
 use Rattle.mib_upload.proofs.shelf.Shelf.add_instance.Goals as goal
 use Rattle.mib_upload.proofs.shelf.Shelf.add_instance.Goals.{in-Some, in_default}

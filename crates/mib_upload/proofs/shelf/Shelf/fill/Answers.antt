@@ -1,4 +1,3 @@
-use Rattle.std.proofs.Common.{arith}
 use Rattle.mib_upload.proofs.Classes.{fills_first, class_has_room, fills_next, are_filled}
 use Rattle.mib_upload.proofs.shelf.Shelf.fill.Goals as goal
 
