@@ -119,6 +119,7 @@ choice_is test entries = by_case (best_of test entries (length entries)).0 (best
   where
     if_chosen : (place : Option ℕ) → IsChoice test entries place → IsChoice test entries (choice test entries)
     if_chosen place is = subst (IsChoice test entries) (is_computed test entries place is) is
+
     by_case : (best : Option (ℕ × ℕ)) → IsBest test entries (length entries) best → IsChoice test entries (choice test entries)
     by_case None is = if_chosen None is
     by_case (Some best) is = if_chosen (Some best.1) (chosen test entries best is)

@@ -1,6 +1,6 @@
 -- The place that is chosen is the one that is computed.
 use Rattle.std.proofs.Common.{◌≡◌, ◌≢◌, ◌==◌, ℕ, ◌<◌, List, [], Bool, true, false, ◌&&◌, ◌||◌, Option, Some, None, length, refl, ap, sym, ◌∙◌, arith, nat_lt}
-use Rattle.std.specs.List.{position, position_or_len}
+use Rattle.std.specs.List.{position_or_len}
 use Rattle.std.proofs.Math.Bool.{and-false}
 use Rattle.std.proofs.lemmas.Bool.{le-ltb, lt-ltb, ne_eqb, true≢false}
 use Rattle.std.proofs.lemmas.Bool.Decides.{nat_tests}
@@ -8,7 +8,7 @@ use Rattle.std.proofs.lemmas.List.Sums.{position_or_len_is}
 use Rattle.vlan_rule.specs.declared.rank.Rank.{Rank}
 use Rattle.vlan_rule.specs.declared.rank.Rank.TheVariants.{Ordinary, Default, Predefined}
 use Rattle.vlan_rule.specs.Meaning.{rank_number, rank_of}
-use Rattle.vlan_rule.specs.Choice.{choice, entry_at, first_of, is_before, rank_at, IsChoice, IsChosen}
+use Rattle.vlan_rule.specs.Choice.{choice, entry_at, first_of, rank_at, IsChoice}
 
 -- an entry passes the test and has the rank
 abbrev is_of : Rank → (List ℕ → Bool) → List ℕ → Bool
@@ -67,10 +67,12 @@ is_computed test entries (Some i) is = by_rank (rank_of (entry_at entries i)) re
     none : (rank rank' : Rank) → rank_of (entry_at entries i) ≡ rank' → rank_number rank < rank_number rank' → first_of rank test entries ≡ None
     none rank rank' has less =
         none_of test entries rank (λ j h passes. not_less (rank_at entries j) (rank_at entries i) i j (is.least j h passes) (rank_number rank) (rw has less))
+
     first : (rank : Rank) → rank_of (entry_at entries i) ≡ rank → first_of rank test entries ≡ Some i
     first rank has =
         let number : rank_at entries i ≡ rank_number rank = ap rank_number has in
         first_is test entries rank i is.in_range is.passes number (λ j h passes same. not_same (rank_at entries j) (rank_at entries i) i j (is.least j (omega (arith, h, is.in_range)) passes) h (same ∙ sym number))
+
     by_rank : (rank : Rank) → rank_of (entry_at entries i) ≡ rank → Some i ≡ choice test entries
     by_rank Ordinary has = rw (first Ordinary has) refl
     by_rank Default has = rw (none Ordinary Default has (omega arith), first Default has) refl
