@@ -254,35 +254,6 @@ fn refusals_have_their_results(rt: HostRuntime) -> Result<(), Fail> {
 }
 
 #[test]
-fn the_first_refusal_counts_and_the_room_ends_at_256(rt: HostRuntime) -> Result<(), Fail> {
-    let mut mib = set_up(rt.alloc())?;
-    let size = [0, 4, 0, 0, 0, 0, 0x30];
-    let alarms = request(Action::Other(OtherCode { code: 25 }), 2, 0, &[]);
-    take(
-        &rt,
-        &mut mib,
-        &[
-            (request(Action::Create, 45, 1, &[]), only(4), 4),
-            (request(Action::Create, 2, 0, &[]), only(2), 4),
-            (create_gem_port(0xffff), only(3), 4),
-            (delete(268, 0x0999), only(5), 4),
-            (alarms, only(2), 4),
-            (get(171, 0x0701, 0x0400), contents(&size), 4),
-        ],
-    )?;
-    for number in 0..255 {
-        assert_eq!(rt;
-            mib.step(&create_gem_port(number)).contents,
-            only(0),
-            "Create {number}"
-        );
-    }
-    assert_eq!(rt; mib.result_of(&create_gem_port(255)), 1);
-    assert_eq!(rt; mib.step(&create_gem_port(255)).contents, only(1));
-    Ok(())
-}
-
-#[test]
 fn the_sync_goes_from_255_to_1(rt: HostRuntime) -> Result<(), Fail> {
     let mut mib = Mib::new(rt.alloc())?;
     for made in 1..=256 {

@@ -1,4 +1,4 @@
-//! onuctl answers OMCI messages as an optical network unit does.
+//! onuctl answers OMCI messages, and forwards Ethernet frames upstream, as an optical network unit does.
 #![tactic(auto)]
 
 mod answer;

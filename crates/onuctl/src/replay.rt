@@ -130,10 +130,12 @@ impl Room {
 }
 
 /// Reads a script, one line after the other, and writes the answer to each message, as an ONU
-/// without any instance gives it. A script is lines that end in LF; one CR before it is dropped,
-/// and the last line needs none. An empty line and one that begins with `#` have no answer. A line
-/// `o HEX` is a message. The answer is a line `r HEX`, the reply; `-` where none was wanted; `m N`
-/// where the message has fault N. Any other line is bad, and so is one over 20,000 bytes.
+/// without any instance gives it, and what becomes of each frame. A script is lines that end in LF;
+/// one CR before it is dropped, and the last line needs none. An empty line and one that begins with
+/// `#` have no answer. A line `o HEX` is a message. The answer is a line `r HEX`, the reply; `-`
+/// where none was wanted; `m N` where the message has fault N. A line `f PORT HEX` is a frame that
+/// comes in at a port. The answer is `g GEM HEX`, the GEM port by which it leaves and its bytes then,
+/// or `d N`, dropped for reason N. Any other line is bad, and so is one over 20,000 bytes.
 ///
 /// All memory is taken before the first read. The answers to what a read handed over are written
 /// before the next. No call that failed is made again.
