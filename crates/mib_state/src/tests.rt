@@ -533,7 +533,9 @@ fn a_table_holds_64_entries_and_overwrites_a_held_key(rt: HostRuntime) -> Result
             (again, only(0), 66),
             (get(171, 0x0701, 0x0400), contents(&[0, 4, 0, 0, 0, 4]), 66),
         ],
-    )
+    )?;
+    assert_eq!(rt; mib.vlan(0x0701).map(|vlan| vlan.table.len()), Some(64));
+    Ok(())
 }
 
 #[test]
@@ -566,7 +568,12 @@ fn a_refused_set_keeps_nothing(rt: HostRuntime) -> Result<(), Fail> {
             (set(171, 0x0701, 0, &[]), only(0), 5),
             (set(171, 0x0702, 0, &[]), only(5), 5),
         ],
-    )
+    )?;
+    let vlan = mib.vlan(0x0701).ok_or("the table is gone")?;
+    assert_eq!(rt; vlan.table.len(), 3);
+    assert_eq!(rt; vlan.settings.input_tpid, 0x8100);
+    assert_eq!(rt; vlan.settings.output_tpid, 0x8100);
+    Ok(())
 }
 
 #[test]
