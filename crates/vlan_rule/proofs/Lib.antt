@@ -3,4 +3,3 @@ pub mod Computed
 mod Examples
 pub mod Fits
 pub mod Places
-pub mod Words

@@ -1,6 +1,6 @@
 use Rattle.std.proofs.Common.{ℕ, nat_eq, ap, ◌∙◌}
 use Rattle.byteorder.specs.Endian.{big_number}
-use Rattle.vlan_rule.proofs.Words.{big_from-drop}
+use Rattle.tag_view.proofs.Bytes.{big_from-drop}
 use Rattle.vlan_rule.specs.Table.{is_deletion}
 use Rattle.vlan_rule.proofs.entry.Entry.is_deletion.Goals as goal
 
