@@ -1,4 +1,4 @@
-//! The action that a message asks for or answers (ITU-T G.988, clause 11.2.2).
+//! The action that a message asks for or answers (ITU-T G.988, clause 11.2).
 ghost use Rattle.std.specs.Prelude.{IsTrue};
 ghost use Rattle.omci_msg.specs.Code.{is_other_code};
 

@@ -9,7 +9,7 @@ pub enum MsgFault {
     /// There are neither 48 bytes nor 44, a message without its last four.
     #[error("message of {0} bytes, expected 48 or 44")]
     Length(usize),
-    /// The destination bit is 1 (bit 8 of the message type; ITU-T G.988, clause 11.2.2).
+    /// The destination bit is 1 (bit 8 of the message type; ITU-T G.988, clause 11.2).
     #[error("destination bit 1, expected 0")]
     Destination,
     /// The bit AK is 1, where a request is read: this is an answer.
@@ -18,7 +18,7 @@ pub enum MsgFault {
     /// The bit AR isn't 0 or the bit AK isn't 1, where a reply is read.
     #[error("acknowledgement request bit 1 or acknowledgement bit 0, expected 0 and 1 of a reply")]
     NotReply,
-    /// The device identifier isn't that of the baseline message set (clause 11.2.3).
+    /// The device identifier isn't that of the baseline message set (clause 11.2).
     #[error("device identifier {0}, expected 10")]
     Device(u8),
 }

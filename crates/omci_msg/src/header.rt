@@ -1,4 +1,4 @@
-//! The two bytes that every message has besides its numbers (ITU-T G.988, clauses 11.2.2, 11.2.3).
+//! The two bytes that every message has besides its numbers (ITU-T G.988, clause 11.2).
 
 /// The place of the destination bit in a message type, counted from the lowest.
 pub(crate) const DESTINATION_BIT: u8 = 7;
