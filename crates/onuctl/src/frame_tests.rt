@@ -1,81 +1,8 @@
 //! What becomes of frames, by the table and the mapper of their port.
 
-use crate::replay::replay;
-use crate::tests::{CREATED, PORT_257, messages, push_message};
-use std::alloc::{AllocError, Global};
+use crate::dialogue::Step::{Ask, Put, Send, SendAt};
+use crate::dialogue::answered;
 use std::test::Fail;
-
-/// A script and its answers.
-#[derive(Drop)]
-struct Dialogue {
-    script: String,
-    answers: String,
-}
-
-/// The addresses of each frame.
-const ADDRESSES: &str = "020000000001020000000002";
-
-impl Dialogue {
-    /// A mapper, an interworking point and a GEM port for port 257, and a table.
-    fn new(alloc: Global) -> Result<Dialogue, AllocError> {
-        let mut dialogue = Dialogue {
-            script: messages(alloc, "o ", &PORT_257)?,
-            answers: messages(
-                alloc,
-                "r ",
-                &[CREATED, "0002240a010a0501 00", "0003240a00820601 00"],
-            )?,
-        };
-        dialogue.ask("0004440a00ab0701 020101", "0004240a00ab0701 00")?;
-        Ok(dialogue)
-    }
-
-    fn ask(&mut self, message: &str, reply: &str) -> Result<(), AllocError> {
-        push_message(&mut self.script, "o ", message)?;
-        push_message(&mut self.answers, "r ", reply)
-    }
-
-    /// Puts an entry into the table.
-    fn put(&mut self, alloc: Global, entry: &str) -> Result<(), AllocError> {
-        let message = format!(in alloc; "0005480a00ab0701 0400 {entry}")?;
-        self.ask(message.as_str(), "0005280a00ab0701 00")
-    }
-
-    /// Sends a frame, and hears either what leaves or `d N`. Frames are given without their addresses.
-    fn send(
-        &mut self,
-        alloc: Global,
-        port: u16,
-        frame: &str,
-        answer: &str,
-    ) -> Result<(), AllocError> {
-        let digits = frame.replace(alloc, " ", "")?;
-        let line = format!(in alloc; "f {port} {ADDRESSES}{digits}\n")?;
-        self.script.push_str(line.as_str())?;
-        let line = if answer.starts_with("d ") {
-            format!(in alloc; "{answer}\n")?
-        } else {
-            let digits = answer.replace(alloc, " ", "")?;
-            format!(in alloc; "g 1024 {ADDRESSES}{digits}\n")?
-        };
-        self.answers.push_str(line.as_str())
-    }
-}
-
-/// What a line of a row is.
-#[derive(Clone, Copy)]
-enum Step<'s> {
-    /// A message, and the reply.
-    Ask(&'s str, &'s str),
-    /// An entry for the table, which takes it.
-    Put(&'s str),
-    /// A frame that comes in at port 257, and what becomes of it.
-    Send(&'s str, &'s str),
-    /// The same at another port.
-    SendAt(u16, &'s str, &'s str),
-}
-
-use Step::{Ask, Put, Send, SendAt};
 
 const UNTAGGED: &str = "08004500";
 
@@ -87,22 +14,8 @@ const PUSH_VLAN_100: &str = "f8000000f8000000 000f000000000324";
 
 const TRANSLATE_100_TO_200: &str = "f800000080320000 400f000000080644";
 
-/// What is written, and what is to be: the answers to the four messages of the port, and to the steps.
-fn answered(alloc: Global, steps: &[Step<'_>]) -> Result<(Vec<u8>, String), Fail> {
-    let mut dialogue = Dialogue::new(alloc)?;
-    for step in steps {
-        match *step {
-            Ask(message, reply) => dialogue.ask(message, reply)?,
-            Put(entry) => dialogue.put(alloc, entry)?,
-            Send(frame, answer) => dialogue.send(alloc, 257, frame, answer)?,
-            SendAt(port, frame, answer) => dialogue.send(alloc, port, frame, answer)?,
-        }
-    }
-    let mut written = Vec::new(alloc);
-    let mut reader = dialogue.script.as_bytes();
-    replay(alloc, &mut reader, &mut written)?;
-    Ok((written, dialogue.answers))
-}
+/// The answer to a Get of the table's size, in bytes.
+const TWO_ENTRIES: &str = "0006290a00ab0701 00 0400 00000020";
 
 #[test]
 fn frames_leave_with_the_tags_of_the_entry_that_is_used(rt: HostRuntime) -> Result<(), Fail> {
@@ -156,7 +69,9 @@ fn frames_leave_with_the_tags_of_the_entry_that_is_used(rt: HostRuntime) -> Resu
                 Send(DOUBLE, "d 4"),
                 Put("e0000000e0000000 ffffffffffffffff"),
                 Send(DOUBLE, "d 3"),
+                Ask("0006490a00ab0701 0400", TWO_ENTRIES),
                 Put("e0000000e0000000 ffffffffffffffff"),
+                Ask("0006490a00ab0701 0400", TWO_ENTRIES),
                 Send(DOUBLE, "d 3"),
             ][..],
         ),
@@ -258,5 +173,32 @@ fn frames_leave_by_the_pointer_of_their_priority(rt: HostRuntime) -> Result<(), 
         let (written, answers) = answered(alloc, steps)?;
         assert_eq!(rt; written.as_slice(), answers.as_bytes(), "{what}");
     }
+    Ok(())
+}
+
+#[test]
+fn the_least_table_and_mapper_of_a_port_count_and_a_table_made_again_is_new(
+    rt: HostRuntime,
+) -> Result<(), Fail> {
+    let tagged = "81000064 08004500";
+    let null_mapper = "0008440a00820600 0101 ffffffffffffffff ffffffffffffffff 010001";
+    let steps = [
+        Put(PUSH_VLAN_100),
+        Send(UNTAGGED, tagged),
+        Ask("0006440a00ab0700 020101", "0006240a00ab0700 00"),
+        Send(UNTAGGED, UNTAGGED),
+        Ask("0007460a00ab0700", "0007260a00ab0700 00"),
+        Send(UNTAGGED, tagged),
+        Ask(null_mapper, "0008240a00820600 00"),
+        Send(UNTAGGED, "d 6"),
+        Ask("0009460a00820600", "0009260a00820600 00"),
+        Send(UNTAGGED, tagged),
+        Ask("000a460a00ab0701", "000a260a00ab0701 00"),
+        Send(UNTAGGED, UNTAGGED),
+        Ask("000b440a00ab0701 020101", "000b240a00ab0701 00"),
+        Send(UNTAGGED, UNTAGGED),
+    ];
+    let (written, answers) = answered(rt.alloc(), &steps)?;
+    assert_eq!(rt; written.as_slice(), answers.as_bytes());
     Ok(())
 }

@@ -38,6 +38,10 @@ fn main(rt: HostRuntime) -> ExitCode {
 }
 
 #[cfg(test)]
+mod dialogue;
+#[cfg(test)]
 mod frame_tests;
+#[cfg(test)]
+mod message_tests;
 #[cfg(test)]
 mod tests;
