@@ -6,8 +6,8 @@ use Rattle.omci_msg.specs.declared.Request.{Request}
 use Rattle.omci_msg.specs.declared.Action.{Action}
 use Rattle.omci_msg.specs.declared.Action.TheVariants.{Create, Delete}
 use Rattle.mib_state.specs.Entities.{Entities, nothing}
-use Rattle.mib_state.specs.Answer.{padded}
-use Rattle.mib_state.specs.Step.{step, create, create_in, delete, delete_in}
+use Rattle.managed_entity.specs.Answer.{padded}
+use Rattle.mib_state.specs.Step.{left, create, create_in, delete, delete_in}
 use Rattle.forward_plan.specs.declared.reason.Reason.TheVariants.{Runt, CutTag, NoMapper, NullPointer, NoInterwork, NoGem, Direction}
 use Rattle.forward_plan.specs.declared.verdict.Verdict.{Verdict}
 use Rattle.forward_plan.specs.declared.verdict.Verdict.TheVariants.{Forward, Drop}
@@ -22,7 +22,7 @@ request action class instance contents =
 
 -- the entities after one more request
 abbrev and_then : Entities → Request → Entities
-and_then e q = (step e q).1
+and_then e q = left q.action e q
 
 -- GEM port network CTP 0x0401 of port-ID 1024, with a direction
 abbrev gem_port : ℕ → Request

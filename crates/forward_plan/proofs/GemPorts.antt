@@ -6,8 +6,9 @@ use Rattle.tag_view.specs.Tag.{TagFields}
 use Rattle.pmapper.specs.declared.mapper.Mapper.{Mapper}
 use Rattle.pmapper.specs.declared.interwork.Interwork.{Interwork}
 use Rattle.pmapper.specs.declared.gem_port.GemPort.{GemPort}
-use Rattle.mib_state.specs.Entities.{Entities, Instance, find}
-use Rattle.mib_state.specs.Shown.{mapper_instance, interwork_instance, gem_port_instance}
+use Rattle.mib_state.specs.Entities.{Entities, find}
+use Rattle.managed_entity.specs.Instance.{Instance}
+use Rattle.managed_entity.specs.Shown.{mapper_instance, interwork_instance, gem_port_instance}
 use Rattle.forward_plan.specs.declared.reason.Reason.{Reason}
 use Rattle.forward_plan.specs.declared.reason.Reason.TheVariants.{Direction}
 use Rattle.pmapper.specs.Mapper.{pointer_of, priority_of, unmarked_of}

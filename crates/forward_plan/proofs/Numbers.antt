@@ -1,13 +1,13 @@
 -- The numbers that attributes spell, as the fields that code keeps them in.
-use Rattle.std.proofs.Common.{◌≡◌, ℕ, zero, suc, ◌+◌, ◌/◌, ◌%◌, ◌^◌, ◌<◌, ◌==◌, Bool, true, false, [], ◌∷◌, Option, Some, None, arith, refl, ap, sym, ◌∙◌}
+use Rattle.std.proofs.Common.{◌≡◌, ℕ, zero, suc, ◌/◌, ◌%◌, ◌^◌, ◌<◌, ◌==◌, Bool, true, false, [], ◌∷◌, Option, Some, None, arith, refl, ap, sym, ◌∙◌}
 use Rattle.std.proofs.lemmas.Bool.{eqb-true}
 use Rattle.std.proofs.lemmas.Option.{none-some}
 use Rattle.std.specs.Prelude.{slice_index}
 use Rattle.pmapper.specs.declared.mapper.Mapper.{Mapper}
 use Rattle.pmapper.specs.declared.interwork.Interwork.{Interwork}
 use Rattle.pmapper.specs.declared.gem_port.GemPort.{GemPort}
-use Rattle.mib_state.specs.Entities.{attribute_number, number_of}
-use Rattle.mib_state.specs.Shown.{mapper_instance, interwork_instance, gem_port_instance}
+use Rattle.managed_entity.specs.Instance.{attribute_number, number_of}
+use Rattle.managed_entity.specs.Shown.{mapper_instance, interwork_instance, gem_port_instance}
 use Rattle.pmapper.specs.Mapper.{pointer_of, unmarked_of}
 use Rattle.forward_plan.specs.Meaning.{pointers_at, unmarked_at}
 

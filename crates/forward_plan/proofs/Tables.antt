@@ -4,10 +4,11 @@ use Rattle.tag_view.specs.Tag.{TagFields}
 use Rattle.tag_view.specs.Dscp.{dscp_of}
 use Rattle.tag_view.specs.Frame.{Reading}
 use Rattle.treatment.specs.Treatment.{treated}
-use Rattle.mib_state.specs.declared.vlan.VlanConfig.{VlanConfig}
-use Rattle.mib_state.specs.Entities.{Entities, Instance, find}
+use Rattle.managed_entity.specs.declared.vlan.VlanConfig.{VlanConfig}
+use Rattle.mib_state.specs.Entities.{Entities, find}
+use Rattle.managed_entity.specs.Instance.{Instance}
 use Rattle.mib_state.specs.Attached.{table_of_port}
-use Rattle.mib_state.specs.Shown.{vlan_instance}
+use Rattle.managed_entity.specs.Shown.{vlan_instance}
 use Rattle.forward_plan.specs.declared.reason.Reason.TheVariants.{NoRule, RuleDiscard}
 use Rattle.forward_plan.specs.Meaning.{Table, entry_for, table_at, table_of, tags_by}
 use Rattle.forward_plan.proofs.Numbers.{two_bytes}

@@ -10,7 +10,8 @@ use Rattle.vlan_rule.specs.declared.settings.TableSettings.{TableSettings}
 use Rattle.vlan_rule.specs.Choice.{choice, entry_at, matches}
 use Rattle.treatment.specs.Treatment.{treated}
 use Rattle.pmapper.specs.Mapper.{Unmarked, pointer_of, priority_of}
-use Rattle.mib_state.specs.Entities.{Entities, Instance, find, attribute_bytes, attribute_number}
+use Rattle.mib_state.specs.Entities.{Entities, find}
+use Rattle.managed_entity.specs.Instance.{Instance, attribute_bytes, attribute_number}
 use Rattle.mib_state.specs.Attached.{mapper_of_port, table_of_port}
 use Rattle.forward_plan.specs.declared.reason.Reason.{Reason}
 use Rattle.forward_plan.specs.declared.reason.Reason.TheVariants.{NoRule, RuleDiscard, NoMapper, NullPointer, NoInterwork, NoGem, Direction}

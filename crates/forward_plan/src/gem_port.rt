@@ -1,6 +1,6 @@
 //! The GEM port of a frame: the entities that the port of the frame leads to (ITU-T G.988, clauses 9.3.10, 9.2.4 and 9.2.3).
 ghost use Rattle.std.specs.Prelude.{◌≡◌, ◌<◌, ℕ, IfSome, MatchOption};
-ghost use Rattle.mib_state.specs.Shown.{mapper_instance, interwork_instance, gem_port_instance};
+ghost use Rattle.managed_entity.specs.Shown.{mapper_instance, interwork_instance, gem_port_instance};
 ghost use Rattle.pmapper.specs.Mapper.{pointer_of};
 ghost use Rattle.forward_plan.specs.Meaning.{mapper_at, pointers_at, carries_upstream, port_id_of, gem_port_behind, gem_port_of, gem_port_at};
 
@@ -12,7 +12,7 @@ use tag_view::Tag;
 /// The mapper of a port.
 #[tactic(auto, unfolding(crate::specs::Meaning::mapper_at))]
 fn mapper_at(mib: &Mib, port: u16) -> Option<&Mapper>
-    ensures { MatchOption result (mapper_at mib.now port ≡ None) (λ mapper. (n : ℕ) × (mapper_at mib.now port ≡ Some (mapper_instance n mapper.now))) }
+    ensures { MatchOption result (mapper_at mib.now.entities port ≡ None) (λ mapper. (n : ℕ) × (mapper_at mib.now.entities port ≡ Some (mapper_instance n mapper.now))) }
 {
     mib.mapper(mib.mapper_of_port(port)?)
 }
@@ -46,7 +46,7 @@ fn port_id_of(gem: &GemPort) -> Result<u16, Reason>
 /// The GEM port of the frames that come to a GEM interworking termination point.
 #[tactic(auto, unfolding(crate::specs::Meaning::gem_port_behind))]
 fn gem_port_behind(mib: &Mib, point: &Interwork) -> Result<u16, Reason>
-    ensures { (n : ℕ) → result ≡ gem_port_behind mib.now (interwork_instance n point.now) }
+    ensures { (n : ℕ) → result ≡ gem_port_behind mib.now.entities (interwork_instance n point.now) }
 {
     let gem = mib.gem_port(point.gem_port_pointer).ok_or(Reason::NoGem)?;
     port_id_of(gem)
@@ -56,7 +56,7 @@ fn gem_port_behind(mib: &Mib, point: &Interwork) -> Result<u16, Reason>
 #[tactic(auto, unfolding(crate::specs::Meaning::gem_port_of))]
 fn gem_port_of(mib: &Mib, mapper: &Mapper, priority: u8) -> Result<u16, Reason>
     requires { priority < 8 }
-    ensures { (n : ℕ) → result ≡ gem_port_of mib.now (mapper_instance n mapper.now) priority }
+    ensures { (n : ℕ) → result ≡ gem_port_of mib.now.entities (mapper_instance n mapper.now) priority }
 {
     let pointer = pointer_of(mapper, priority).ok_or(Reason::NullPointer)?;
     let point = mib.interwork(pointer).ok_or(Reason::NoInterwork)?;
@@ -67,7 +67,7 @@ fn gem_port_of(mib: &Mib, mapper: &Mapper, priority: u8) -> Result<u16, Reason>
 #[tactic(auto, unfolding(crate::specs::Meaning::gem_port_at))]
 pub fn gem_port_at(mib: &Mib, port: u16, tags: &[Tag], dscp: Option<u8>) -> Result<u16, Reason>
     requires { IfSome dscp (λ dscp. dscp < 64) }
-    ensures { result ≡ gem_port_at mib.now port tags.now dscp }
+    ensures { result ≡ gem_port_at mib.now.entities port tags.now dscp }
 {
     let mapper = mapper_at(mib, port).ok_or(Reason::NoMapper)?;
     gem_port_of(mib, mapper, priority(mapper, tags, dscp))

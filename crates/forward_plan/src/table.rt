@@ -31,7 +31,7 @@ impl<'m> Model for PortTable<'m> {
 impl<'m> PortTable<'m> {
     ghost use Rattle.std.specs.Prelude.{◌≡◌, ◌≤◌, ℕ, List, Some, None, Ok, Err, IfOk, IfErr, MatchOption, length};
     ghost use Rattle.vlan_rule.specs.Rule.{IsRuleOf};
-    ghost use Rattle.mib_state.specs.Shown.{vlan_instance};
+    ghost use Rattle.managed_entity.specs.Shown.{vlan_instance};
     ghost use Rattle.forward_plan.specs.Meaning.{entry_for, table_at, table_of, tags_by};
 
     /// The table of an extended VLAN tagging operation configuration data.
@@ -48,7 +48,7 @@ impl<'m> PortTable<'m> {
     /// The table of a port, if it has one.
     #[tactic(auto, using(crate::proofs::Tables::at_none, crate::proofs::Tables::at_absent))]
     pub fn at(mib: &'m Mib, port: u16) -> Option<Self>
-        ensures { result ≡ table_at mib.now port }
+        ensures { result ≡ table_at mib.now.entities port }
     {
         let instance = mib.table_of_port(port)?;
         let vlan = mib.vlan(instance)?;

@@ -14,7 +14,7 @@ use tag_view::view;
 /// The GEM port by which a frame that comes in at a port leaves, and the frame that leaves, or the first reason to drop it.
 #[tactic(auto, unfolding(crate::specs::Meaning::forwarded_by), using(crate::proofs::Spellings::grows_little))]
 fn forwarded_by<'a>(mib: &Mib, port: u16, bytes: &'a [u8]) -> Result<(u16, OutFrame<'a>), Reason>
-    ensures found { result ≡ forwarded_by mib.now port bytes.now }
+    ensures found { result ≡ forwarded_by mib.now.entities port bytes.now }
     ensures size { IfOk result (λ found. GrowsLittle bytes.now found.1) }
 {
     let table = PortTable::at(mib, port);
@@ -28,7 +28,7 @@ fn forwarded_by<'a>(mib: &Mib, port: u16, bytes: &'a [u8]) -> Result<(u16, OutFr
 /// and the verdict borrows the frame alone.
 #[tactic(auto, unfolding(crate::specs::Meaning::meaning))]
 pub fn plain_walk<'a>(mib: &Mib, port: u16, bytes: &'a [u8]) -> Verdict<'a>
-    ensures verdict { result ≡ meaning mib.now port bytes.now }
+    ensures verdict { result ≡ meaning mib.now.entities port bytes.now }
     ensures size { LeavesLittleMore bytes.now result }
 {
     match forwarded_by(mib, port, bytes) {

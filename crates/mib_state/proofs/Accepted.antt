@@ -1,21 +1,22 @@
--- A request that isn't accepted leaves the entities.
+-- A request that isn't accepted leaves the entities, and the latched table has no part in it.
 use Rattle.std.proofs.Common.{◌≡◌, [], ◌∷◌, List, refl, true, false, cond, ap, sym, ◌∙◌, nat_eq, Result, Ok, Err}
 use Rattle.std.specs.Prelude.{◌&&◌, slice_index}
 use mathlib.Core.Bool.{false≢true}
 use Rattle.omci_msg.specs.declared.Request.{Request}
 use Rattle.omci_msg.specs.declared.Action.{Action}
 use Rattle.omci_msg.specs.declared.Action.TheVariants.{Create, Delete, Set, Get, GetNext, MibUpload, MibUploadNext, MibReset, Other}
-use Rattle.mib_state.specs.declared.refusal.Refusal.{Refusal}
-use Rattle.mib_state.specs.Answer.{left_by, told}
-use Rattle.mib_state.specs.Entities.{Entities, nothing}
+use Rattle.managed_entity.specs.declared.refusal.Refusal.{Refusal}
+use Rattle.managed_entity.specs.Answer.{left_by, told}
+use Rattle.mib_state.specs.Entities.{Entities, State, nothing, unlatched}
 use Rattle.mib_state.specs.Step.{create, delete, set, done, answered, left, step}
-use Rattle.mib_state.specs.After.{may_change, is_accepted, after_from, accepted_from, AcceptedSuffice}
+use Rattle.mib_state.specs.After.{may_change, is_accepted, after_from, accepted_from, state_from, AcceptedSuffice, LatchIsNoEntity}
 
 changed_refused : {A : Type 0} (e : A) (r : Result A Refusal) → nat_eq (slice_index (told (done r)) 0) 0 ≡ false → left_by e r ≡ e
 changed_refused e (Ok now) h = absurd (false≢true (sym h))
 changed_refused e (Err refusal) h = refl
 
-action_refused : (a : Action) (e : Entities) (q : Request) → (may_change a && nat_eq (slice_index (told (answered a e q)) 0) 0) ≡ false → left a e q ≡ e
+action_refused : (a : Action) (e : Entities) (q : Request)
+    → (may_change a && nat_eq (slice_index (told (answered a (unlatched e) q)) 0) 0) ≡ false → left a e q ≡ e
 action_refused Create e q h = changed_refused e (create e q) h
 action_refused Delete e q h = changed_refused e (delete e q) h
 action_refused Set e q h = changed_refused e (set e q) h
@@ -26,14 +27,14 @@ action_refused MibUploadNext e q h = refl
 action_refused MibReset e q h = absurd (false≢true (sym h))
 action_refused (Other code) e q h = refl
 
-left_by_refused : (e : Entities) (q : Request) → is_accepted e q ≡ false → (step e q).1 ≡ e
+left_by_refused : (e : Entities) (q : Request) → is_accepted e q ≡ false → left q.action e q ≡ e
 left_by_refused e q h = action_refused q.action e q h
 
 -- a request that isn't accepted can be left out anywhere
 suffices : (e : Entities) (qs : List Request) → after_from e (accepted_from e qs) ≡ after_from e qs
 suffices e [] = refl
 suffices e (q ∷ qs) =
-    let now : Entities = (step e q).1 in
+    let now : Entities = left q.action e q in
     let later = suffices now qs in
     elim (is_accepted e q) as (λ b. is_accepted e q ≡ b → after_from e (cond b (q ∷ accepted_from now qs) (accepted_from now qs)) ≡ after_from now qs) [
       | true ↦ λ h. later
@@ -42,3 +43,24 @@ suffices e (q ∷ qs) =
 
 pub accepted_suffice : AcceptedSuffice
 accepted_suffice qs = suffices nothing qs
+
+-- ---- the latched table
+
+entities_left : (s : State) (qs : List Request) → (state_from s qs).entities ≡ after_from s.entities qs
+entities_left s [] = refl
+entities_left s (q ∷ qs) = entities_left (step s q).1 qs
+
+action_succeeds : (a : Action) (s : State) (q : Request)
+    → (may_change a && nat_eq (slice_index (told (answered a s q)) 0) 0) ≡ (may_change a && nat_eq (slice_index (told (answered a (unlatched s.entities) q)) 0) 0)
+action_succeeds Create s q = refl
+action_succeeds Delete s q = refl
+action_succeeds Set s q = refl
+action_succeeds Get s q = refl
+action_succeeds GetNext s q = refl
+action_succeeds MibUpload s q = refl
+action_succeeds MibUploadNext s q = refl
+action_succeeds MibReset s q = refl
+action_succeeds (Other code) s q = refl
+
+pub latch_is_no_entity : LatchIsNoEntity
+latch_is_no_entity = record { left = entities_left; accepted = λ s q. action_succeeds q.action s q }

@@ -2,7 +2,8 @@
 use Rattle.std.proofs.Common.{◌≡◌, ℕ, zero, suc, ◌+◌, ◌<◌, ◌≤◌, Bool, true, false, List, [], ◌∷◌, length, get_or, drop, map, Option, Some, None, refl, ap, ◌∙◌, arith, add-one}
 use Rattle.std.specs.Prelude.{if◌then◌else◌, filter, min}
 use Rattle.std.specs.Option.{option_map_or}
-use Rattle.mib_state.specs.Entities.{Instance, number_at, IsAscending}
+use Rattle.managed_entity.specs.Instance.{Instance}
+use Rattle.mib_state.specs.Entities.{number_at, IsAscending}
 use Rattle.mib_state.specs.Attached.{least_of, least_instance}
 use Rattle.mib_state.proofs.Place.{tail_ascending}
 

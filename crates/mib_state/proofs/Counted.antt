@@ -1,9 +1,10 @@
 -- What a change of one class leaves of the entities.
 use Rattle.std.proofs.Common.{◌≡◌, ℕ, List, true, false, nat_eq, Result, Ok, Err, is_ok, [], ◌∷◌, refl}
 use mathlib.Core.Bool.{false≢true}
-use Rattle.mib_state.specs.declared.refusal.Refusal.{Refusal}
-use Rattle.mib_state.specs.Entities.{Entities, Instance, onu_data, sync_of, instances_of, with_instances}
-use Rattle.mib_state.specs.Answer.{outcome_of, left_by}
+use Rattle.managed_entity.specs.declared.refusal.Refusal.{Refusal}
+use Rattle.mib_state.specs.Entities.{Entities, onu_data, sync_of, instances_of, with_instances}
+use Rattle.managed_entity.specs.Instance.{Instance}
+use Rattle.managed_entity.specs.Answer.{outcome_of, left_by}
 use Rattle.mib_state.specs.Step.{counted, next_sync}
 
 pub outcome_of_counted : (e : Entities) (class : ℕ) (r : Result (List Instance) Refusal) → outcome_of (counted e class r) ≡ outcome_of r

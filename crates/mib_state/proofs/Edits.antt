@@ -4,10 +4,12 @@ use Rattle.std.specs.List as list
 use Rattle.std.proofs.lemmas.Bool.{ne_eqb, eq-eqb, le-leb, lt-leb}
 use mathlib.Core.Bool.{false≢true}
 use Rattle.std.proofs.lemmas.List.{get_or-map, length-map}
-use Rattle.mib_state.specs.declared.attribute.Attribute.{Attribute}
-use Rattle.mib_state.specs.declared.refusal.Refusal.TheVariants.{ProcessingError, UnknownInstance, InstanceExists}
-use Rattle.mib_state.specs.Entities.{blank, Instance, find, IsAscending, IsAt, IsGapFor}
-use Rattle.mib_state.specs.Step.{created, create_in, delete_in}
+use Rattle.managed_entity.specs.declared.attribute.Attribute.{Attribute}
+use Rattle.managed_entity.specs.declared.refusal.Refusal.TheVariants.{ProcessingError, UnknownInstance, InstanceExists}
+use Rattle.mib_state.specs.Entities.{blank, find, IsAscending, IsAt, IsGapFor}
+use Rattle.managed_entity.specs.Instance.{Instance}
+use Rattle.managed_entity.specs.Write.{created}
+use Rattle.mib_state.specs.Step.{create_in, delete_in}
 use Rattle.mib_state.proofs.Place.{find_at, find_gap, insert_gap, remove_at}
 
 pub delete_found : (n : ℕ) (l : List Instance) (i : ℕ) → IsAscending l → IsAt l n i → delete_in n l ≡ Ok (list.remove l i)

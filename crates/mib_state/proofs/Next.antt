@@ -1,7 +1,8 @@
 -- The least number that isn't under another is that at the place of a search.
 use Rattle.std.proofs.Common.{◌≡◌, ℕ, zero, suc, ◌<◌, ◌≤◌, List, [], ◌∷◌, length, get_or, map, Some, None, refl, ap, arith}
 use Rattle.std.proofs.lemmas.Bool.{le-leb, lt-leb}
-use Rattle.mib_state.specs.Entities.{Instance, next, number_at, IsAscending, IsAt, IsGapFor}
+use Rattle.managed_entity.specs.Instance.{Instance}
+use Rattle.mib_state.specs.Entities.{next, IsAscending, IsAt, IsGapFor}
 use Rattle.mib_state.proofs.Place.{tail_at, tail_gap, tail_ascending, head_smaller}
 
 pub next_at : (l : List Instance) (n i : ℕ) → IsAscending l → IsAt l n i → next n l ≡ Some n
@@ -28,10 +29,3 @@ next_past (x ∷ l) n zero gap past = absurd (omega arith)
 next_past (x ∷ l) n (suc i) gap past =
     let smaller : x.number < n = gap.smaller_before zero (omega arith) in
     rw (lt-leb n x.number smaller) (next_past l n i (tail_gap x l n i gap) (omega arith))
-
--- the numbers of rows are those of two bytes
-pub numbers_fit : {R : Type 0} (number : R → ℕ) (fits : (row : R) → number row < 65536) (shown : R → Instance) (same : (row : R) → (shown row).number ≡ number row)
-    (rows : List R) (i : ℕ) → i < length (map shown rows) → number_at (map shown rows) i < 65536
-numbers_fit number fits shown same [] i h = absurd (omega arith)
-numbers_fit number fits shown same (x ∷ rows) zero h = rw (same x) (fits x)
-numbers_fit number fits shown same (x ∷ rows) (suc i) h = numbers_fit number fits shown same rows i (omega arith)

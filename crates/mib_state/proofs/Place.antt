@@ -10,7 +10,8 @@ use Rattle.std.proofs.lemmas.List.{get_or-map, length-map}
 use Rattle.std.proofs.lemmas.Bool.{lt-ltb, le-ltb, ne_eqb, eq-eqb}
 use Rattle.std.proofs.lemmas.Bool.Decides.{nat_tests}
 use Rattle.std.proofs.lemmas.Grind.{common_steps}
-use Rattle.mib_state.specs.Entities.{blank, Instance, find, insert, remove, replace, number_at, IsAscending, IsAt, IsGapFor}
+use Rattle.mib_state.specs.Entities.{blank, find, insert, remove, replace, number_at, IsAscending, IsAt, IsGapFor}
+use Rattle.managed_entity.specs.Instance.{Instance}
 
 -- ---- the tail, one place lower
 

@@ -1,10 +1,12 @@
 -- A Set of ONU data writes the sync.
 use Rattle.std.proofs.Common.{◌≡◌, ℕ, List, [], ◌∷◌, Result, Ok, Err, is_ok, true, refl, sym, ap, subst, ◌∙◌}
-use Rattle.mib_state.specs.declared.attribute.Attribute.{Attribute}
-use Rattle.mib_state.specs.declared.refusal.Refusal.{Refusal}
-use Rattle.mib_state.specs.Entities.{Instance, onu_data, sync_of}
-use Rattle.mib_state.specs.Answer.{left_by}
-use Rattle.mib_state.specs.Step.{replaced, set_in, set_instance}
+use Rattle.managed_entity.specs.declared.attribute.Attribute.{Attribute}
+use Rattle.managed_entity.specs.declared.refusal.Refusal.{Refusal}
+use Rattle.managed_entity.specs.Instance.{Instance}
+use Rattle.mib_state.specs.Entities.{onu_data, sync_of}
+use Rattle.managed_entity.specs.Answer.{left_by}
+use Rattle.mib_state.specs.Step.{replaced, set_in}
+use Rattle.managed_entity.specs.Set.{set_instance}
 use Rattle.mib_state.proofs.Setting.{is_ok_replaced}
 
 sync_left : (old new : ℕ) (r : Result Instance Refusal) → onu_data new ≡ left_by (onu_data old) r

@@ -3,14 +3,14 @@ use Rattle.std.specs.Prelude.{◌≡◌, Bool, true, false, ◌&&◌, ◌==◌, 
 use Rattle.omci_msg.specs.declared.Request.{Request}
 use Rattle.omci_msg.specs.declared.Action.{Action}
 use Rattle.omci_msg.specs.declared.Action.TheVariants.{Create, Delete, Set, Get, GetNext, MibUpload, MibUploadNext, MibReset, Other}
-use Rattle.mib_state.specs.Answer.{success_code}
-use Rattle.mib_state.specs.Entities.{Entities, nothing}
-use Rattle.mib_state.specs.Step.{result_of, step}
+use Rattle.managed_entity.specs.Answer.{success_code}
+use Rattle.mib_state.specs.Entities.{Entities, State, nothing, unlatched}
+use Rattle.mib_state.specs.Step.{left, result_of, step}
 
 -- the entities after each request in turn
 abbrev pub after_from : Entities → List Request → Entities
 after_from e [] = e
-after_from e (q ∷ rest) = after_from (step e q).1 rest
+after_from e (q ∷ rest) = after_from (left q.action e q) rest
 
 -- the same, from no instance and sync 0
 abbrev pub after : List Request → Entities
@@ -28,18 +28,35 @@ may_change MibUploadNext = false
 may_change MibReset = true
 may_change (Other code) = false
 
--- a request is accepted where it may change the entities and its result is success
+-- a step succeeds where it may change the entities and its result is success
+abbrev pub succeeds : State → Request → Bool
+succeeds s q = may_change q.action && result_of (step s q).0 == success_code
+
+-- a request is accepted where its step succeeds; whether it does is the same whatever is latched
 abbrev pub is_accepted : Entities → Request → Bool
-is_accepted e q = may_change q.action && result_of (step e q).0 == success_code
+is_accepted e q = succeeds (unlatched e) q
 
 -- the requests of a list that are accepted, each where it comes
 abbrev pub accepted_from : Entities → List Request → List Request
 accepted_from e [] = []
-accepted_from e (q ∷ rest) = if is_accepted e q then q ∷ accepted_from (step e q).1 rest else accepted_from (step e q).1 rest
+accepted_from e (q ∷ rest) =
+    if is_accepted e q then q ∷ accepted_from (left q.action e q) rest else accepted_from (left q.action e q) rest
 
 abbrev pub accepted : List Request → List Request
 accepted requests = accepted_from nothing requests
 
+-- ---- laws
+
 -- the entities after a list of requests are those after its accepted requests alone
 abbrev pub AcceptedSuffice : Type 0
 AcceptedSuffice = (requests : List Request) → after (accepted requests) ≡ after requests
+
+-- the state after each step in turn
+abbrev pub state_from : State → List Request → State
+state_from s [] = s
+state_from s (q ∷ rest) = state_from (step s q).1 rest
+
+-- the latched table is no entity: neither the entities that steps leave nor which requests are accepted depend on it
+pub record LatchIsNoEntity : Type 0 where
+  pub left : (s : State) (requests : List Request) → (state_from s requests).entities ≡ after_from s.entities requests
+  pub accepted : (s : State) (q : Request) → succeeds s q ≡ is_accepted s.entities q

@@ -1,7 +1,8 @@
 -- What is attached to a port (ITU-T G.988, clauses 9.3.10 and 9.3.13).
 use Rattle.std.specs.Prelude.{ℕ, Bool, ◌&&◌, ◌==◌, List, [], ◌∷◌, Option, Some, None, filter, map, min}
-use Rattle.std.specs.Option.{option_map_or}
-use Rattle.mib_state.specs.Entities.{Entities, Instance, attribute_number}
+use Rattle.std.specs.Option.{option_map_or, option_or}
+use Rattle.managed_entity.specs.Instance.{Instance, attribute_number}
+use Rattle.mib_state.specs.Entities.{Entities}
 
 -- the least of some numbers
 abbrev pub least_of : List ℕ → Option ℕ
@@ -12,19 +13,24 @@ least_of (n ∷ rest) = Some (option_map_or (min n) (least_of rest) n)
 abbrev pub least_instance : (Instance → Bool) → List Instance → Option ℕ
 least_instance test instances = least_of (map (λ i. i.number) (filter test instances))
 
--- whether a mapper is a port's: its TP type, attribute 13, is 1, and its TP pointer, attribute 1, is the port
-abbrev pub is_mapper_of : ℕ → Instance → Bool
-is_mapper_of port i = attribute_number 13 i == 1 && attribute_number 1 i == port
+-- whether a mapper is one of a thing: by its TP type, attribute 13, and its TP pointer, attribute 1
+abbrev pub is_mapper_of : ℕ → ℕ → Instance → Bool
+is_mapper_of tp_type pointer i = attribute_number 13 i == tp_type && attribute_number 1 i == pointer
 
--- the mapper of a port: of its mappers the one of least number
+-- the mapper of a port: of those whose TP type is 1, a PPTP Ethernet UNI, and that point to it the one of least number
 abbrev pub mapper_of_port : Entities → ℕ → Option ℕ
-mapper_of_port e port = least_instance (is_mapper_of port) e.mappers
+mapper_of_port e port = least_instance (is_mapper_of 1 port) e.mappers
 
--- whether a table is a port's: its association type, attribute 1, is 2, a PPTP Ethernet UNI, and its associated ME
--- pointer, attribute 7, is the port
-abbrev pub is_table_of : ℕ → Instance → Bool
-is_table_of port i = attribute_number 1 i == 2 && attribute_number 7 i == port
+-- whether a table is one of a thing: by its association type, attribute 1, and its associated ME pointer, attribute 7
+abbrev pub is_table_of : ℕ → ℕ → Instance → Bool
+is_table_of association pointer i = attribute_number 1 i == association && attribute_number 7 i == pointer
 
--- the table of a port: of its tables the one of least number
+-- the table of a mapper: of those whose association type is 1, a mapper, and that point to it the one of least number
+abbrev pub table_of_mapper : Entities → Option ℕ → Option ℕ
+table_of_mapper e None = None
+table_of_mapper e (Some mapper) = least_instance (is_table_of 1 mapper) e.vlans
+
+-- the table of a port: of those whose association type is 2, a PPTP Ethernet UNI, and that point to it the one of least
+-- number; where there is none, that of its mapper
 abbrev pub table_of_port : Entities → ℕ → Option ℕ
-table_of_port e port = least_instance (is_table_of port) e.vlans
+table_of_port e port = option_or (least_instance (is_table_of 2 port) e.vlans) (table_of_mapper e (mapper_of_port e port))

@@ -1,15 +1,6 @@
--- The managed entities as one value.
-use Rattle.std.specs.Prelude.{ℕ, zero, suc, ◌-◌, ◌<◌, ◌≤◌, ◌≡◌, ◌==◌, nat_lt, nat_le, List, [], ◌∷◌, Option, Some, None, if◌then◌else◌, length, slice_get, slice_index, slice_index_or}
-use Rattle.byteorder.specs.Endian.{big_number}
-use Rattle.mib_state.specs.declared.attribute.Attribute.{Attribute}
-use Rattle.mib_state.specs.Class.{table_at}
-
--- one instance of a class: its number, the bytes of each attribute in ascending order, none of the table, and the
--- table's entries
-pub record Instance : Type 0 where
-  pub number : ℕ
-  pub values : List (List ℕ)
-  pub entries : List (List ℕ)
+-- The managed entities as one value, and the table that is latched beside them.
+use Rattle.std.specs.Prelude.{ℕ, ◌<◌, ◌≤◌, ◌≡◌, ◌==◌, nat_lt, nat_le, List, [], ◌∷◌, Option, Some, None, if◌then◌else◌, length, slice_index, slice_index_or}
+use Rattle.managed_entity.specs.Instance.{Instance}
 
 -- the MIB data sync, and the instances of each class by ascending number; together they are the map from class and
 -- instance to attributes
@@ -23,6 +14,21 @@ pub record Entities : Type 0 where
 -- no instance, and sync 0
 abbrev pub nothing : Entities
 nothing = record { sync = 0; mappers = []; vlans = []; interworks = []; gem_ports = [] }
+
+-- the table that a Get latched: the number of its instance of class 171, and its entries of that moment, one after another
+-- as bytes
+pub record Latched : Type 0 where
+  pub instance : ℕ
+  pub bytes : List ℕ
+
+-- the managed entities and, beside them, the latched table, which is no entity
+pub record State : Type 0 where
+  pub entities : Entities
+  pub latch : Option Latched
+
+-- entities beside which no table is latched
+abbrev pub unlatched : Entities → State
+unlatched e = record { entities = e; latch = None }
 
 -- ONU data has one instance, number 0, whose one attribute is the sync
 abbrev pub onu_data : ℕ → Instance
@@ -50,10 +56,6 @@ with_instances e class instances =
     else (if class == 171 then record e { vlans = instances }
     else (if class == 266 then record e { interworks = instances }
     else (if class == 268 then record e { gem_ports = instances } else e))))
-
--- an instance by its parts
-abbrev pub shown_as : ℕ → List (List ℕ) → List (List ℕ) → Instance
-shown_as n values entries = record { number = n; values = values; entries = entries }
 
 -- ---- the instances of one class
 
@@ -103,27 +105,3 @@ pub record IsGapFor (l : List Instance) (n i : ℕ) : Type 0 where
   pub in_range : i ≤ length l
   pub smaller_before : (j : ℕ) → j < i → number_at l j < n
   pub greater_after : (j : ℕ) → i ≤ j → j < length l → n < number_at l j
-
--- ---- the attributes of an instance
-
--- the bytes of the attribute at a place; None for what isn't there and for the table
-abbrev pub value_at : List Attribute → ℕ → Option Instance → Option (List ℕ)
-value_at layout place None = None
-value_at layout place (Some i) = if table_at layout place then None else slice_get i.values place
-
--- the bytes of attribute n, numbered from 1
-abbrev pub attribute_of : List Attribute → ℕ → Option Instance → Option (List ℕ)
-attribute_of layout zero i = None
-attribute_of layout (suc place) i = value_at layout place i
-
--- the number that bytes spell, the highest first
-abbrev pub number_of : List ℕ → ℕ
-number_of bytes = big_number (length bytes) bytes
-
--- the bytes of attribute n of an instance, numbered from 1
-abbrev pub attribute_bytes : ℕ → Instance → List ℕ
-attribute_bytes n i = slice_index_or i.values (n - 1) []
-
--- the number that attribute n spells
-abbrev pub attribute_number : ℕ → Instance → ℕ
-attribute_number n i = number_of (attribute_bytes n i)

@@ -1,18 +1,17 @@
 //! The instances of a class, by ascending number, in room that is reserved.
-ghost use Rattle.std.specs.Prelude.{◌≡◌, ◌<◌, ℕ, [], length, map, option_map, drop, is_ok, true, IfOk, IfErr, IfSome, vec_len, vec_capacity, ◌≤◌};
-ghost use Rattle.mib_state.specs.Class.{table_at, width_at};
-ghost use Rattle.mib_state.specs.Entities.{find, next, shown_as, value_at, number_at, IsAscending, IsAt, IsGapFor};
+ghost use Rattle.std.specs.Prelude.{◌≡◌, ◌<◌, [], None, if◌then◌else◌, length, map, option_map, drop, slice_get, is_ok, true, IfOk, IfErr, IfSome, vec_len, vec_capacity, ◌≤◌};
+ghost use Rattle.managed_entity.specs.Class.{table_at, width_at};
+ghost use Rattle.mib_state.specs.Entities.{find, next, IsAt, IsGapFor};
+ghost use Rattle.managed_entity.specs.Instance.{shown_as, value_at};
 ghost use Rattle.mib_state.specs.Attached.{least_instance};
-ghost use Rattle.mib_state.specs.Answer.{outcome_of, left_by};
-ghost use Rattle.mib_state.specs.Step.{mask_of, get_found, create_in, delete_in, set_in};
+ghost use Rattle.managed_entity.specs.Answer.{outcome_of, left_by};
+ghost use Rattle.managed_entity.specs.Mask.{mask_of};
+ghost use Rattle.mib_state.specs.Step.{get_found, create_in, delete_in, set_in};
 
-use crate::bytes::Bytes;
-use crate::entity::{ManagedEntity, PortEntity};
-use crate::get::get_contents;
-use crate::mask::mask_of;
-use crate::refusal::Refusal;
-use crate::set::{check_set, set, set_values};
-use crate::write::create;
+use crate::attachment::AttachedEntity;
+use managed_entity::{
+    Bytes, ManagedEntity, Refusal, check_set, create, get_contents, mask_of, set, set_values,
+};
 use omci_msg::Request;
 use std::alloc::{AllocError, Global};
 use std::marker::Model;
@@ -22,19 +21,19 @@ use std::marker::Model;
 struct Row<E> {
     number: u16,
     entity: E,
-    ghost fits: { number < 65536 },
 }
 
 /// The instances of a class, and those that stand ready to be created.
 #[derive(Drop)]
-pub struct Instances<E: ManagedEntity> {
+pub(crate) struct Instances<E: ManagedEntity> {
     rows: Vec<Row<E>>,
     spare: Vec<E>,
 }
 
 impl<E: ManagedEntity> Model for Instances<E> {
     ghost use Rattle.std.specs.Prelude.{List, map, vec_capacity, vec_len, ◌≤◌, ◌≡◌, ◌+◌};
-    ghost use Rattle.mib_state.specs.Entities.{Instance, IsAscending, shown_as};
+    ghost use Rattle.managed_entity.specs.Instance.{Instance, shown_as};
+    ghost use Rattle.mib_state.specs.Entities.{IsAscending};
 
     ghost Value = { List Instance };
 
@@ -47,7 +46,7 @@ impl<E: ManagedEntity> Model for Instances<E> {
 
 impl<E: ManagedEntity> Instances<E> {
     /// None, with room for all.
-    pub fn new(alloc: Global) -> Result<Self, AllocError>
+    pub(crate) fn new(alloc: Global) -> Result<Self, AllocError>
         ensures { IfOk result (λ instances. instances ≡ []) }
     {
         Ok(Instances {
@@ -65,7 +64,7 @@ impl<E: ManagedEntity> Instances<E> {
     }
 
     /// The instance of a number.
-    pub fn get(&self, number: u16) -> Option<&E>
+    pub(crate) fn get(&self, number: u16) -> Option<&E>
         ensures { option_map (λ (entity : _). shown_as number (E.values entity.now) (E.entries entity.now)) result ≡ find number self.now }
     {
         match self.search(number) {
@@ -74,21 +73,25 @@ impl<E: ManagedEntity> Instances<E> {
         }
     }
 
+    /// The number and the instance at a place, instances by ascending number.
+    pub(crate) fn at(&self, place: usize) -> Option<(u16, &E)>
+        ensures shown { option_map (λ (held : _). shown_as held.0 (E.values held.1.now) (E.entries held.1.now)) result ≡ slice_get self.now place }
+        ensures room { IfSome result (λ held. place < E.ROOM) }
+    {
+        let row = self.rows.get(place)?;
+        Some((row.number, &row.entity))
+    }
+
     /// The attribute at a place of the instance of a number; None for the table.
-    #[tactic(auto, using(crate::proofs::Returned::plain_values))]
-    pub fn attribute(&self, number: u16, place: usize) -> Option<Bytes>
+    pub(crate) fn attribute(&self, number: u16, place: usize) -> Option<Bytes>
         ensures value { option_map (λ (bytes : _). bytes.items) result ≡ value_at E.layout place (find number self.now) }
         ensures width { IfSome result (λ bytes. length bytes.items ≡ width_at E.layout place) }
     {
-        let entity = self.get(number)?;
-        if is_table::<E>(place) {
-            return None;
-        }
-        entity.returned(place)
+        attribute(self.get(number)?, place)
     }
 
     /// The answer to a Get.
-    pub fn read(&self, request: &Request) -> Result<[u8; 32], Refusal>
+    pub(crate) fn read(&self, request: &Request) -> Result<[u8; 32], Refusal>
         ensures { result
             ≡ get_found E.layout (mask_of request.now.contents) (find request.now.instance self.now) }
     {
@@ -99,11 +102,8 @@ impl<E: ManagedEntity> Instances<E> {
     }
 
     /// The least number that isn't under another.
-    pub fn next(&self, from: u16) -> Option<u16>
-        ensures value { result ≡ next from self.now }
-        ensures ascending { IsAscending self.now }
-        ensures room { length self.now ≤ E.ROOM }
-        ensures numbers { (i : ℕ) → i < length self.now → number_at self.now i < 65536 }
+    pub(crate) fn next(&self, from: u16) -> Option<u16>
+        ensures { result ≡ next from self.now }
     {
         match self.search(from) {
             Ok(_) => Some(from),
@@ -113,7 +113,7 @@ impl<E: ManagedEntity> Instances<E> {
     }
 
     /// Whether a Create is refused.
-    pub fn check_create(&self, request: &Request) -> Result<(), Refusal>
+    pub(crate) fn check_create(&self, request: &Request) -> Result<(), Refusal>
         ensures { result
             ≡ outcome_of (create_in E.layout E.ROOM request.now.instance request.now.contents self.now) }
     {
@@ -128,7 +128,7 @@ impl<E: ManagedEntity> Instances<E> {
     }
 
     /// Creates an instance, by a Create that isn't refused.
-    pub fn create(&mut self, request: &Request)
+    pub(crate) fn create(&mut self, request: &Request)
         requires { is_ok (create_in E.layout E.ROOM request.now.instance request.now.contents self.old)
             ≡ true }
         ensures { self.new ≡ left_by self.old
@@ -145,7 +145,7 @@ impl<E: ManagedEntity> Instances<E> {
 
     /// Whether a Delete is refused.
     #[tactic(auto, unfolding(crate::specs::Step::delete_in))]
-    pub fn check_delete(&self, request: &Request) -> Result<(), Refusal>
+    pub(crate) fn check_delete(&self, request: &Request) -> Result<(), Refusal>
         ensures { result ≡ outcome_of (delete_in request.now.instance self.now) }
     {
         match self.get(request.instance) {
@@ -155,7 +155,7 @@ impl<E: ManagedEntity> Instances<E> {
     }
 
     /// Deletes an instance; one that isn't there changes nothing.
-    pub fn delete(&mut self, request: &Request)
+    pub(crate) fn delete(&mut self, request: &Request)
         ensures { self.new ≡ left_by self.old (delete_in request.now.instance self.old) }
     {
         if let Ok(at) = self.search(request.instance) {
@@ -166,7 +166,7 @@ impl<E: ManagedEntity> Instances<E> {
 
     /// Whether a Set is refused.
     #[tactic(auto, unfolding(crate::specs::Step::set_in), using(crate::proofs::Setting::set_outcome))]
-    pub fn check_set(&self, request: &Request) -> Result<(), Refusal>
+    pub(crate) fn check_set(&self, request: &Request) -> Result<(), Refusal>
         ensures { result ≡ outcome_of (set_in E.layout request.now.instance
             (mask_of request.now.contents) (drop 2 request.now.contents) self.now) }
     {
@@ -181,7 +181,7 @@ impl<E: ManagedEntity> Instances<E> {
     }
 
     /// Writes the attributes that a Set names, which isn't refused.
-    pub fn set(&mut self, request: &Request)
+    pub(crate) fn set(&mut self, request: &Request)
         requires { is_ok (set_in E.layout request.now.instance
             (mask_of request.now.contents) (drop 2 request.now.contents) self.old) ≡ true }
         ensures { self.new ≡ left_by self.old (set_in E.layout request.now.instance
@@ -198,7 +198,7 @@ impl<E: ManagedEntity> Instances<E> {
     }
 
     /// Deletes them all.
-    pub fn clear(&mut self)
+    pub(crate) fn clear(&mut self)
         ensures { self.new ≡ [] }
     {
         while let Some(Row { number: _, entity }) = self.rows.pop() {
@@ -207,18 +207,31 @@ impl<E: ManagedEntity> Instances<E> {
     }
 }
 
-impl<E: PortEntity> Instances<E> {
-    /// The least number of an instance that is attached to a port.
-    pub fn of_port(&self, port: u16) -> Option<u16>
-        ensures { result ≡ least_instance (E.is_of_port port) self.now }
+impl<E: AttachedEntity> Instances<E> {
+    /// The least number of an instance that is attached to a thing of a kind.
+    pub(crate) fn attached(&self, kind: u8, to: u16) -> Option<u16>
+        ensures { result ≡ least_instance (E.is_attached kind to) self.now }
     {
         for row in &self.rows {
-            if row.entity.is_of_port(port) {
+            if row.entity.is_attached(kind, to) {
                 return Some(row.number);
             }
         }
         None
     }
+}
+
+/// The attribute at a place of an instance; None for the table.
+#[tactic(auto, using(managed_entity::proofs::Returned::plain_values))]
+pub(crate) fn attribute<E: ManagedEntity>(entity: &E, place: usize) -> Option<Bytes>
+    ensures value { option_map (λ (bytes : _). bytes.items) result
+        ≡ (if table_at E.layout place then None else slice_get (E.values entity.now) place) }
+    ensures width { IfSome result (λ bytes. length bytes.items ≡ width_at E.layout place) }
+{
+    if is_table::<E>(place) {
+        return None;
+    }
+    entity.returned(place)
 }
 
 /// Whether the attribute at a place is the table.

@@ -2,50 +2,43 @@
 //! read and change (ITU-T G.988, clause 9), and one step of them.
 //!
 //! **What it is.** A [`Mib`] holds the instances of each class of managed entities and the MIB data sync. `step` carries
-//! a request out and gives its reply. Contracts see a `Mib` as one value, `Entities`: the sync, and for each class the
-//! list of its instances by ascending number, each with the bytes of its attributes. The definition `step` over that
-//! value says what every request is answered and leaves.
-//!
-//! **Classes are data.** The attributes of a class (their number of bytes, who may write them, their value after Create)
-//! are one table, `specs/Class.antt`, and the code's table is proved to be the same. An action is one definition over that
-//! table, and a class is a struct with named fields, which says how its attributes are read and written as bytes, and
-//! nothing else.
+//! a request out and gives its reply. Contracts see a `Mib` as one value, `State`: its `Entities`, which are the sync and for
+//! each class the list of its instances by ascending number, each with the bytes of its attributes; and the latched table.
+//! The definition `step` over that value says what every request is answered and leaves.
 //!
 //! **A check, then a change.** `Mib::decide` says what a request is answered, and whether it is refused; nothing changes.
 //! `result_of` asks it alone; `step` asks it and then makes the change, which can't be refused.
 //!
-//! **Memory.** `Mib::new` makes every instance that there is room for. Create takes one of these and resets it, so a step
-//! takes no memory.
+//! **The latched table.** A Get that names the table of an instance also latches it: the bytes of its entries are copied
+//! aside, and Get next reads them part by part, whatever happens to the instance. The latch is no entity.
+//!
+//! **Memory.** `Mib::new` makes every instance that there is room for, and the room of the latched table. Create takes one of
+//! these instances and resets it, so a step takes no memory.
 #![tactic(auto)]
 
-ghost use Rattle.mib_state.specs.After.{AcceptedSuffice};
+ghost use Rattle.mib_state.specs.After.{AcceptedSuffice, LatchIsNoEntity};
 
-mod attribute;
-mod bytes;
+mod attachment;
 mod check;
-mod class;
-mod entity;
-mod gem_port;
-mod get;
+mod held;
 mod instances;
-mod interwork;
-mod mapper;
-mod mask;
+mod latch;
 mod mib;
 mod onu_data;
-mod refusal;
-mod set;
 mod step;
-mod vlan;
-mod write;
 
+pub use held::HeldInstance;
+pub use managed_entity::VlanConfig;
 pub use mib::Mib;
-pub use vlan::VlanConfig;
 
-/// The entities after a list of requests are those after its accepted requests alone.
+/// The entities after a list of requests are those after its accepted requests alone, and neither they nor what is accepted
+/// depend on the latched table.
 pub fn law_of_accepted()
-    ensures { AcceptedSuffice }
+    ensures suffice { AcceptedSuffice }
+    ensures latch { LatchIsNoEntity }
 {}
 
+#[cfg(test)]
+mod held_tests;
 #[cfg(test)]
 mod tests;

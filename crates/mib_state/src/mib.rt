@@ -1,21 +1,33 @@
 //! The management information base, and what it shows.
-ghost use Rattle.std.specs.Prelude.{◌≡◌, ◌<◌, ◌≤◌, ◌-◌, ℕ, IfOk, IfSome, option_map, length};
-ghost use Rattle.mib_state.specs.Class.{attributes_of, room_of, width_at};
-ghost use Rattle.mib_state.specs.Entities.{nothing, instances_of, find, next, attribute_of, number_at, IsAscending};
+ghost use Rattle.std.specs.Prelude.{◌≡◌, ◌<◌, ◌-◌, IfOk, IfSome, option_map, length, slice_get};
+ghost use Rattle.managed_entity.specs.Class.{attributes_of, room_of, width_at};
+ghost use Rattle.mib_state.specs.Entities.{nothing, unlatched, instances_of, find, next};
+ghost use Rattle.managed_entity.specs.Instance.{attribute_of};
 ghost use Rattle.mib_state.specs.Attached.{mapper_of_port, table_of_port};
-ghost use Rattle.mib_state.specs.Shown.{mapper_instance, vlan_instance, interwork_instance, gem_port_instance};
+ghost use Rattle.managed_entity.specs.Shown.{mapper_instance, vlan_instance, interwork_instance, gem_port_instance};
 
-use crate::class::{GEM_PORT, INTERWORK, MAPPER, ONU_DATA, VLAN};
-use crate::entity::ManagedEntity;
+use crate::held::{HeldEntity, HeldInstance};
 use crate::instances::Instances;
+use crate::latch::Latch;
 use crate::onu_data::OnuData;
-use crate::vlan::VlanConfig;
 use arrayvec::ArrayVec;
+use managed_entity::class::{GEM_PORT, INTERWORK, MAPPER, ONU_DATA, VLAN};
+use managed_entity::{ManagedEntity, VlanConfig};
 use pmapper::{GemPort, Interwork, Mapper};
 use std::alloc::{AllocError, Global};
 use std::marker::Model;
 
-/// The managed entities: the MIB data sync, and the instances of each class.
+/// The TP type of a mapper whose TP pointer is to a PPTP Ethernet UNI.
+const TP_TYPE_UNI: u8 = 1;
+
+/// The association type of a table whose pointer is to a mapper.
+const ASSOCIATION_MAPPER: u8 = 1;
+
+/// The association type of a table whose pointer is to a PPTP Ethernet UNI.
+const ASSOCIATION_UNI: u8 = 2;
+
+/// The managed entities, which are the MIB data sync and the instances of each class, and beside them the table that a Get
+/// latched.
 #[derive(Drop)]
 pub struct Mib {
     pub(crate) onu_data: OnuData,
@@ -23,22 +35,26 @@ pub struct Mib {
     pub(crate) vlans: Instances<VlanConfig>,
     pub(crate) interworks: Instances<Interwork>,
     pub(crate) gem_ports: Instances<GemPort>,
+    pub(crate) latch: Latch,
 }
 
 impl Model for Mib {
     ghost use Rattle.std.specs.Prelude.{[]};
-    ghost use Rattle.mib_state.specs.Entities.{Entities};
+    ghost use Rattle.mib_state.specs.Entities.{State};
 
-    ghost Value = { Entities };
+    ghost Value = { State };
 
-    ghost view = { λ m. record { sync = m.onu_data.sync; mappers = m.mappers; vlans = m.vlans; interworks = m.interworks; gem_ports = m.gem_ports } };
+    ghost view = { λ m. record {
+      entities = record { sync = m.onu_data.sync; mappers = m.mappers; vlans = m.vlans; interworks = m.interworks; gem_ports = m.gem_ports };
+      latch = m.latch;
+    } };
 }
 
 impl Mib {
-    /// No instance and sync 0, with room for 32 instances of class 130, 16 of class 171 with their tables, and 256 each of classes 266
-    /// and 268.
+    /// No instance, sync 0 and no latched table, with room for 32 instances of class 130, 16 of class 171 with their tables,
+    /// 256 each of classes 266 and 268, and the bytes of a table.
     pub fn new(alloc: Global) -> Result<Self, AllocError>
-        ensures { IfOk result (λ mib. mib ≡ nothing) }
+        ensures { IfOk result (λ mib. mib ≡ unlatched nothing) }
     {
         Ok(Mib {
             onu_data: OnuData { sync: 0 },
@@ -46,12 +62,13 @@ impl Mib {
             vlans: Instances::new(alloc)?,
             interworks: Instances::new(alloc)?,
             gem_ports: Instances::new(alloc)?,
+            latch: Latch::new(alloc)?,
         })
     }
 
     /// The MIB data sync (ITU-T G.988, clause 9.1.3).
     pub fn sync(&self) -> u8
-        ensures { result ≡ self.now.sync }
+        ensures { result ≡ self.now.entities.sync }
     {
         self.onu_data.sync
     }
@@ -59,10 +76,7 @@ impl Mib {
     /// The least number of an instance of a class that isn't under another: the first, since the numbers of a class rise.
     /// ONU data, class 2, has instance 0; a class that isn't known has none.
     pub fn next_instance(&self, class: u16, from: u16) -> Option<u16>
-        ensures value { result ≡ next from (instances_of self.now class) }
-        ensures ascending { IsAscending (instances_of self.now class) }
-        ensures room { length (instances_of self.now class) ≤ room_of class }
-        ensures numbers { (i : ℕ) → i < length (instances_of self.now class) → number_at (instances_of self.now class) i < 65536 }
+        ensures value { result ≡ next from (instances_of self.now.entities class) }
     {
         match class {
             ONU_DATA if from == 0 => Some(0),
@@ -74,10 +88,40 @@ impl Mib {
         }
     }
 
+    /// The instance at a place of a class, lent to be read. Places count from 0, and instances stand there by ascending number;
+    /// there are no more than the class has room for. ONU data, class 2, has one; a class that isn't known has none.
+    pub fn instance_at(&self, class: u16, place: usize) -> Option<HeldInstance<'_>>
+        ensures instance { option_map (λ (held : _). held.instance) result ≡ slice_get (instances_of self.now.entities class) place }
+        ensures class { IfSome result (λ held. held.class ≡ class) }
+        ensures room { IfSome result (λ held. place < room_of class) }
+    {
+        let (number, entity) = match class {
+            ONU_DATA if place == 0 => (0, HeldEntity::OnuData(&self.onu_data)),
+            MAPPER => {
+                let (number, mapper) = self.mappers.at(place)?;
+                (number, HeldEntity::Mapper(mapper))
+            }
+            VLAN => {
+                let (number, vlan) = self.vlans.at(place)?;
+                (number, HeldEntity::Vlan(vlan))
+            }
+            INTERWORK => {
+                let (number, point) = self.interworks.at(place)?;
+                (number, HeldEntity::Interwork(point))
+            }
+            GEM_PORT => {
+                let (number, port) = self.gem_ports.at(place)?;
+                (number, HeldEntity::GemPort(port))
+            }
+            _ => return None,
+        };
+        Some(HeldInstance { number, entity })
+    }
+
     /// The bytes of attribute `n` of an instance, attributes numbered from 1: None for what isn't there and for a table.
     /// Attribute 1 of ONU data, class 2, is the sync.
     pub fn attribute(&self, class: u16, instance: u16, n: u16) -> Option<ArrayVec<u8, 24>>
-        ensures value { option_map (λ (bytes : _). bytes.items) result ≡ attribute_of (attributes_of class) n (find instance (instances_of self.now class)) }
+        ensures value { option_map (λ (bytes : _). bytes.items) result ≡ attribute_of (attributes_of class) n (find instance (instances_of self.now.entities class)) }
         ensures width { IfSome result (λ bytes. length bytes.items ≡ width_at (attributes_of class) (n - 1)) }
     {
         let place = (n as usize).checked_sub(1)?;
@@ -93,45 +137,51 @@ impl Mib {
 
     /// The 802.1p mapper service profile of a number.
     pub fn mapper(&self, instance: u16) -> Option<&Mapper>
-        ensures { option_map (λ (mapper : _). mapper_instance instance mapper.now) result ≡ find instance self.now.mappers }
+        ensures { option_map (λ (mapper : _). mapper_instance instance mapper.now) result ≡ find instance self.now.entities.mappers }
     {
         self.mappers.get(instance)
     }
 
     /// The extended VLAN tagging operation configuration data of a number.
     pub fn vlan(&self, instance: u16) -> Option<&VlanConfig>
-        ensures { option_map (λ (vlan : _). vlan_instance instance vlan.now) result ≡ find instance self.now.vlans }
+        ensures { option_map (λ (vlan : _). vlan_instance instance vlan.now) result ≡ find instance self.now.entities.vlans }
     {
         self.vlans.get(instance)
     }
 
     /// The GEM interworking termination point of a number.
     pub fn interwork(&self, instance: u16) -> Option<&Interwork>
-        ensures { option_map (λ (point : _). interwork_instance instance point.now) result ≡ find instance self.now.interworks }
+        ensures { option_map (λ (point : _). interwork_instance instance point.now) result ≡ find instance self.now.entities.interworks }
     {
         self.interworks.get(instance)
     }
 
     /// The GEM port network CTP of a number.
     pub fn gem_port(&self, instance: u16) -> Option<&GemPort>
-        ensures { option_map (λ (port : _). gem_port_instance instance port.now) result ≡ find instance self.now.gem_ports }
+        ensures { option_map (λ (port : _). gem_port_instance instance port.now) result ≡ find instance self.now.entities.gem_ports }
     {
         self.gem_ports.get(instance)
     }
 
-    /// The number of the mapper of a port (ITU-T G.988, clause 9.3.10). Of several, it is the one of least number, which is
-    /// a choice of this project.
+    /// The number of the mapper of a port, of TP type 1 (ITU-T G.988, clause 9.3.10). Of several, it is the one of least
+    /// number, which is a choice of this project.
     pub fn mapper_of_port(&self, port: u16) -> Option<u16>
-        ensures { result ≡ mapper_of_port self.now port }
+        ensures { result ≡ mapper_of_port self.now.entities port }
     {
-        self.mappers.of_port(port)
+        self.mappers.attached(TP_TYPE_UNI, port)
     }
 
-    /// The number of the extended VLAN tagging operation configuration data of a port, of association type 2 (ITU-T G.988,
-    /// clause 9.3.13). Of several, it is the one of least number, which is a choice of this project.
+    /// The number of the extended VLAN tagging operation configuration data of a port: the one of association type 2 that
+    /// points to it, and where there is none, the one of association type 1 that points to its mapper (ITU-T G.988, clause
+    /// 9.3.13). Of several, it is the one of least number. That and the order are choices of this project.
     pub fn table_of_port(&self, port: u16) -> Option<u16>
-        ensures { result ≡ table_of_port self.now port }
+        ensures { result ≡ table_of_port self.now.entities port }
     {
-        self.vlans.of_port(port)
+        match self.vlans.attached(ASSOCIATION_UNI, port) {
+            Some(table) => Some(table),
+            None => self
+                .vlans
+                .attached(ASSOCIATION_MAPPER, self.mapper_of_port(port)?),
+        }
     }
 }

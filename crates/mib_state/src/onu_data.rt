@@ -2,39 +2,37 @@
 ghost use Rattle.std.specs.Prelude.{◌∷◌, [], refl};
 ghost use Rattle.std.proofs.Common.{rules};
 
-use crate::attribute::Attribute;
-use crate::bytes::{Bytes, byte, one};
-use crate::entity::ManagedEntity;
-use crate::get::get_contents;
-use crate::mask::mask_of;
-use crate::refusal::Refusal;
-use crate::set::{check_set, set, set_values};
+use managed_entity::{
+    Attribute, Bytes, ManagedEntity, Refusal, byte, check_set, get_contents, mask_of, one, set,
+    set_values,
+};
 use omci_msg::Request;
 use std::alloc::{AllocError, Global};
 
 /// ONU data (ITU-T G.988, clause 9.1.3).
 #[derive(Clone, Copy, Debug, Default, PartialEq, Eq)]
-pub struct OnuData {
+pub(crate) struct OnuData {
     /// The MIB data sync: the count of changes, 1 after 255.
-    pub sync: u8,
+    pub(crate) sync: u8,
 }
 
 impl OnuData {
     ghost use Rattle.std.specs.Prelude.{◌≡◌, drop, is_ok, true};
-    ghost use Rattle.mib_state.specs.Answer.{outcome_of, left_by};
-    ghost use Rattle.mib_state.specs.Class.{onu_data_layout};
+    ghost use Rattle.managed_entity.specs.Answer.{outcome_of, left_by};
+    ghost use Rattle.managed_entity.specs.Class.{onu_data_layout};
     ghost use Rattle.mib_state.specs.Entities.{find, onu_data, sync_of};
-    ghost use Rattle.mib_state.specs.Step.{next_sync, mask_of, get_found, set_in};
+    ghost use Rattle.mib_state.specs.Step.{next_sync, get_found, set_in};
+    ghost use Rattle.managed_entity.specs.Mask.{mask_of};
 
     /// Counts a change: 255 is followed by 1.
-    pub fn count(&mut self)
+    pub(crate) fn count(&mut self)
         ensures { self.new.sync ≡ next_sync self.old.sync }
     {
         self.sync = self.sync.checked_add(1).unwrap_or(1);
     }
 
     /// The answer to a Get; there is instance 0 alone.
-    pub fn read(&self, request: &Request) -> Result<[u8; 32], Refusal>
+    pub(crate) fn read(&self, request: &Request) -> Result<[u8; 32], Refusal>
         ensures { result ≡ get_found onu_data_layout (mask_of request.now.contents)
             (find request.now.instance (onu_data self.now.sync ∷ [])) }
     {
@@ -46,7 +44,7 @@ impl OnuData {
 
     /// Whether a Set is refused; there is instance 0 alone.
     #[tactic(auto, unfolding(crate::specs::Step::set_in), using(crate::proofs::Setting::set_outcome))]
-    pub fn check_set(&self, request: &Request) -> Result<(), Refusal>
+    pub(crate) fn check_set(&self, request: &Request) -> Result<(), Refusal>
         ensures { result ≡ outcome_of (set_in onu_data_layout request.now.instance
             (mask_of request.now.contents) (drop 2 request.now.contents) (onu_data self.now.sync ∷ [])) }
     {
@@ -62,7 +60,7 @@ impl OnuData {
 
     /// Writes the attributes that a Set names, which isn't refused.
     #[tactic(auto, unfolding(crate::specs::Step::set_in))]
-    pub fn set(&mut self, request: &Request)
+    pub(crate) fn set(&mut self, request: &Request)
         requires { is_ok (set_in onu_data_layout request.now.instance
             (mask_of request.now.contents) (drop 2 request.now.contents) (onu_data self.old.sync ∷ []))
             ≡ true }
@@ -83,7 +81,7 @@ impl OnuData {
 static LAYOUT: [Attribute; 1] = [Attribute::WRITABLE_1];
 
 impl ManagedEntity for OnuData {
-    ghost use Rattle.mib_state.specs.Class.{onu_data_layout};
+    ghost use Rattle.managed_entity.specs.Class.{onu_data_layout};
 
     ghost layout = { onu_data_layout };
 

@@ -1,19 +1,21 @@
 //! One step of the management information base.
 ghost use Rattle.std.specs.Prelude.{◌≡◌, is_ok, true};
-ghost use Rattle.mib_state.specs.Answer.{left_by};
+ghost use Rattle.managed_entity.specs.Answer.{left_by};
 ghost use Rattle.mib_state.specs.Entities.{nothing};
-ghost use Rattle.mib_state.specs.Step.{answered, create, delete, left, set, step};
+ghost use Rattle.mib_state.specs.Step.{answered, create, delete, latched, set, state_left, step};
 
 use crate::check::told;
-use crate::class::{GEM_PORT, INTERWORK, MAPPER, ONU_DATA, VLAN};
+use crate::latch::TABLE_PLACE;
 use crate::mib::Mib;
+use managed_entity::class::{GEM_PORT, INTERWORK, MAPPER, ONU_DATA, VLAN};
+use managed_entity::{mask_of, names};
 use omci_msg::{Action, Reply, Request};
 
 impl Mib {
     #[tactic(auto, using(crate::proofs::Counted::counts), unfolding(crate::specs::Step::create))]
     fn create(&mut self, request: &Request)
-        requires { is_ok (create self.old request.now) ≡ true }
-        ensures { self.new ≡ left_by self.old (create self.old request.now) }
+        requires { is_ok (create self.old.entities request.now) ≡ true }
+        ensures { self.new ≡ record self.old { entities = left_by self.old.entities (create self.old.entities request.now) } }
     {
         self.onu_data.count();
         match request.class {
@@ -27,8 +29,8 @@ impl Mib {
 
     #[tactic(auto, using(crate::proofs::Counted::counts), unfolding(crate::specs::Step::delete))]
     fn delete(&mut self, request: &Request)
-        requires { is_ok (delete self.old request.now) ≡ true }
-        ensures { self.new ≡ left_by self.old (delete self.old request.now) }
+        requires { is_ok (delete self.old.entities request.now) ≡ true }
+        ensures { self.new ≡ record self.old { entities = left_by self.old.entities (delete self.old.entities request.now) } }
     {
         self.onu_data.count();
         match request.class {
@@ -43,8 +45,8 @@ impl Mib {
     /// A Set of ONU data isn't counted.
     #[tactic(auto, using(crate::proofs::Counted::counts), unfolding(crate::specs::Step::set))]
     fn set(&mut self, request: &Request)
-        requires { is_ok (set self.old request.now) ≡ true }
-        ensures { self.new ≡ left_by self.old (set self.old request.now) }
+        requires { is_ok (set self.old.entities request.now) ≡ true }
+        ensures { self.new ≡ record self.old { entities = left_by self.old.entities (set self.old.entities request.now) } }
     {
         if request.class == ONU_DATA {
             return self.onu_data.set(request);
@@ -59,9 +61,9 @@ impl Mib {
         }
     }
 
-    /// No instance, and sync 0.
+    /// No instance, and sync 0. The latched table stands.
     fn reset(&mut self)
-        ensures { self.new ≡ nothing }
+        ensures { self.new ≡ record self.old { entities = nothing } }
     {
         self.onu_data.sync = 0;
         self.mappers.clear();
@@ -70,23 +72,36 @@ impl Mib {
         self.gem_ports.clear();
     }
 
+    /// Latches the table that a Get names.
+    fn latch(&mut self, request: &Request)
+        ensures { self.new ≡ record self.old { latch = latched self.old request.now } }
+    {
+        if request.class != VLAN || !names(mask_of(&request.contents), TABLE_PLACE) {
+            return;
+        }
+        if let Some(vlan) = self.vlans.get(request.instance) {
+            self.latch.take(request.instance, &vlan.table);
+        }
+    }
+
     /// Makes the change of a request that isn't refused.
     #[tactic(auto, using(crate::proofs::Answered::answers))]
     fn change(&mut self, request: &Request)
         requires { is_ok (answered request.now.action self.old request.now) ≡ true }
-        ensures { self.new ≡ left request.now.action self.old request.now }
+        ensures { self.new ≡ state_left request.now.action self.old request.now }
     {
         match request.action {
             Action::Create => self.create(request),
             Action::Delete => self.delete(request),
             Action::Set => self.set(request),
+            Action::Get => self.latch(request),
             Action::MibReset => self.reset(),
             _ => {}
         }
     }
 
     /// One step: carries a request out, and answers it. It takes no memory; a refusal changes nothing. The definition
-    /// `step` gives the refusals of each action in their order, and what each answer holds (ITU-T G.988, clause A.2).
+    /// `step` gives the refusals of each action in their order, and what each answer holds (ITU-T G.988, annex A).
     #[tactic(auto, using(crate::proofs::Answered::left_refused))]
     pub fn step(&mut self, request: &Request) -> Reply
         ensures reply { result ≡ (step self.old request.now).0 }

@@ -157,7 +157,7 @@ fn a_get_returns_each_attribute_that_fits_and_names_the_others(
     let mut mib = set_up(rt.alloc())?;
     let ten = [9, 0xff, 0xc0, 4, 0, 0x80, 1, 3];
     let of_table = [
-        9, 0xfe, 0, 2, 0, 64, 0x81, 0, 0x81, 0, 0, 0, 0, 0, 0x30, 1, 1,
+        9, 0xfe, 0, 2, 0, 128, 0x81, 0, 0x81, 0, 0, 0, 0, 0, 0x30, 1, 1,
     ];
     let size = [0, 4, 0, 0, 0, 0, 0x30];
     let map = [0, 0, 0, 0x20];
@@ -228,7 +228,11 @@ fn refusals_have_their_results(rt: HostRuntime) -> Result<(), Fail> {
         (Action::Get, 171, 0x0999, 5),
         (Action::Set, 2, 1, 5),
         (Action::Get, 2, 1, 5),
-        (Action::GetNext, 268, 0x0401, 2),
+        (Action::GetNext, 45, 1, 4),
+        (Action::GetNext, 171, 0x0999, 5),
+        (Action::GetNext, 2, 1, 5),
+        (Action::GetNext, 2, 0, 3),
+        (Action::GetNext, 268, 0x0401, 3),
         (Action::MibUpload, 2, 0, 2),
         (Action::MibUploadNext, 2, 0, 2),
         (other, 2, 0, 2),
@@ -483,6 +487,38 @@ fn of_two_tables_of_a_port_the_least_is_its_own(rt: HostRuntime) -> Result<(), F
 }
 
 #[test]
+fn a_port_without_a_table_of_its_own_has_that_of_its_mapper(rt: HostRuntime) -> Result<(), Fail> {
+    let mut mib = set_up(rt.alloc())?;
+    let _ = mib.step(&request(Action::Create, 171, 0x0700, &[1, 6, 1]));
+    assert_eq!(rt; mib.table_of_port(257), Some(0x0701));
+    let _ = mib.step(&delete(171, 0x0701));
+    assert_eq!(rt; mib.table_of_port(257), Some(0x0700));
+    let _ = mib.step(&create_mapper(0x0600, 257, 0x0501));
+    assert_eq!(rt;
+        mib.table_of_port(257),
+        None,
+        "its mapper is another, which has none"
+    );
+    Ok(())
+}
+
+#[test]
+fn a_table_is_read_as_the_get_of_its_size_found_it(rt: HostRuntime) -> Result<(), Fail> {
+    let mut mib = set_up(rt.alloc())?;
+    let next = request(Action::GetNext, 171, 0x0701, &[4, 0, 0, 1]);
+    assert_eq!(rt; mib.step(&next).contents, only(3), "nothing is latched");
+    let _ = mib.step(&get(171, 0x0701, 0x0400));
+    let _ = mib.step(&delete(171, 0x0701));
+    assert_eq!(rt; mib.step(&next).contents, only(5), "it is gone");
+    let _ = mib.step(&create_vlan(0x0701, 257));
+    let last = contents(&[
+        0, 4, 0, 0x0f, 0, 0, 0xe0, 0, 0, 0, 0xe0, 0, 0, 0, 0, 0x0f, 0, 0, 0, 0x0f,
+    ]);
+    assert_eq!(rt; mib.step(&next).contents, last);
+    Ok(())
+}
+
+#[test]
 fn a_class_has_room_of_its_own_and_a_deletion_gives_it_back(rt: HostRuntime) -> Result<(), Fail> {
     let mut mib = Mib::new(rt.alloc())?;
     for number in 0..32 {
@@ -508,16 +544,16 @@ fn a_class_has_room_of_its_own_and_a_deletion_gives_it_back(rt: HostRuntime) -> 
 }
 
 #[test]
-fn a_table_holds_64_entries_and_overwrites_a_held_key(rt: HostRuntime) -> Result<(), Fail> {
+fn a_table_holds_128_entries_and_overwrites_a_held_key(rt: HostRuntime) -> Result<(), Fail> {
     let mut mib = set_up(rt.alloc())?;
-    for k in 1..=62 {
+    for k in 1..=126 {
         let entry = set_entry([
             0xf800_0000,
             0x8000_0000 + k * 32768,
             0x000f_0000,
             0x000f_0000,
         ]);
-        let wanted = if k == 62 { 1 } else { 0 };
+        let wanted = if k == 126 { 1 } else { 0 };
         assert_eq!(rt; mib.result_of(&entry), wanted, "the result of entry {k}");
         assert_eq!(rt;
             mib.step(&entry).contents,
@@ -525,16 +561,16 @@ fn a_table_holds_64_entries_and_overwrites_a_held_key(rt: HostRuntime) -> Result
             "the answer to entry {k}"
         );
     }
-    let again = set_entry([0xf800_0000, 0x801e_8000, 0xc00f_0000, 0x000f_0000]);
+    let again = set_entry([0xf800_0000, 0x803e_8000, 0xc00f_0000, 0x000f_0000]);
     take(
         &rt,
         &mut mib,
         &[
-            (again, only(0), 66),
-            (get(171, 0x0701, 0x0400), contents(&[0, 4, 0, 0, 0, 4]), 66),
+            (again, only(0), 130),
+            (get(171, 0x0701, 0x0400), contents(&[0, 4, 0, 0, 0, 8]), 130),
         ],
     )?;
-    assert_eq!(rt; mib.vlan(0x0701).map(|vlan| vlan.table.len()), Some(64));
+    assert_eq!(rt; mib.vlan(0x0701).map(|vlan| vlan.table.len()), Some(128));
     Ok(())
 }
 
@@ -601,7 +637,7 @@ fn each_class_is_written(rt: HostRuntime) -> Result<(), Fail> {
         (130, 0x0601, 4, [5, 1].as_slice()),
         (130, 0x0601, 5, [0xff, 0xfe].as_slice()),
         (130, 0x0601, 6, [5, 1].as_slice()),
-        (171, 0x0701, 2, [0, 64].as_slice()),
+        (171, 0x0701, 2, [0, 128].as_slice()),
         (171, 0x0701, 3, [0x88, 0xa8].as_slice()),
         (171, 0x0701, 4, [0x91, 0].as_slice()),
     ] {

@@ -2,6 +2,7 @@ pub mod Parts
 pub mod Once
 pub mod Bounds
 pub mod Reading
+pub mod Joined
 pub mod Walk
 pub mod Classes
 mod Examples

@@ -4,8 +4,10 @@ use Rattle.std.specs.Prelude.{All}
 use Rattle.std.specs.List.{flat_map}
 use Rattle.std.proofs.lemmas.List.Concat.{flat_map-append}
 use Rattle.std.proofs.lemmas.List.Elements.{All-nil, All-head, All-tail, All-append, All-map}
-use Rattle.mib_state.specs.Entities.{Entities, Instance, instances_of}
-use Rattle.mib_upload.specs.Rows.{RowFields, Entity, row_of, attributes, of_class, classes, in_order, instance_rows, class_rows, AreInstanceRows, AreRowsOfEach, AreRows, rows_of, AllFit, EachFits}
+use Rattle.mib_state.specs.Entities.{Entities, instances_of}
+use Rattle.mib_state.specs.Held.{Entity, of_class}
+use Rattle.managed_entity.specs.Instance.{Instance}
+use Rattle.mib_upload.specs.Rows.{RowFields, row_of, attributes, classes, in_order, instance_rows, class_rows, AreInstanceRows, AreRowsOfEach, AreRows, rows_of, AllFit, EachFits}
 use Rattle.mib_upload.proofs.Parts.{parts_from, filled_parts, parted, parted_once}
 
 are_instance_rows : (class : ℕ) (i : Instance) → AllFit class i → AreInstanceRows class i (instance_rows class i)

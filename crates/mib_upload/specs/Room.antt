@@ -1,7 +1,7 @@
 -- How many rows there may be, by the numbers of bytes of the attributes of each class.
 use Rattle.std.specs.Prelude.{ℕ, zero, suc, ◌+◌, ◌-◌, ◌*◌, nat_le, List, [], ◌∷◌, if◌then◌else◌}
-use Rattle.mib_state.specs.declared.attribute.Attribute.{Attribute}
-use Rattle.mib_state.specs.Class.{attributes_of, room_of, table_at, width_at}
+use Rattle.managed_entity.specs.declared.attribute.Attribute.{Attribute}
+use Rattle.managed_entity.specs.Class.{attributes_of, room_of, table_at, width_at}
 use Rattle.mib_upload.specs.Rows.{row_room}
 
 -- the widths of so many attributes from number n on, in bytes, without that of a table

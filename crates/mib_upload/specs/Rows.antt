@@ -1,9 +1,11 @@
--- The rows of a MIB upload (ITU-T G.988, clauses 9.1.3 and A.2).
+-- The rows of a MIB upload (ITU-T G.988, 9.1.3 and annex A).
 use Rattle.std.specs.Prelude.{ℕ, zero, suc, ◌≡◌, ◌<◌, ◌≤◌, ◌+◌, ◌-◌, ◌^◌, ◌==◌, nat_le, List, [], ◌∷◌, ◌++◌, Option, Some, None, if◌then◌else◌, All, length, map}
 use Rattle.std.specs.List.{flat_map, sum_by}
-use Rattle.mib_state.specs.declared.attribute.Attribute.{Attribute}
-use Rattle.mib_state.specs.Class.{attributes_of}
-use Rattle.mib_state.specs.Entities.{Entities, Instance, instances_of, attribute_of}
+use Rattle.managed_entity.specs.declared.attribute.Attribute.{Attribute}
+use Rattle.managed_entity.specs.Class.{attributes_of}
+use Rattle.mib_state.specs.Entities.{Entities, instances_of}
+use Rattle.mib_state.specs.Held.{Entity, of_class}
+use Rattle.managed_entity.specs.Instance.{Instance, attribute_of}
 
 -- ---- the attributes of an instance
 
@@ -80,14 +82,6 @@ pub record AreInstanceRows (class : ℕ) (i : Instance) (rows : List RowFields) 
   pub are : rows ≡ map (row_of class i.number) parts
 
 -- ---- the rows of the entities
-
--- an instance with its class
-pub record Entity : Type 0 where
-  pub class : ℕ
-  pub instance : Instance
-
-abbrev pub of_class : ℕ → Instance → Entity
-of_class class i = record { class = class; instance = i }
 
 -- the classes, by number
 abbrev pub classes : List ℕ

@@ -1,24 +1,24 @@
--- What every request is answered (ITU-T G.988, clauses 11.2 and A.2): MIB upload and MIB upload next by the rows that
--- stand on a shelf, every other action by the step of the entities.
+-- What every request is answered (ITU-T G.988, 11.2 and annex A): MIB upload and MIB upload next by the rows that stand on
+-- a shelf, every other action by the step of the MIB.
 use Rattle.std.specs.Prelude.{ℕ, List, [], ◌++◌, Option, Some, None, length, slice_get}
 use Rattle.byteorder.specs.Endian.{big_bytes, big_number}
 use Rattle.omci_msg.specs.declared.Request.{Request}
 use Rattle.omci_msg.specs.declared.Reply.{Reply}
 use Rattle.omci_msg.specs.declared.Action.{Action}
 use Rattle.omci_msg.specs.declared.Action.TheVariants.{Create, Delete, Set, Get, GetNext, MibUpload, MibUploadNext, MibReset, Other}
-use Rattle.mib_state.specs.Entities.{Entities, nothing}
-use Rattle.mib_state.specs.Answer.{padded}
+use Rattle.mib_state.specs.Entities.{State, nothing, unlatched}
+use Rattle.managed_entity.specs.Answer.{padded}
 use Rattle.mib_state.specs.Step.{reply_to, step}
 use Rattle.mib_upload.specs.Rows.{RowFields, row_room, rows_of}
 
--- the managed entities, and the rows of the last MIB upload
-pub record State : Type 0 where
-  pub entities : Entities
+-- the managed entities with their latched table, and the rows of the last MIB upload
+pub record DeskState : Type 0 where
+  pub mib : State
   pub shelf : List RowFields
 
--- no instance, sync 0 and no row
-abbrev pub start : State
-start = record { entities = nothing; shelf = [] }
+-- no instance, sync 0, no latched table and no row
+abbrev pub start : DeskState
+start = record { mib = unlatched nothing; shelf = [] }
 
 -- the contents of the answer to a MIB upload: the number of rows
 unfoldable pub upload_contents : ℕ → List ℕ
@@ -34,19 +34,19 @@ row_contents None = padded 32 []
 row_contents (Some row) = big_bytes 2 row.class ++ big_bytes 2 row.instance ++ big_bytes 2 row.mask ++ padded row_room row.values
 
 -- a MIB upload puts the rows of this moment on the shelf, in place of earlier ones
-abbrev pub uploaded : State → Request → Reply × State
-uploaded s q = let rows = rows_of s.entities in (reply_to q (upload_contents (length rows)), record s { shelf = rows })
+abbrev pub uploaded : DeskState → Request → Reply × DeskState
+uploaded s q = let rows = rows_of s.mib.entities in (reply_to q (upload_contents (length rows)), record s { shelf = rows })
 
 -- a MIB upload next reads the shelf
-abbrev pub upload_next : State → Request → Reply × State
+abbrev pub upload_next : DeskState → Request → Reply × DeskState
 upload_next s q = (reply_to q (row_contents (slice_get s.shelf (sequence_number q.contents))), s)
 
 -- a step leaves the shelf, a MIB reset too
-abbrev pub stepped : State → Request → Reply × State
-stepped s q = let done = step s.entities q in (done.0, record s { entities = done.1 })
+abbrev pub stepped : DeskState → Request → Reply × DeskState
+stepped s q = let done = step s.mib q in (done.0, record s { mib = done.1 })
 
 -- the same by the action of the request
-abbrev pub answered_as : Action → State → Request → Reply × State
+abbrev pub answered_as : Action → DeskState → Request → Reply × DeskState
 answered_as Create s q = stepped s q
 answered_as Delete s q = stepped s q
 answered_as Set s q = stepped s q
@@ -58,5 +58,5 @@ answered_as MibReset s q = stepped s q
 answered_as (Other code) s q = stepped s q
 
 -- the reply to a request, and the state that it leaves
-abbrev pub answered : State → Request → Reply × State
+abbrev pub answered : DeskState → Request → Reply × DeskState
 answered s q = answered_as q.action s q

@@ -9,8 +9,8 @@ use omci_msg::{Action, Reply, Request};
 use std::alloc::{AllocError, Global};
 use std::marker::Model;
 
-/// The management of an optical network unit as its messages see it: the managed entities, and the rows of the last MIB
-/// upload.
+/// The management of an optical network unit as its messages see it: the managed entities with their latched table, and the
+/// rows of the last MIB upload.
 #[derive(Drop)]
 pub struct Desk {
     mib: Mib,
@@ -18,15 +18,15 @@ pub struct Desk {
 }
 
 impl Model for Desk {
-    ghost use Rattle.mib_upload.specs.Upload.{State};
+    ghost use Rattle.mib_upload.specs.Upload.{DeskState};
 
-    ghost Value = { State };
+    ghost Value = { DeskState };
 
-    ghost view = { λ d. record { entities = d.mib; shelf = d.shelf } };
+    ghost view = { λ d. record { mib = d.mib; shelf = d.shelf } };
 }
 
 impl Desk {
-    /// No instance, sync 0 and no row, with all the memory that it will need.
+    /// No instance, sync 0, no latched table and no row, with all the memory that it will need.
     pub fn new(alloc: Global) -> Result<Self, AllocError>
         ensures { IfOk result (λ desk. desk ≡ start) }
     {
@@ -36,17 +36,17 @@ impl Desk {
         })
     }
 
-    /// The managed entities.
+    /// The managed entities with their latched table.
     pub fn mib(&self) -> &Mib
-        ensures { result.now ≡ self.now.entities }
+        ensures { result.now ≡ self.now.mib }
     {
         &self.mib
     }
 
     /// Carries a request out, and answers it. A MIB upload puts the rows of this moment on the shelf and answers their
     /// number; they stand until the next one, a MIB reset notwithstanding. A MIB upload next answers a row of the shelf, or
-    /// all zero where no row has its number. Neither looks at the class and the instance. Every other action is a step of the
-    /// entities. It takes no memory (ITU-T G.988, clauses 11.2 and A.2).
+    /// all zero where no row has its number. Neither looks at the class and the instance. Every other action, Get next among
+    /// them, is a step of the MIB. It takes no memory (ITU-T G.988, 11.2 and annex A).
     pub fn answer(&mut self, request: &Request) -> Reply
         ensures reply { result ≡ (answered self.old request.now).0 }
         ensures after { self.new ≡ (answered self.old request.now).1 }

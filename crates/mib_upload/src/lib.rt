@@ -1,4 +1,4 @@
-//! The rows of a MIB upload, and the reply to every action (ITU-T G.988, clauses 9.1.3 and A.2).
+//! The rows of a MIB upload, and the reply to every action (ITU-T G.988, 9.1.3 and annex A).
 //!
 //! **Rows.** A MIB upload is answered by rows, each with some attributes of one instance. The definition, `specs/Rows.antt`,
 //! is a relation: joined, the rows of an instance have each attribute but the table once and in ascending order; none is
@@ -8,8 +8,8 @@
 //! **The shelf.** The rows are those of the moment of the upload. They stand on a [`Shelf`] until the next one, whatever
 //! happens to the entities.
 //!
-//! **The desk.** A [`Desk`] is the entities with a shelf. `answer` gives the reply to every action: a MIB upload and a MIB
-//! upload next by the shelf, every other one by a step of the entities.
+//! **The desk.** A [`Desk`] is a MIB with a shelf. `answer` gives the reply to every action: a MIB upload and a MIB upload next
+//! by the shelf, every other one, Get next among them, by a step of the MIB.
 //!
 //! **Memory.** A shelf has room for the rows of all instances that there may be: 609, by the attributes' numbers of bytes and
 //! the instances that each class has room for. That it suffices is proved, so an answer takes no memory.

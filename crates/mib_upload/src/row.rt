@@ -1,14 +1,14 @@
 //! One row of a MIB upload.
 ghost use Rattle.std.specs.Prelude.{◌≡◌, ◌≤◌, ◌<◌, ◌+◌, ◌-◌, ◌^◌, nat_le, length, Some};
-ghost use Rattle.mib_state.specs.Answer.{padded};
 ghost use Rattle.mib_upload.specs.Upload.{row_contents};
 ghost use Rattle.mib_upload.specs.Rows.{begun_row, with_attribute, row_room};
 
 use arrayvec::ArrayVec;
 use byteorder::{BigEndian, ByteOrder};
+use managed_entity::padded;
 use std::marker::Model;
 
-/// One row of a MIB upload (ITU-T G.988, clause A.2): some attributes of one instance.
+/// One row of a MIB upload (ITU-T G.988, annex A): some attributes of one instance.
 #[derive(Drop)]
 pub struct Row {
     /// The class of the instance.
@@ -59,6 +59,7 @@ impl Row {
         self.mask += 1 << (16 - n);
         let _ = self.values.try_extend_from_slice(value);
     }
+
     /// The contents of an answer that gives the row: class, instance, mask and values.
     #[tactic(auto, unfolding(crate::specs::Upload::row_contents))]
     pub(crate) fn contents(&self) -> [u8; 32]
@@ -68,17 +69,7 @@ impl Row {
         BigEndian::write_u16(&mut contents[..2], self.class);
         BigEndian::write_u16(&mut contents[2..4], self.instance);
         BigEndian::write_u16(&mut contents[4..6], self.mask);
-        contents[6..].copy_from_slice(&padded_values(&self.values));
+        contents[6..].copy_from_slice(&padded::<26>(&self.values));
         contents
     }
-}
-
-/// Bytes, and zeros up to 26.
-fn padded_values(bytes: &[u8]) -> [u8; 26]
-    requires { length bytes.now ≤ row_room }
-    ensures { result ≡ padded row_room bytes.now }
-{
-    let mut values = [0; 26];
-    values[..bytes.len()].copy_from_slice(bytes);
-    values
 }

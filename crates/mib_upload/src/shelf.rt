@@ -1,12 +1,11 @@
 //! The rows of the last MIB upload.
 ghost use Rattle.std.specs.Prelude.{◌≡◌, ◌≤◌, ◌<◌, ◌+◌, ◌-◌, ◌^◌, ℕ, List, [], ◌∷◌, ◌++◌, All, IfOk, length, option_map, slice_get};
-ghost use Rattle.mib_state.specs.Class.{attributes_of};
-ghost use Rattle.mib_state.specs.Entities.{find, instances_of};
-ghost use Rattle.mib_upload.specs.Rows.{Numbered, attributes_from, begun_row, filled_from, class_rows, row_room, AreRows, FitsRow, AllFit, rows_of};
+ghost use Rattle.mib_state.specs.Entities.{instances_of};
+ghost use Rattle.mib_upload.specs.Rows.{Numbered, filled_from, instance_rows, class_rows, row_room, AreRows, AllFit, rows_of};
 ghost use Rattle.mib_upload.specs.Room.{rows_by, instance_room, class_room, shelf_room};
 
 use crate::row::Row;
-use mib_state::Mib;
+use mib_state::{HeldInstance, Mib};
 use std::alloc::{AllocError, Global};
 use std::marker::Model;
 use std::mem::replace;
@@ -19,7 +18,7 @@ const CLASSES: [u16; 5] = [2, 130, 171, 266, 268];
 /// and of 256 GEM ports.
 const ROOM: usize = 1 + 32 * 2 + 16 * 2 + 256 + 256;
 
-/// The rows of the last MIB upload (ITU-T G.988, clause A.2), with room for all that there may be.
+/// The rows of the last MIB upload (ITU-T G.988, annex A), with room for all that there may be.
 #[derive(Drop)]
 pub struct Shelf {
     rows: Vec<Row>,
@@ -49,8 +48,8 @@ impl Shelf {
 
     /// Puts the rows of this moment in the place of what it holds, and gives their number.
     pub fn fill(&mut self, mib: &Mib) -> u16
-        ensures are { AreRows mib.now self.new }
-        ensures rows { self.new ≡ rows_of mib.now }
+        ensures are { AreRows mib.now.entities self.new }
+        ensures rows { self.new ≡ rows_of mib.now.entities }
         ensures count { result ≡ length self.new }
     {
         self.rows.clear();
@@ -78,32 +77,27 @@ impl Shelf {
     /// Adds the rows of the instances of a class.
     fn add_class(&mut self, mib: &Mib, class: u16)
         requires { length self.old + class_room class ≤ shelf_room }
-        ensures rows { self.new ≡ self.old ++ class_rows class (instances_of mib.now class) }
+        ensures rows { self.new ≡ self.old ++ class_rows class (instances_of mib.now.entities class) }
         ensures room { length self.new ≤ length self.old + class_room class }
-        ensures each { All (AllFit class) (instances_of mib.now class) }
+        ensures each { All (AllFit class) (instances_of mib.now.entities class) }
     {
-        let mut from = 0;
-        while let Some(number) = mib.next_instance(class, from) {
-            self.add_instance(mib, class, number);
-            let Some(next) = number.checked_add(1) else {
-                return;
-            };
-            from = next;
+        let mut place = 0;
+        while let Some(held) = mib.instance_at(class, place) {
+            self.add_instance(&held);
+            place += 1;
         }
     }
 
     /// Adds the rows of an instance.
-    fn add_instance(&mut self, mib: &Mib, class: u16, number: u16)
-        requires { length self.old + instance_room class ≤ shelf_room }
-        ensures rows { self.new ≡ self.old ++ filled_from (begun_row class number)
-            (attributes_from (attributes_of class) (find number (instances_of mib.now class)) 1 16) }
-        ensures room { length self.new ≤ length self.old + instance_room class }
-        ensures each { All FitsRow
-            (attributes_from (attributes_of class) (find number (instances_of mib.now class)) 1 16) }
+    fn add_instance(&mut self, held: &HeldInstance<'_>)
+        requires { length self.old + instance_room held.now.class ≤ shelf_room }
+        ensures rows { self.new ≡ self.old ++ instance_rows held.now.class held.now.instance }
+        ensures room { length self.new ≤ length self.old + instance_room held.now.class }
+        ensures each { AllFit held.now.class held.now.instance }
     {
-        let mut row = Row::begin(class, number);
+        let mut row = Row::begin(held.class(), held.number());
         for n in 1..=16 {
-            if let Some(value) = mib.attribute(class, number, n) {
+            if let Some(value) = held.attribute(n) {
                 self.add_attribute(&mut row, n, &value);
             }
         }

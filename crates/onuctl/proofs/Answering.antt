@@ -4,7 +4,7 @@ use Rattle.std.specs.Prelude.{option_map, is_none}
 use Rattle.std.proofs.lemmas.List.{append-nil, drop-drop, get_or-drop}
 use Rattle.std.proofs.lemmas.Bool.{eqb-true, eq-eqb, cases_lt}
 use Rattle.memchr.specs.Find.{IsFirstByte, is_byte}
-use Rattle.mib_upload.specs.Upload.{State}
+use Rattle.mib_upload.specs.Upload.{DeskState}
 use Rattle.onuctl.specs.Answers.{answer, answers_from, before_bad, state_from, line_answer}
 use Rattle.onuctl.specs.Line.{Asked, asked_by}
 use Rattle.onuctl.specs.Text.{cut}
@@ -15,7 +15,7 @@ abbrev pub asked_in : List ℕ → List (Option Asked)
 asked_in text = map asked_by (cut text).ended
 
 -- the lines so far are answered, the next one begins at start, and no line ends from there up to from
-pub record IsAnswering (begun : State) (old piece : List ℕ) (e : State) (items : List ℕ) (lines start from : ℕ) : Type 0 where
+pub record IsAnswering (begun : DeskState) (old piece : List ℕ) (e : DeskState) (items : List ℕ) (lines start from : ℕ) : Type 0 where
   pub bad : option_map (λ n. lines + n) (before_bad (asked_in (drop start piece))) ≡ before_bad (asked_in piece)
   pub count : lines + length (cut (drop start piece)).ended ≡ length (cut piece).ended
   pub rest : (cut (drop start piece)).rest ≡ (cut piece).rest
@@ -31,7 +31,7 @@ none_before None = refl
 none_before (Some n) = ap Some (omega arith)
 
 -- at the start
-pub answering_start : (e : State) (old piece : List ℕ) (searched : ℕ) → searched ≤ length piece → NoFeedBelow piece searched → IsAnswering e old piece e old 0 0 searched
+pub answering_start : (e : DeskState) (old piece : List ℕ) (searched : ℕ) → searched ≤ length piece → NoFeedBelow piece searched → IsAnswering e old piece e old 0 0 searched
 answering_start e old piece searched within none = record {
   bad = none_before (before_bad (asked_in piece));
   count = omega arith;
@@ -48,7 +48,7 @@ one_more : (lines : ℕ) (o : Option ℕ) → option_map (λ n. lines + n) (opti
 one_more lines None = refl
 one_more lines (Some n) = ap Some (omega arith)
 
-module _ (begun : State) (old piece : List ℕ) (e : State) (items : List ℕ) (lines start from : ℕ) (now : IsAnswering begun old piece e items lines start from) where
+module _ (begun : DeskState) (old piece : List ℕ) (e : DeskState) (items : List ℕ) (lines start from : ℕ) (now : IsAnswering begun old piece e items lines start from) where
   -- where the next line ends
   pub line_end : (offset : ℕ) → IsFirstByte (is_byte 10) (drop from piece) (Some offset) → from + offset < length piece
   line_end offset found = omega (arith, found.0.high, length-drop from piece, now.within)

@@ -5,7 +5,7 @@ use Rattle.std.proofs.lemmas.List.{append-nil, map-append, take-append-le}
 use Rattle.std.proofs.Math.Seq.{take-append-add, take-append_seam, drop-append_seam}
 use Rattle.std.proofs.KnownBytes.{Appends-trans}
 use Rattle.std.specs.Io.KnownBytes.{Appends, Consumes, IsAtEnd}
-use Rattle.mib_upload.specs.Upload.{State, start}
+use Rattle.mib_upload.specs.Upload.{DeskState, start}
 use Rattle.onuctl.specs.Answers.{answer, answers, answers_from, before_bad, script_of}
 use Rattle.onuctl.specs.Line.{Asked, asked_by}
 use Rattle.onuctl.specs.Replay.{ended_script, IsAnswered, StopsAtLine, StopsAtRead, StopsAtWrite}
@@ -15,7 +15,7 @@ use Rattle.onuctl.specs.Written.{AppendsPart}
 -- ---- parts of the answers
 
 -- the answers to lines begin with those to the first of them
-answers_front : (e : State) (lines more : List (Option Asked)) → (rest : List ℕ) × (answers_from e (lines ++ more) ≡ answers_from e lines ++ rest)
+answers_front : (e : DeskState) (lines more : List (Option Asked)) → (rest : List ℕ) × (answers_from e (lines ++ more) ≡ answers_from e lines ++ rest)
 answers_front e [] more = (answers_from e more, refl)
 answers_front e (None ∷ lines) more = ([], refl)
 answers_front e (Some asked ∷ lines) more =

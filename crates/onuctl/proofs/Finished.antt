@@ -4,7 +4,7 @@ use Rattle.std.specs.Prelude.{option_map, IfSome}
 use Rattle.std.proofs.lemmas.List.{append-nil}
 use Rattle.std.proofs.KnownBytes.{Appends-trans, Appends-kept, Consumes-trans}
 use Rattle.std.specs.Io.KnownBytes.{Appends, Consumes, IsAtEnd}
-use Rattle.mib_upload.specs.Upload.{State, start}
+use Rattle.mib_upload.specs.Upload.{DeskState, start}
 use Rattle.onuctl.specs.Answers.{answers, answers_from, before_bad, script_of}
 use Rattle.onuctl.specs.Finish.{Finishes, last_asked}
 use Rattle.onuctl.specs.Line.{Asked}
@@ -20,7 +20,7 @@ consumes_none known mid left read bytes n none first second =
     subst (λ all. Consumes known left all) (append-nil read) (Consumes-trans known mid left read [] first (rw none at second))
 
 -- a first line that is bad has no answer
-answers_none : (e : State) (lines : List (Option Asked)) → before_bad lines ≡ Some 0 → answers_from e lines ≡ []
+answers_none : (e : DeskState) (lines : List (Option Asked)) → before_bad lines ≡ Some 0 → answers_from e lines ≡ []
 answers_none e [] bad = absurd (cc)
 answers_none e (None ∷ lines) bad = refl
 answers_none e (Some asked ∷ lines) bad = absurd (positive (before_bad lines) bad)
@@ -37,7 +37,7 @@ ends_bad_at_end (Some text) (Some rest) before after read n took end bad written
     let whole : text ≡ read = took ∙ ap (λ r. read ++ r) end ∙ append-nil read in
     record { first = rw (whole, bad) refl; written = rw whole written }
 
-module _ (known left before mid after : Option (List ℕ)) (read : List ℕ) (e : State) (rest : List ℕ) (lines total : ℕ) (now : SoFar read e rest lines total)
+module _ (known left before mid after : Option (List ℕ)) (read : List ℕ) (e : DeskState) (rest : List ℕ) (lines total : ℕ) (now : SoFar read e rest lines total)
     (took : Consumes known left read) (end : IsAtEnd left) (told : Appends before mid (answers_from start (ended_script read))) where
   pub finished : (result : Result (Unit {0}) ReplayFault) → Finishes e rest lines result mid after → IfSome known (λ text. Replays text result left before after)
   finished (Ok done) f =

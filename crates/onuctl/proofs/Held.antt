@@ -2,7 +2,7 @@
 use Rattle.std.proofs.Common.{◌≡◌, ◌≢◌, ℕ, ◌+◌, ◌-◌, ◌<◌, ◌≤◌, List, [], ◌++◌, take, drop, length, slice_index, ap, sym, ◌∙◌, refl, arith, length-take, length-drop}
 use Rattle.std.proofs.Math.Seq.{take-add}
 use Rattle.std.proofs.lemmas.List.{drop-take, get_or-take}
-use Rattle.mib_upload.specs.Upload.{State}
+use Rattle.mib_upload.specs.Upload.{DeskState}
 use Rattle.onuctl.specs.Answers.{answers_from}
 use Rattle.onuctl.specs.Replay.{ended_script}
 use Rattle.onuctl.specs.Text.{cut}
@@ -13,7 +13,7 @@ pub held : (begun count : ℕ) (text now : List ℕ) → take begun now ≡ take
 held begun count text now kept = take-add begun count now ∙ ap (λ front. front ++ take count (drop begun now)) kept
 
 -- the answers that are to be written
-pub told : (e : State) (held bytes old new out : List ℕ) → held ≡ bytes → old ≡ [] → new ≡ old ++ answers_from e (ended_script held) → out ≡ new → out ≡ answers_from e (ended_script bytes)
+pub told : (e : DeskState) (held bytes old new out : List ℕ) → held ≡ bytes → old ≡ [] → new ≡ old ++ answers_from e (ended_script held) → out ≡ new → out ≡ answers_from e (ended_script bytes)
 told e held bytes old new out is none put same = same ∙ put ∙ rw (none, is) refl
 
 -- no line feed stands in the bytes of the line that is begun

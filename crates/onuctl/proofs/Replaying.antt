@@ -3,7 +3,7 @@ use Rattle.std.proofs.Common.{◌≡◌, ℕ, ◌+◌, ◌<◌, true, List, [], 
 use Rattle.std.specs.Prelude.{option_map, nat_lt}
 use Rattle.std.proofs.lemmas.List.{append-nil, map-append, length-map}
 use Rattle.std.proofs.lemmas.Bool.{lt-ltb}
-use Rattle.mib_upload.specs.Upload.{State, start}
+use Rattle.mib_upload.specs.Upload.{DeskState, start}
 use Rattle.onuctl.specs.Answers.{answers, answers_from, before_bad, state_from, script_of}
 use Rattle.onuctl.specs.Line.{Asked, asked_by}
 use Rattle.onuctl.specs.Replay.{ended_script}
@@ -12,7 +12,7 @@ use Rattle.onuctl.proofs.Cutting.{NoFeedBelow, cut-append, rest_has_none}
 use Rattle.onuctl.proofs.Turns.{before_bad-append, answers-append, state-append, before_bad-found, answers-found, ended_script-append, script_of-append, begins}
 
 -- these bytes are read, their lines are answered and none is bad, and the rest begins a line
-pub record SoFar (read : List ℕ) (e : State) (rest : List ℕ) (lines total : ℕ) : Type 0 where
+pub record SoFar (read : List ℕ) (e : DeskState) (rest : List ℕ) (lines total : ℕ) : Type 0 where
   pub good : before_bad (ended_script read) ≡ None
   pub state_is : e ≡ state_from start (ended_script read)
   pub rest_is : rest ≡ (cut read).rest
@@ -31,7 +31,7 @@ next_is_bad (b ∷ rest) more long none =
     let over : nat_lt 20000 (length begun.line) ≡ true = lt-ltb 20000 (length begun.line) (omega (arith, begun.long)) in
     (map asked_by begun.more, ap (map asked_by) begun.is ∙ rw over refl)
 
-module _ (read : List ℕ) (e : State) (rest : List ℕ) (lines total : ℕ) (now : SoFar read e rest lines total) where
+module _ (read : List ℕ) (e : DeskState) (rest : List ℕ) (lines total : ℕ) (now : SoFar read e rest lines total) where
   pub rest_no_feed : NoFeedBelow rest (length rest)
   rest_no_feed = rw now.rest_is (rest_has_none read)
 
@@ -99,7 +99,7 @@ module _ (read : List ℕ) (e : State) (rest : List ℕ) (lines total : ℕ) (no
       let count : lines ≡ length (ended_script read) = now.lines_are ∙ sym (length-map (cut read).ended asked_by) in
       rw (at_end, count) (before_bad-append (ended_script read) (map asked_by (last_line rest)) now.good)
 
-pub so_far_as : (read : List ℕ) (e now : State) (rest held : List ℕ) (lines count total n : ℕ) → SoFar read e rest lines total → now ≡ e → held ≡ rest → count ≡ lines → n ≡ total → SoFar read now held count n
+pub so_far_as : (read : List ℕ) (e now : DeskState) (rest held : List ℕ) (lines count total n : ℕ) → SoFar read e rest lines total → now ≡ e → held ≡ rest → count ≡ lines → n ≡ total → SoFar read now held count n
 so_far_as read e now rest held lines count total n so_far a b c d = record {
   good = so_far.good;
   state_is = a ∙ so_far.state_is;

@@ -3,7 +3,7 @@ use Rattle.std.proofs.Common.{◌≡◌, ℕ, zero, suc, ◌+◌, ◌≤◌, Lis
 use Rattle.std.specs.Prelude.{option_map}
 use Rattle.std.proofs.lemmas.List.{map-append}
 use Rattle.std.proofs.lemmas.Bool.{ne_eqb}
-use Rattle.mib_upload.specs.Upload.{State}
+use Rattle.mib_upload.specs.Upload.{DeskState}
 use Rattle.onuctl.specs.Answers.{answer, answers_from, before_bad, state_from, script_of}
 use Rattle.onuctl.specs.Line.{Asked, asked_by}
 use Rattle.onuctl.specs.Replay.{ended_script}
@@ -34,14 +34,14 @@ before_bad-append (None ∷ lines) more good = absurd (cc)
 before_bad-append (Some asked ∷ lines) more good =
     ap (option_map suc) (before_bad-append lines more (tail_good (before_bad lines) good)) ∙ one_before (length lines) (before_bad more)
 
-pub answers-append : (e : State) (lines more : List (Option Asked)) → before_bad lines ≡ None → answers_from e (lines ++ more) ≡ answers_from e lines ++ answers_from (state_from e lines) more
+pub answers-append : (e : DeskState) (lines more : List (Option Asked)) → before_bad lines ≡ None → answers_from e (lines ++ more) ≡ answers_from e lines ++ answers_from (state_from e lines) more
 answers-append e [] more good = refl
 answers-append e (None ∷ lines) more good = absurd (cc)
 answers-append e (Some asked ∷ lines) more good =
     ap (λ rest. (answer e asked).0 ++ rest) (answers-append (answer e asked).1 lines more (tail_good (before_bad lines) good))
     ∙ sym (append_assoc (answer e asked).0 (answers_from (answer e asked).1 lines) _)
 
-pub state-append : (e : State) (lines more : List (Option Asked)) → before_bad lines ≡ None → state_from e (lines ++ more) ≡ state_from (state_from e lines) more
+pub state-append : (e : DeskState) (lines more : List (Option Asked)) → before_bad lines ≡ None → state_from e (lines ++ more) ≡ state_from (state_from e lines) more
 state-append e [] more good = refl
 state-append e (None ∷ lines) more good = absurd (cc)
 state-append e (Some asked ∷ lines) more good = state-append (answer e asked).1 lines more (tail_good (before_bad lines) good)
@@ -55,7 +55,7 @@ before_bad-found (Some asked ∷ lines) more n bad =
     let tail = tail_found (before_bad lines) n bad in
     ap (option_map suc) (before_bad-found lines more tail.0 tail.1) ∙ ap Some tail.2
 
-pub answers-found : (e : State) (lines more : List (Option Asked)) (n : ℕ) → before_bad lines ≡ Some n → answers_from e (lines ++ more) ≡ answers_from e lines
+pub answers-found : (e : DeskState) (lines more : List (Option Asked)) (n : ℕ) → before_bad lines ≡ Some n → answers_from e (lines ++ more) ≡ answers_from e lines
 answers-found e [] more n bad = absurd (cc)
 answers-found e (None ∷ lines) more n bad = refl
 answers-found e (Some asked ∷ lines) more n bad =

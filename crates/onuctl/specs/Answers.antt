@@ -13,7 +13,7 @@ use Rattle.forward_plan.specs.declared.reason.Reason.{Reason}
 use Rattle.forward_plan.specs.declared.verdict.Verdict.{Verdict}
 use Rattle.forward_plan.specs.declared.verdict.Verdict.TheVariants.{Forward, Drop}
 use Rattle.tag_view.specs.Frame.{Reading, spelled}
-use Rattle.mib_upload.specs.Upload.{State, answered, start}
+use Rattle.mib_upload.specs.Upload.{DeskState, answered, start}
 use Rattle.onuctl.specs.Line.{Asked, asked_by}
 use Rattle.onuctl.specs.Line.Asked.{Message, Frame, Nothing}
 use Rattle.onuctl.specs.Text.{lines_of}
@@ -47,29 +47,29 @@ verdict_line (Forward gem frame) = forwarded_line gem frame
 verdict_line (Drop reason) = dropped_line reason
 
 -- the answer to a message in a given state, and the state that it leaves: one with a fault leaves it
-abbrev pub message_answer : State → Result Request MsgFault → List ℕ × State
+abbrev pub message_answer : DeskState → Result Request MsgFault → List ℕ × DeskState
 message_answer s (Ok request) = let done = answered s request in (request_line request done.0, done.1)
 message_answer s (Err fault) = (fault_line fault, s)
 
 -- the same of a line that isn't bad
-abbrev pub answer : State → Asked → List ℕ × State
+abbrev pub answer : DeskState → Asked → List ℕ × DeskState
 answer s (Message bytes) = message_answer s (request_of bytes)
-answer s (Frame port bytes) = (verdict_line (meaning s.entities port bytes), s)
+answer s (Frame port bytes) = (verdict_line (meaning s.mib.entities port bytes), s)
 answer s Nothing = ([], s)
 
 -- the same of any line: a bad one has no answer
-abbrev pub line_answer : State → Option Asked → List ℕ × State
+abbrev pub line_answer : DeskState → Option Asked → List ℕ × DeskState
 line_answer s None = ([], s)
 line_answer s (Some asked) = answer s asked
 
 -- the answers to lines in turn, up to the first bad one
-abbrev pub answers_from : State → List (Option Asked) → List ℕ
+abbrev pub answers_from : DeskState → List (Option Asked) → List ℕ
 answers_from s [] = []
 answers_from s (None ∷ lines) = []
 answers_from s (Some asked ∷ lines) = let done = answer s asked in done.0 ++ answers_from done.1 lines
 
 -- the state after them
-abbrev pub state_from : State → List (Option Asked) → State
+abbrev pub state_from : DeskState → List (Option Asked) → DeskState
 state_from s [] = s
 state_from s (None ∷ lines) = s
 state_from s (Some asked ∷ lines) = state_from (answer s asked).1 lines

@@ -112,7 +112,7 @@ fn put_dropped(answers: &mut Vec<u8>, reason: Reason)
 // times the line that spells it.
 fn answer_frame(mib: &Mib, port: u16, bytes: &[u8], answers: &mut Vec<u8>)
     requires { vec_len answers.old + 6 * length bytes.now + 15 ≤ vec_capacity answers.old }
-    ensures items { answers.new.items ≡ answers.old.items ++ verdict_line (meaning mib.now port bytes.now) }
+    ensures items { answers.new.items ≡ answers.old.items ++ verdict_line (meaning mib.now.entities port bytes.now) }
     ensures len { vec_len answers.new ≤ vec_len answers.old + 6 * length bytes.now + 15 }
     ensures capacity { vec_capacity answers.old ≤ vec_capacity answers.new }
 {

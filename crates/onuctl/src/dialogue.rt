@@ -13,6 +13,8 @@ const ADDRESSES: &str = "020000000001020000000002";
 pub(crate) enum Step<'s> {
     /// A message, and the reply.
     Ask(&'s str, &'s str),
+    /// A message that wants no answer.
+    Tell(&'s str),
     /// An entry for the table, which takes it.
     Put(&'s str),
     /// A frame that comes in at port 257, and what becomes of it: what leaves, or `d N`. Frames are
@@ -50,6 +52,12 @@ impl Dialogue {
         push_message(&mut self.answers, "r ", reply)
     }
 
+    /// Tells what a message says, and hears that no answer was wanted.
+    fn tell(&mut self, message: &str) -> Result<(), AllocError> {
+        push_message(&mut self.script, "o ", message)?;
+        self.answers.push_str("-\n")
+    }
+
     /// Puts an entry into the table.
     fn put(&mut self, alloc: Global, entry: &str) -> Result<(), AllocError> {
         let message = format!(in alloc; "0005480a00ab0701 0400 {entry}")?;
@@ -80,6 +88,7 @@ impl Dialogue {
     pub(crate) fn take(&mut self, alloc: Global, step: Step<'_>) -> Result<(), AllocError> {
         match step {
             Step::Ask(message, reply) => self.ask(message, reply),
+            Step::Tell(message) => self.tell(message),
             Step::Put(entry) => self.put(alloc, entry),
             Step::Send(frame, answer) => self.send(alloc, 257, frame, answer),
             Step::SendAt(port, frame, answer) => self.send(alloc, port, frame, answer),

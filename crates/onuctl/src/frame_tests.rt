@@ -202,3 +202,70 @@ fn the_least_table_and_mapper_of_a_port_count_and_a_table_made_again_is_new(
     assert_eq!(rt; written.as_slice(), answers.as_bytes());
     Ok(())
 }
+
+#[test]
+fn a_table_of_the_mapper_of_a_port_counts_where_the_port_has_none(
+    rt: HostRuntime,
+) -> Result<(), Fail> {
+    let tagged = "81000064 08004500";
+    // The entry that pushes VLAN 100, for table 0702.
+    let set = "0007480a00ab0702 0400 f8000000f8000000 000f000000000324";
+    let lesser_mapper = "0008440a00820600 0101 0501050105010501 0501050105010501 010001";
+    let steps = [
+        Ask("0005460a00ab0701", "0005260a00ab0701 00"),
+        Ask("0006440a00ab0702 010601", "0006240a00ab0702 00"),
+        Ask(set, "0007280a00ab0702 00"),
+        Send(UNTAGGED, tagged),
+        // Another mapper is the port's own, and has no table.
+        Ask(lesser_mapper, "0008240a00820600 00"),
+        Send(UNTAGGED, UNTAGGED),
+        Ask("0009460a00820600", "0009260a00820600 00"),
+        Send(UNTAGGED, tagged),
+        // A table of the port stands before it.
+        Ask("0004440a00ab0701 020101", "0004240a00ab0701 00"),
+        Send(UNTAGGED, UNTAGGED),
+        Ask("000a460a00ab0701", "000a260a00ab0701 00"),
+        Ask("000b460a00820601", "000b260a00820601 00"),
+        Send(UNTAGGED, "d 5"),
+    ];
+    let (written, answers) = answered(rt.alloc(), &steps)?;
+    assert_eq!(rt; written.as_slice(), answers.as_bytes());
+    Ok(())
+}
+
+#[test]
+fn of_tables_the_one_of_the_port_counts_and_of_two_of_its_mapper_the_least(
+    rt: HostRuntime,
+) -> Result<(), Fail> {
+    let tagged = "81000064 08004500";
+    let steps = [
+        Ask("0005460a00ab0701", "0005260a00ab0701 00"),
+        Ask("0006440a00ab0702 010601", "0006240a00ab0702 00"),
+        Ask(
+            "0007480a00ab0702 0400 f8000000f8000000 000f000000000324",
+            "0007280a00ab0702 00",
+        ),
+        // A greater and a lesser table of the mapper, and a lesser one of another mapper.
+        Ask("0008440a00ab0703 010601", "0008240a00ab0703 00"),
+        Send(UNTAGGED, tagged),
+        Ask("0009440a00ab0600 010602", "0009240a00ab0600 00"),
+        Send(UNTAGGED, tagged),
+        Ask("000a440a00ab0700 010601", "000a240a00ab0700 00"),
+        Send(UNTAGGED, UNTAGGED),
+        Ask("000b460a00ab0700", "000b260a00ab0700 00"),
+        Send(UNTAGGED, tagged),
+        // A table of the port, of a greater number, and one of another port.
+        Ask("000c440a00ab0705 020102", "000c240a00ab0705 00"),
+        Send(UNTAGGED, tagged),
+        Ask("000d440a00ab0704 020101", "000d240a00ab0704 00"),
+        Send(UNTAGGED, UNTAGGED),
+        // The tag type is that of the table that counts.
+        Ask("000e480a00ab0702 2000 0800", "000e280a00ab0702 00"),
+        Send(UNTAGGED, UNTAGGED),
+        Ask("000f460a00ab0704", "000f260a00ab0704 00"),
+        Send(UNTAGGED, "d 2"),
+    ];
+    let (written, answers) = answered(rt.alloc(), &steps)?;
+    assert_eq!(rt; written.as_slice(), answers.as_bytes());
+    Ok(())
+}

@@ -42,6 +42,8 @@ mod dialogue;
 #[cfg(test)]
 mod frame_tests;
 #[cfg(test)]
+mod get_next_tests;
+#[cfg(test)]
 mod message_tests;
 #[cfg(test)]
 mod tests;

@@ -1,6 +1,6 @@
 //! Replies to messages, byte for byte.
 
-use crate::dialogue::Step::Ask;
+use crate::dialogue::Step::{Ask, Put};
 use crate::dialogue::{Dialogue, answered};
 use std::test::Fail;
 
@@ -50,6 +50,57 @@ fn refusals_have_their_results(rt: HostRuntime) -> Result<(), Fail> {
         let result = if instance == 255 { "01" } else { "00" };
         let reply = format!(in alloc; "0026240a010c{instance:04x}{result}")?;
         dialogue.ask(message.as_str(), reply.as_str())?;
+    }
+    let (written, answers) = dialogue.answered(alloc)?;
+    assert_eq!(rt; written.as_slice(), answers.as_bytes());
+    Ok(())
+}
+
+#[test]
+fn a_table_holds_128_entries_and_overwrites_a_held_key(rt: HostRuntime) -> Result<(), Fail> {
+    let alloc = rt.alloc();
+    let mut dialogue = Dialogue::new(alloc)?;
+    // Of the VIDs from 1 to 126 each has an entry that changes nothing.
+    for vid in 1..=126u32 {
+        let key = 0x8000_0000 + vid * 0x8000;
+        let set = format!(in alloc; "0005480a00ab0701 0400 f8000000{key:08x}000f0000000f0000")?;
+        let taken = "0005280a00ab0701 00";
+        let full = "0005280a00ab0701 01";
+        dialogue.ask(set.as_str(), if vid == 126 { full } else { taken })?;
+    }
+    // That of VID 125 is overwritten.
+    dialogue.take(alloc, Put("f8000000803e8000 c00f0000000f0000"))?;
+    dialogue.ask("0006490a00ab0701 0400", "0006290a00ab0701 00 0400 00000800")?;
+    let (written, answers) = dialogue.answered(alloc)?;
+    assert_eq!(rt; written.as_slice(), answers.as_bytes());
+    Ok(())
+}
+
+#[test]
+fn an_upload_has_the_rows_of_its_moment(rt: HostRuntime) -> Result<(), Fail> {
+    let alloc = rt.alloc();
+    let mut dialogue = Dialogue::new(alloc)?;
+    dialogue.ask("00104d0a00020000", "00102d0a00020000 0007")?;
+    dialogue.ask("0012440a010c0402 0400800103", "0012240a010c0402 00")?;
+    for (number, row) in [
+        ("0000", "0002 0000 8000 04"),
+        (
+            "0001",
+            "0082 0601 ffc0 0101 0501050105010501 0501050105010501 01",
+        ),
+        (
+            "0002",
+            "0082 0601 0038 000000000000000000000000000000000000000000000000 0001",
+        ),
+        ("0003", "00ab 0701 fa00 02008081008100000101"),
+        ("0004", "00ab 0701 0100"),
+        ("0005", "010a 0501 ff00 0401050601"),
+        ("0006", "010c 0401 ffc0 0400800103"),
+        ("0007", ""),
+    ] {
+        let next = format!(in alloc; "00114e0a00020000 {number}")?;
+        let reply = format!(in alloc; "00112e0a00020000 {row}")?;
+        dialogue.ask(next.as_str(), reply.as_str())?;
     }
     let (written, answers) = dialogue.answered(alloc)?;
     assert_eq!(rt; written.as_slice(), answers.as_bytes());

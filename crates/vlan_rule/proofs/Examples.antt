@@ -8,7 +8,7 @@ use Rattle.vlan_rule.specs.declared.put.Put.{Put}
 use Rattle.vlan_rule.specs.declared.put.Put.TheVariants.{Added, Replaced, Deleted, Absent}
 use Rattle.vlan_rule.specs.declared.kind.Kind.TheVariants.{NoTag, OneTagDefault, OneTag, TwoTagDefault, TwoTag}
 use Rattle.vlan_rule.specs.Entry.{refusal_of, kind_of, value_of, number_of, key_of, entry_of}
-use Rattle.vlan_rule.specs.Table.{is_deletion, predefined, put, told_by, left_by, room}
+use Rattle.vlan_rule.specs.Table.{is_deletion, predefined, put, told_by, left_by, table_max_size}
 
 -- what puts are told, one after another, and the entries that they leave
 told_in_turn : List (List ℕ) → List (List ℕ) → List (Result Put TableFault)
@@ -73,13 +73,13 @@ run_of zero vid = []
 run_of (suc n) vid = entry_of (0xf800000080000000 + vid * 32768) 0x000f0000000f0000 ∷ run_of n (vid + 1)
 
 full : List (List ℕ)
-full = left_in_turn predefined (run_of 61 1)
+full = left_in_turn predefined (run_of 125 1)
 
-when_full : told_in_turn full (run_of 1 62 ++ entry_of 0xf8000000801e8000 0xc00f0000000f0000 ∷ []) ≡ Err Full ∷ Ok Replaced ∷ []
+when_full : told_in_turn full (run_of 1 126 ++ entry_of 0xf8000000803e8000 0xc00f0000000f0000 ∷ []) ≡ Err Full ∷ Ok Replaced ∷ []
 unfolding full run_of left_in_turn told_in_turn put key_of is_deletion refusal_of kind_of value_of number_of
 when_full = refl
 
-how_full : length full ≡ room
+how_full : length full ≡ table_max_size
 unfolding full run_of left_in_turn put key_of is_deletion refusal_of kind_of value_of number_of
 how_full = refl
 

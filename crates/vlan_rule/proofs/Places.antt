@@ -8,7 +8,7 @@ use Rattle.std.proofs.lemmas.List.Sums.{fails_before_first}
 use Rattle.vlan_rule.specs.Edit.{IsEditFor, edited}
 use Rattle.vlan_rule.specs.Entry.{key_of, refusal_of}
 use Rattle.vlan_rule.specs.Rule.{IsRuleOf}
-use Rattle.vlan_rule.specs.Table.{holds, is_deletion, left_by, overwritten, put, without}
+use Rattle.vlan_rule.specs.Table.{holds, is_deletion, left_by, overwritten, put, table_max_size, without}
 use Rattle.vlan_rule.specs.declared.edit.Edit.{Edit}
 use Rattle.vlan_rule.specs.declared.edit.Edit.TheVariants as edit
 use Rattle.vlan_rule.specs.declared.fault.RuleFault.{RuleFault}
@@ -104,20 +104,20 @@ put-replaces entries new rule at no_deletion means is =
     let accepted = means.accepted in
     record { possible = (there.in_range, means); change = rw (no_deletion, accepted, held, replaced) refl }
 
-pub put-adds : (entries : List (List ℕ)) (new : List ℕ) (rule : Rule) → is_deletion new ≡ false → IsRuleOf new rule → position (λ e. key_of e == key_of new) entries ≡ None → length entries < 64 → IsEditFor entries new (edit.Add rule)
+pub put-adds : (entries : List (List ℕ)) (new : List ℕ) (rule : Rule) → is_deletion new ≡ false → IsRuleOf new rule → position (λ e. key_of e == key_of new) entries ≡ None → length entries < table_max_size → IsEditFor entries new (edit.Add rule)
 unfolding put
 put-adds entries new rule no_deletion means is free =
     let gone = absent_at (key_of new) entries is in
     let accepted = means.accepted in
-    let below = lt-leb 64 (length entries) free in
+    let below = lt-leb table_max_size (length entries) free in
     record { possible = (free, means); change = rw (no_deletion, accepted, gone, below) refl }
 
-pub put-is_full : (entries : List (List ℕ)) (new : List ℕ) (rule : Rule) → is_deletion new ≡ false → IsRuleOf new rule → position (λ e. key_of e == key_of new) entries ≡ None → 64 ≤ length entries → put entries new ≡ Err Full
+pub put-is_full : (entries : List (List ℕ)) (new : List ℕ) (rule : Rule) → is_deletion new ≡ false → IsRuleOf new rule → position (λ e. key_of e == key_of new) entries ≡ None → table_max_size ≤ length entries → put entries new ≡ Err Full
 unfolding put
 put-is_full entries new rule no_deletion means is full =
     let gone = absent_at (key_of new) entries is in
     let accepted = means.accepted in
-    let above = le-leb 64 (length entries) full in
+    let above = le-leb table_max_size (length entries) full in
     rw (no_deletion, accepted, gone, above) refl
 
 -- an element that is removed from a list that is seen through f

@@ -6,7 +6,7 @@ use Rattle.vlan_rule.specs.declared.edit.Edit.TheVariants as edit
 use Rattle.vlan_rule.specs.declared.put.Put.{Put}
 use Rattle.vlan_rule.specs.declared.put.Put.TheVariants.{Added, Replaced, Deleted, Absent}
 use Rattle.vlan_rule.specs.Rule.{IsRuleOf}
-use Rattle.vlan_rule.specs.Table.{changed, put, room}
+use Rattle.vlan_rule.specs.Table.{changed, put, table_max_size}
 
 -- what is told of an edit
 abbrev pub told_of : Edit → Put
@@ -24,7 +24,7 @@ edited edit.Absent new entries = entries
 
 -- the edit can be done, and what it keeps is the entry's rule
 abbrev pub IsPossible : Edit → List ℕ → List (List ℕ) → Type 0
-IsPossible (edit.Add rule) new entries = (length entries < room) × IsRuleOf new rule
+IsPossible (edit.Add rule) new entries = (length entries < table_max_size) × IsRuleOf new rule
 IsPossible (edit.Replace at rule) new entries = (at < length entries) × IsRuleOf new rule
 IsPossible (edit.Delete at) new entries = at < length entries
 IsPossible edit.Absent new entries = ⊤

@@ -10,9 +10,9 @@ use Rattle.vlan_rule.specs.declared.put.Put.{Put}
 use Rattle.vlan_rule.specs.declared.put.Put.TheVariants.{Added, Replaced, Deleted, Absent}
 use Rattle.vlan_rule.specs.Entry.{entry_of, key_of, refusal_of}
 
--- most entries that a table holds, the predefined ones among them
-abbrev pub room : ℕ
-room = 64
+-- the most entries that a table holds, the predefined ones among them: a choice of this project
+abbrev pub table_max_size : ℕ
+table_max_size = 128
 
 -- whether an entry deletes the entry of its key: its last eight bytes are all 0xFF
 unfoldable pub is_deletion : List ℕ → Bool
@@ -62,7 +62,7 @@ abbrev pub write : Option RuleFault → List ℕ → List (List ℕ) → Result 
 write (Some fault) new entries = Err (Bad fault)
 write None new entries =
     if holds (key_of new) entries then changed Replaced (overwritten new entries)
-    else (if nat_le room (length entries) then Err Full
+    else (if nat_le table_max_size (length entries) then Err Full
     else changed Added (entries ++ new ∷ []))
 
 -- what a put does: it deletes, overwrites in place or appends, or is refused and changes nothing

@@ -60,7 +60,7 @@ pub enum TableFault {
     /// The entry is no deletion and no rule.
     #[error("the entry is no rule: {0}")]
     Bad(RuleFault),
-    /// The table holds 64 entries, and none of them has the entry's key.
+    /// The table holds `TABLE_MAX_SIZE` entries, and none of them has the entry's key.
     #[error("the table is full")]
     Full,
 }

@@ -27,7 +27,7 @@ pub use put::Put;
 pub use rank::Rank;
 pub use rule::Rule;
 pub use settings::TableSettings;
-pub use table::RuleTable;
+pub use table::{RuleTable, TABLE_MAX_SIZE};
 pub use treatment::{
     AddedTag, EligibleSource, PrioritySource, Retag, TpidSource, Treatment, VidSource,
 };

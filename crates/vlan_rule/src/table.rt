@@ -6,7 +6,7 @@ ghost use Rattle.vlan_rule.specs.Edit.{IsEditFor};
 ghost use Rattle.vlan_rule.specs.Entry.{key_of};
 ghost use Rattle.vlan_rule.specs.Meaning.{rank_number, rank_of};
 ghost use Rattle.vlan_rule.specs.Rule.{IsRuleOf};
-ghost use Rattle.vlan_rule.specs.Table.{left_by, predefined, put, told_by};
+ghost use Rattle.vlan_rule.specs.Table.{left_by, predefined, put, table_max_size, told_by};
 
 use crate::edit::Edit;
 use crate::entry::Entry;
@@ -16,8 +16,9 @@ use crate::rule::Rule;
 use std::alloc::{AllocError, Global};
 use std::marker::Model;
 
-// Most entries that a table holds.
-const ROOM: usize = 64;
+/// The most entries that a received frame VLAN tagging operation table holds, the predefined ones
+/// among them (G.988, 9.3.13); a choice of this project.
+pub const TABLE_MAX_SIZE: u16 = 128;
 
 // The entries of a new table.
 const PREDEFINED: [Entry; 3] = [
@@ -44,7 +45,7 @@ impl Row {
 }
 
 /// The received frame VLAN tagging operation table (G.988, 9.3.13): its entries in order, with room
-/// for 64.
+/// for `TABLE_MAX_SIZE` of them.
 #[derive(Drop)]
 pub struct RuleTable {
     pub(crate) rows: Vec<Row>,
@@ -52,12 +53,13 @@ pub struct RuleTable {
 
 impl Model for RuleTable {
     ghost use Rattle.std.specs.Prelude.{List, ℕ, map, vec_capacity, vec_len, ◌≤◌};
+    ghost use Rattle.vlan_rule.specs.Table.{table_max_size};
 
     ghost Value = { List (List ℕ) };
 
     ghost view = { λ table. map (λ row. row.entry.0) table.rows.items };
 
-    ghost invariant = { λ table. (64 ≤ vec_capacity table.rows) × (vec_len table.rows ≤ 64) };
+    ghost invariant = { λ table. (table_max_size ≤ vec_capacity table.rows) × (vec_len table.rows ≤ table_max_size) };
 }
 
 impl RuleTable {
@@ -67,7 +69,7 @@ impl RuleTable {
         ensures { IfOk result (λ table. table ≡ predefined) }
     {
         let mut table = RuleTable {
-            rows: Vec::with_capacity(alloc, ROOM)?,
+            rows: Vec::with_capacity(alloc, TABLE_MAX_SIZE as usize)?,
         };
         table.reset();
         Ok(table)
@@ -108,10 +110,10 @@ impl RuleTable {
         Ok(edit.told())
     }
 
-    /// How many entries it holds, 64 at most.
+    /// How many entries it holds, `TABLE_MAX_SIZE` at most.
     pub fn len(&self) -> usize
         ensures value { result ≡ length self.now }
-        ensures limit { result ≤ 64 }
+        ensures limit { result ≤ table_max_size }
     {
         self.rows.len()
     }
@@ -141,7 +143,7 @@ impl RuleTable {
     }
 
     fn add(&mut self, row: Row)
-        requires { length self.old < 64 }
+        requires { length self.old < table_max_size }
         ensures { self.new ≡ self.old ++ row.entry.0 ∷ [] }
     {
         let _ = self.rows.push(row);
@@ -185,7 +187,7 @@ impl RuleTable {
             Err(fault) => Err(TableFault::Bad(fault)),
             Ok(rule) => match place {
                 Some(at) => Ok(Edit::Replace(at, rule)),
-                None if self.len() < ROOM => Ok(Edit::Add(rule)),
+                None if self.len() < TABLE_MAX_SIZE as usize => Ok(Edit::Add(rule)),
                 None => Err(TableFault::Full),
             },
         }

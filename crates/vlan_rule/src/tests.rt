@@ -1,7 +1,7 @@
 use crate::{
     AddedTag, EligibleSource, Entry, EthertypeFilter, Filter, PriorityFilter, PrioritySource, Put,
-    Rank, Retag, Rule, RuleFault, RuleTable, TableFault, TagFilter, TpidFilter, TpidSource,
-    Treatment, VidFilter, VidSource, law_of_choice,
+    Rank, Retag, Rule, RuleFault, RuleTable, TABLE_MAX_SIZE, TableFault, TagFilter, TpidFilter,
+    TpidSource, Treatment, VidFilter, VidSource, law_of_choice,
 };
 use byteorder::{BigEndian, ByteOrder};
 use std::alloc::Global;
@@ -390,18 +390,21 @@ fn a_deleted_key_set_again_goes_last(rt: HostRuntime) -> Result<(), Fail> {
 #[test]
 fn a_full_table_takes_only_the_keys_that_it_holds(rt: HostRuntime) -> Result<(), Fail> {
     let mut table = RuleTable::new(rt.alloc())?;
-    for vid in 1..62 {
+    for vid in 1..126 {
         let put = table.put(entry(0xf8000000_80000000 + vid * 32768, UNCHANGED));
         assert_eq!(rt; put, Ok(Put::Added), "VID {vid}");
     }
-    assert_eq!(rt; table.len(), 64);
-    let one_more = entry(0xf8000000_801f0000, UNCHANGED);
+    assert_eq!(rt; table.len(), 128);
+    assert_eq!(rt; TABLE_MAX_SIZE, 128);
+    let one_more = entry(0xf8000000_803f0000, UNCHANGED);
     assert_eq!(rt; table.check(&one_more), Err(TableFault::Full));
     assert_eq!(rt; table.put(one_more), Err(TableFault::Full));
-    let held = entry(0xf8000000_801e8000, DROPPED);
+    assert_eq!(rt; table.len(), 128);
+    assert_eq!(rt; table.entry(128), None);
+    let held = entry(0xf8000000_803e8000, DROPPED);
     assert_eq!(rt; table.put(held), Ok(Put::Replaced));
-    assert_eq!(rt; table.entry(63), Some(held));
-    assert_eq!(rt; table.len(), 64);
+    assert_eq!(rt; table.entry(127), Some(held));
+    assert_eq!(rt; table.len(), 128);
     table.reset();
     assert_eq!(rt; table.len(), 3);
     assert_eq!(rt; table.entry(0), Some(entry(0xf0000000_f0000000, UNCHANGED)));

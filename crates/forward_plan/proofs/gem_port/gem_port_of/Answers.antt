@@ -14,5 +14,5 @@ returns-in_err-point c = λ n. let is_pointer = c.pointer_of.ensures n in search
 pub returns : goal.returns
 returns c = λ n.
     c.gem_port_behind.ensures c.in_ok-pointer.pointer
-    ∙ sym (of_some c.args.mib.now _ c.args.priority c.in_ok-pointer.pointer _ (rw c.in_ok-pointer.ensures.ok_part at (sym (c.pointer_of.ensures n)))
+    ∙ sym (of_some c.args.mib.now.entities _ c.args.priority c.in_ok-pointer.pointer _ (rw c.in_ok-pointer.ensures.ok_part at (sym (c.pointer_of.ensures n)))
     (sym (rw c.in_ok-point.ensures.ok_part at c.interwork.ensures)))

@@ -1,6 +1,6 @@
 use Rattle.std.proofs.Common.{sym, ◌∙◌}
-use Rattle.mib_state.proofs.Written.{table_at-get_or}
-use Rattle.mib_state.proofs.Returned.{table_past}
+use Rattle.managed_entity.proofs.Written.{table_at-get_or}
+use Rattle.managed_entity.proofs.Returned.{table_past}
 use Rattle.mib_state.proofs.instances.is_table.Goals as goal
 
 pub returns-then-place-layout : goal.returns-then-place-layout

@@ -1,5 +1,5 @@
 use Rattle.std.proofs.Common.{ap, Some, ◌∙◌}
-use Rattle.mib_state.specs.Shown.{vlan_instance}
+use Rattle.managed_entity.specs.Shown.{vlan_instance}
 use Rattle.forward_plan.specs.Meaning.{Table}
 use Rattle.forward_plan.proofs.Tables.{at_some}
 use Rattle.forward_plan.proofs.table.PortTable.at.Goals as goal
@@ -8,4 +8,4 @@ pub returns : goal.returns
 returns c =
     let n = c.in_ok-instance.instance in
     let vlan = vlan_instance n c.in_ok-vlan.vlan.now in
-    ap (λ (t : Table). Some t) (c.of.ensures n) ∙ at_some c.args.mib.now c.args.port n vlan c.in_ok-instance.ensures c.in_ok-vlan.ensures
+    ap (λ (t : Table). Some t) (c.of.ensures n) ∙ at_some c.args.mib.now.entities c.args.port n vlan c.in_ok-instance.ensures c.in_ok-vlan.ensures

@@ -2,7 +2,7 @@ use Rattle.std.proofs.Common.{◌<◌, ◌≤◌, length, sym, ap, subst, arith,
 use Rattle.std.proofs.lemmas.List.{length-map}
 use Rattle.std.proofs.lemmas.Bool.{eqb-true, eqb-false}
 use Rattle.mib_state.specs.Entities.{IsAscending}
-use Rattle.mib_state.specs.Answer.{outcome_of}
+use Rattle.managed_entity.specs.Answer.{outcome_of}
 use Rattle.mib_state.specs.Step.{create_in}
 use Rattle.mib_state.proofs.Edits.{create_exists, create_full, create_done}
 use Rattle.mib_state.proofs.instances.Instances.check_create.Goals as goal

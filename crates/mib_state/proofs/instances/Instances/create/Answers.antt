@@ -1,7 +1,7 @@
 use Rattle.std.proofs.Common.{◌≡◌, ◌<◌, ◌≤◌, length, is_ok, true, sym, ap, subst, arith}
 use Rattle.std.proofs.lemmas.List.{length-map}
 use Rattle.mib_state.specs.Entities.{IsAscending}
-use Rattle.mib_state.specs.Answer.{left_by}
+use Rattle.managed_entity.specs.Answer.{left_by}
 use Rattle.mib_state.proofs.Place.{map-insert, ascending_insert}
 use Rattle.mib_state.proofs.Edits.{create_usual, create_exists, create_full, create_done}
 use Rattle.mib_state.proofs.instances.Instances.create.Goals as goal

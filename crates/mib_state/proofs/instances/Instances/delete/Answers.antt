@@ -1,6 +1,6 @@
 use Rattle.std.proofs.Common.{◌≡◌, is_ok, true, sym, ap, subst, arith}
 use Rattle.mib_state.specs.Entities.{IsAscending}
-use Rattle.mib_state.specs.Answer.{left_by}
+use Rattle.managed_entity.specs.Answer.{left_by}
 use Rattle.mib_state.proofs.Place.{map-remove, ascending_remove}
 use Rattle.mib_state.proofs.Edits.{delete_found, delete_missing}
 use Rattle.mib_state.proofs.instances.Instances.delete.Goals as goal

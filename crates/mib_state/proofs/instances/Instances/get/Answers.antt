@@ -1,6 +1,6 @@
 use Rattle.std.proofs.Common.{Some, sym, ap, ◌∙◌}
 use Rattle.mib_state.specs.declared.instances.Row.{Row}
-use Rattle.mib_state.specs.Entities.{Instance, shown_as}
+use Rattle.managed_entity.specs.Instance.{Instance, shown_as}
 use Rattle.mib_state.proofs.Place.{find_gap}
 use Rattle.mib_state.proofs.Edits.{find_shown, shown_number}
 use Rattle.mib_state.proofs.instances.Instances.get.Goals as goal

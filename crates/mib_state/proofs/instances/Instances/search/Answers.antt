@@ -1,6 +1,6 @@
 use Rattle.std.proofs.Common.{rules, refl}
 use Rattle.std.proofs.lemmas.List.Sorted.{answers_always}
-use Rattle.mib_state.specs.Entities.{shown_as}
+use Rattle.managed_entity.specs.Instance.{shown_as}
 use Rattle.mib_state.proofs.Place.{searched}
 use Rattle.mib_state.proofs.instances.Instances.search.Goals as goal
 

@@ -1,7 +1,7 @@
 use Rattle.std.proofs.Common.{drop, [], ◌∷◌}
-use Rattle.mib_state.specs.Class.{onu_data_layout}
-use Rattle.mib_state.specs.Step.{mask_of}
-use Rattle.mib_state.proofs.Setting.{written_as}
+use Rattle.managed_entity.specs.Class.{onu_data_layout}
+use Rattle.managed_entity.specs.Mask.{mask_of}
+use Rattle.managed_entity.proofs.SetInstance.{written_as}
 use Rattle.mib_state.proofs.Sync.{sync_accepted, sync_written}
 use Rattle.mib_state.proofs.onu_data.OnuData.set.Goals as goal
 

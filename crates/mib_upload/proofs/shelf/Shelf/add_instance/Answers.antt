@@ -1,14 +1,13 @@
 use Rattle.std.proofs.Common.{◌≤◌, sym, arith}
-use Rattle.mib_state.specs.Entities.{find, instances_of}
 use Rattle.mib_upload.proofs.Reading.{keeps_first, keeps_none, keeps_some, one_more}
 use Rattle.mib_upload.proofs.shelf.Shelf.add_instance.Goals as goal
 use Rattle.mib_upload.proofs.shelf.Shelf.add_instance.Goals.{in-Some, in_default}
 
 pub loop-n-init : goal.loop-n-init
-loop-n-init c = rw c.begin-row.ensures (keeps_first c.args.class c.args.number (find c.args.number (instances_of c.args.mib.now c.args.class)) c.args.self.now)
+loop-n-init c = rw (c.begin-row.ensures, c.class.ensures, c.number.ensures) (keeps_first c.args.held.now.class c.args.held.now.instance c.args.self.now)
 
 pub add_attribute-requires-clause-room : goal.add_attribute-requires-clause-room
-add_attribute-requires-clause-room c = omega (arith, one_more _ _ _ _ _ _ _ c.loop-n.invariant, c.requires)
+add_attribute-requires-clause-room c = omega (arith, one_more _ _ _ _ _ _ c.loop-n.invariant, c.requires)
 
 pub loop-n-preserved : goal.loop-n-preserved
 loop-n-preserved c =
@@ -16,8 +15,8 @@ loop-n-preserved c =
     elim c.match-attribute.branch [
       | in-Some w ↦
           rw (w.self-is, w.row-is) (
-          keeps_some _ _ _ _ _ _ _ c.loop-n.invariant last w.deref.result.now
+          keeps_some _ _ _ _ _ _ c.loop-n.invariant last w.deref.result.now
           (rw w.deref.ensures.0 (sym w.in-Some.ensures.value)) (rw w.deref.ensures.0 w.in-Some.ensures.width)
           w.add_attribute.new.self w.add_attribute.new.row w.add_attribute.ensures.rows w.add_attribute.ensures.room w.add_attribute.ensures.mask (omega (arith, w.deref.ensures.1)))
-      | in_default w ↦ rw (w.self-is, w.row-is) (keeps_none _ _ _ _ _ _ _ c.loop-n.invariant last (sym w.in_default.ensures.value))
+      | in_default w ↦ rw (w.self-is, w.row-is) (keeps_none _ _ _ _ _ _ c.loop-n.invariant last (sym w.in_default.ensures.value))
     ]

@@ -1,4 +1,5 @@
 use Rattle.std.proofs.Common.{◌≤◌, ◌<◌, length, sym, ◌∙◌, arith}
+use Rattle.vlan_rule.specs.Table.{table_max_size}
 use Rattle.vlan_rule.proofs.Places.{put-adds, put-deletes, put-finds-none, put-is_full, put-refuses, put-replaces}
 use Rattle.vlan_rule.proofs.table.RuleTable.edit.Goals as goal
 
@@ -20,10 +21,10 @@ returns-in-Some-place c =
 
 pub returns-in-None-place : goal.returns-in-None-place
 returns-in-None-place c =
-    let free : length c.args.self.now < 64 = omega arith in
+    let free : length c.args.self.now < table_max_size = omega arith in
     put-adds c.args.self.now c.args.entry.now.0 c.in-Ok.rule (sym c.is_deletion.ensures ∙ c.if-is_deletion.false) c.in-Ok.ensures (sym c.in-None-place.ensures) free
 
 pub returns-in-None-2 : goal.returns-in-None-2
 returns-in-None-2 c =
-    let full : 64 ≤ length c.args.self.now = omega arith in
+    let full : table_max_size ≤ length c.args.self.now = omega arith in
     put-is_full c.args.self.now c.args.entry.now.0 c.in-Ok.rule (sym c.is_deletion.ensures ∙ c.if-is_deletion.false) c.in-Ok.ensures (sym c.in-None-2.ensures) full

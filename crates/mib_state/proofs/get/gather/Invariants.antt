@@ -1,6 +1,0 @@
-use Rattle.mib_state.specs.Step.{returned_values}
-use Rattle.mib_state.proofs.Gathered.{Keeps}
-use Rattle.mib_state.proofs.get.gather.Given as goal
-
-abbrev pub invariant-loop-place : goal.invariant-loop-place
-invariant-loop-place g l = Keeps l.mask (returned_values g.E.ManagedEntity.layout (g.E.ManagedEntity.values l.entity) (g.E.ManagedEntity.entries l.entity)) l.place l.returned l.left_out l.bytes.items

@@ -1,0 +1,76 @@
+use crate::Mib;
+use omci_msg::{Action, Request};
+use std::alloc::{AllocError, Global};
+use std::test::Fail;
+
+/// The creation of an instance, whose contents begin with these bytes.
+fn create(class: u16, instance: u16, bytes: &[u8]) -> Request {
+    let mut contents = [0; 32];
+    for (to, from) in contents.iter_mut().zip(bytes) {
+        *to = *from;
+    }
+    Request {
+        tci: 1,
+        action: Action::Create,
+        wants_answer: true,
+        class,
+        instance,
+        contents,
+    }
+}
+
+/// One instance of each class but GEM port network CTP, of which there are two, made in descending order.
+fn set_up(alloc: Global) -> Result<Mib, AllocError> {
+    let mut mib = Mib::new(alloc)?;
+    let _ = mib.step(&create(268, 0x0402, &[4, 1, 0x80, 1, 3]));
+    let _ = mib.step(&create(268, 0x0401, &[4, 0, 0x80, 1, 3]));
+    let _ = mib.step(&create(266, 0x0501, &[4, 1, 5, 6, 1]));
+    let _ = mib.step(&create(130, 0x0601, &[1, 1, 5, 1, 5, 2, 5, 3]));
+    let _ = mib.step(&create(171, 0x0701, &[2, 1, 1]));
+    Ok(mib)
+}
+
+#[test]
+fn instances_are_lent_by_ascending_number(rt: HostRuntime) -> Result<(), Fail> {
+    let mib = set_up(rt.alloc())?;
+    for (class, place, number, n, wanted) in [
+        (2, 0, 0, 1, [5].as_slice()),
+        (130, 0, 0x0601, 4, [5, 3].as_slice()),
+        (171, 0, 0x0701, 2, [0, 128].as_slice()),
+        (171, 0, 0x0701, 7, [1, 1].as_slice()),
+        (266, 0, 0x0501, 1, [4, 1].as_slice()),
+        (268, 0, 0x0401, 1, [4, 0].as_slice()),
+        (268, 1, 0x0402, 1, [4, 1].as_slice()),
+    ] {
+        let held = mib.instance_at(class, place).ok_or("it is not held")?;
+        assert_eq!(rt;
+            (held.class(), held.number()),
+            (class, number),
+            "place {place} of {class}"
+        );
+        let shown = held.attribute(n);
+        assert_eq!(rt;
+            shown.as_ref().map(|bytes| bytes.as_slice()),
+            Some(wanted),
+            "attribute {n} at place {place} of {class}"
+        );
+    }
+    for (class, place) in [(2, 1), (130, 1), (171, 1), (266, 1), (268, 2), (45, 0)] {
+        assert_eq!(rt;
+            mib.instance_at(class, place).is_none(),
+            true,
+            "place {place} of {class}"
+        );
+    }
+    Ok(())
+}
+
+#[test]
+fn a_table_and_what_a_class_has_not_have_no_bytes(rt: HostRuntime) -> Result<(), Fail> {
+    let mib = set_up(rt.alloc())?;
+    let held = mib.instance_at(171, 0).ok_or("it is not held")?;
+    for (n, what) in [(0, "attribute 0"), (6, "the table"), (9, "attribute 9")] {
+        assert_eq!(rt; held.attribute(n).is_none(), true, "{what} has no bytes");
+    }
+    Ok(())
+}
