@@ -1,4 +1,5 @@
 pub mod Tags
+pub mod Words
 pub mod Readings
 pub mod Bytes
 pub mod Groups

@@ -28,7 +28,7 @@ pub control_joined : (type p v q d : ℕ) (dei : Bool) → q ≡ p → d ≡ boo
 control_joined type p v q d dei same bit hp hv = rw (same, bit) (joined_control type p v dei hp hv)
 
 -- the bit that a test of it gives
-bit_back : (m : ℕ) → m < 2 → (if m == 1 then 1 else 0) ≡ m
+pub bit_back : (m : ℕ) → m < 2 → (if m == 1 then 1 else 0) ≡ m
 bit_back zero h = refl
 bit_back (suc zero) h = refl
 bit_back (suc (suc m)) h = absurd (omega arith)
@@ -93,7 +93,7 @@ fields_back : (type p v : ℕ) (dei : Bool) → p < 2 ^ 3 → v < 2 ^ 12 →
 fields_back type p v true hp hv = (omega arith, eq-eqb _ _ (omega arith), omega arith)
 fields_back type p v false hp hv = (omega arith, ne_eqb _ _ (λ e. omega arith), omega arith)
 
-same_fields : (type p v type' p' v' : ℕ) (dei dei' : Bool) → type' ≡ type → p' ≡ p → dei' ≡ dei → v' ≡ v →
+pub same_fields : (type p v type' p' v' : ℕ) (dei dei' : Bool) → type' ≡ type → p' ≡ p → dei' ≡ dei → v' ≡ v →
     let tag : TagFields = record { tpid = type'; pcp = p'; dei = dei'; vid = v' } in tag ≡ record { tpid = type; pcp = p; dei = dei; vid = v }
 same_fields type p v type' p' v' dei dei' e f g h = rw (e, f, g, h) refl
 

@@ -2,3 +2,4 @@ pub mod Tag
 pub mod Frame
 pub mod Fault
 pub mod Dscp
+pub mod Word

@@ -33,6 +33,7 @@ impl Tag {
     ghost use Rattle.std.specs.Prelude.{◌≡◌, ◌≤◌, length};
     ghost use Rattle.tag_view.specs.Tag.{control_of, tag_bytes};
     ghost use Rattle.tag_view.specs.Frame.{tag_at};
+    ghost use Rattle.tag_view.specs.Word.{tag_of, word_of};
 
     /// The tag in the first four bytes.
     pub(crate) fn read(bytes: &[u8]) -> Tag
@@ -63,5 +64,27 @@ impl Tag {
         BigEndian::write_u16(&mut bytes[..2], self.tpid);
         BigEndian::write_u16(&mut bytes[2..], self.control());
         bytes
+    }
+
+    /// The four bytes of the tag as one number, the first of them its highest.
+    #[inline(always)]
+    pub fn word(&self) -> u32
+        ensures { result ≡ word_of self.now }
+    {
+        u32::from(self.tpid) << 16 | u32::from(self.control())
+    }
+
+    /// The tag whose four bytes are these, the first of them the highest: every number of 32 bits is
+    /// that of one tag.
+    #[inline(always)]
+    pub fn of_word(word: u32) -> Tag
+        ensures { result ≡ tag_of word }
+    {
+        Tag {
+            tpid: (word >> 16) as u16,
+            pcp: (word >> 13 & 7) as u8,
+            dei: word >> 12 & 1 == 1,
+            vid: (word & 0x0fff) as u16,
+        }
     }
 }
