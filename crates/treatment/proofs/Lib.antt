@@ -1,2 +1,6 @@
-mod Tags
+pub mod Tags
+mod Fields
+mod Mixes
+mod Compiling
+pub mod Sources
 mod Examples

@@ -1,2 +1,4 @@
 pub mod Treatment
 pub mod Treated
+pub mod Mix
+pub mod Compiled

@@ -1,8 +1,9 @@
-use crate::{Treated, treat};
+use crate::{Treat, Treated, treat};
 use arrayvec::ArrayVec;
+use std::process::Abort;
 use std::test::Fail;
 use tag_view::{DscpMap, view};
-use vlan_rule::{Entry, Rule, TableSettings};
+use vlan_rule::{Entry, Rule, RuleFault, TableSettings};
 
 /// DSCP 46 has priority 5, and all others 0.
 const SETTINGS: TableSettings = TableSettings {
@@ -26,13 +27,17 @@ const TWO_TAGS: &[u8] = &[
     0x45, 0xb8,
 ];
 
-/// The tags that a frame leaves with, each by its four bytes, or None where it is dropped. The entry is
-/// one for all untagged frames, with these last eight bytes.
-fn treated(treatments: u64, frame: &[u8]) -> Result<Option<ArrayVec<u32, 4>>, Fail> {
+/// The rule of an entry for all untagged frames, with these last eight bytes.
+fn rule(treatments: u64) -> Result<Rule, RuleFault> {
     let mut entry = [0; 16];
     entry[..8].copy_from_slice(&[0xf8, 0, 0, 0, 0xf8, 0, 0, 0]);
     entry[8..].copy_from_slice(&treatments.to_be_bytes());
-    let rule = Rule::read(&Entry(entry))?;
+    Rule::read(&Entry(entry))
+}
+
+/// The tags that a frame leaves with, each by its four bytes, or None where it is dropped.
+fn treated(treatments: u64, frame: &[u8]) -> Result<Option<ArrayVec<u32, 4>>, Fail> {
+    let rule = rule(treatments)?;
     let frame = view(frame, 0x8100)?;
     let Treated::Tags(tags) = treat(&rule, &SETTINGS, &frame) else {
         return Ok(None);
@@ -42,6 +47,49 @@ fn treated(treatments: u64, frame: &[u8]) -> Result<Option<ArrayVec<u32, 4>>, Fa
         let _ = all.try_push(u32::from_be_bytes(tag.bytes()));
     }
     Ok(Some(all))
+}
+
+/// The same by the compiled treatment. Of the DSCP it is told only where it asks for it.
+fn compiled(treatments: u64, frame: &[u8]) -> Result<Option<ArrayVec<u32, 4>>, Fail> {
+    let rule = rule(treatments)?;
+    let frame = view(frame, 0x8100)?;
+    let Some(treat) = Treat::of(&rule.treatment, &SETTINGS, frame.tags().len()) else {
+        return Ok(None);
+    };
+    let (first, last) = match frame.tags() {
+        [] => (Treat::NO_TAG, Treat::NO_TAG),
+        [only] => (only.word(), only.word()),
+        [first, .., last] => (first.word(), last.word()),
+    };
+    let priority = match frame.dscp() {
+        Some(dscp) if treat.uses_dscp() => SETTINGS.dscp_map.get(dscp),
+        _ => 0,
+    };
+    let words = treat.words(first, last, priority);
+    let mut all = ArrayVec::new();
+    for word in &words[..treat.count()] {
+        let _ = all.try_push(*word);
+    }
+    Ok(Some(all))
+}
+
+/// Ends the test where a frame doesn't leave with these tags, by the treatment as it stands or compiled.
+fn expect(
+    rt: &impl Abort,
+    what: &str,
+    treatments: u64,
+    frame: &[u8],
+    want: Option<&[u32]>,
+) -> Result<(), Fail> {
+    let tags = treated(treatments, frame)?;
+    assert_eq!(rt; tags.as_ref().map(|t| t.as_slice()), want, "{what}");
+    let tags = compiled(treatments, frame)?;
+    assert_eq!(rt;
+        tags.as_ref().map(|t| t.as_slice()),
+        want,
+        "{what}, compiled"
+    );
+    Ok(())
 }
 
 #[test]
@@ -122,24 +170,11 @@ fn each_code_adds_its_tag_in_front_of_those_received(rt: HostRuntime) -> Result<
     ];
     for (what, inner, [none, one, two]) in rows {
         let treatments = 0x000f0000_00000000 + inner;
-        let tags = treated(treatments, UNTAGGED)?;
-        assert_eq!(rt;
-            tags.as_ref().map(|t| t.as_slice()),
-            Some(&[none][..]),
-            "{what}, no tag"
-        );
-        let tags = treated(treatments, ONE_TAG)?;
-        assert_eq!(rt;
-            tags.as_ref().map(|t| t.as_slice()),
-            Some(&[one, 0x88a87064][..]),
-            "{what}, one tag"
-        );
-        let tags = treated(treatments, TWO_TAGS)?;
-        assert_eq!(rt;
-            tags.as_ref().map(|t| t.as_slice()),
-            Some(&[two, 0x88a87064, 0x8100c0c8][..]),
-            "{what}, two tags"
-        );
+        let one_left = &[one, 0x88a87064][..];
+        let two_left = &[two, 0x88a87064, 0x8100c0c8][..];
+        expect(&rt, what, treatments, UNTAGGED, Some(&[none][..]))?;
+        expect(&rt, what, treatments, ONE_TAG, Some(one_left))?;
+        expect(&rt, what, treatments, TWO_TAGS, Some(two_left))?;
     }
     Ok(())
 }
@@ -160,28 +195,18 @@ fn tags_are_removed_from_the_outermost_on(rt: HostRuntime) -> Result<(), Fail> {
         ("two", 0x800f0000_000f0000, &[][..], &[][..], &[][..]),
     ];
     for (what, treatments, none, one, two) in rows {
-        let tags = treated(treatments, UNTAGGED)?;
-        assert_eq!(rt;
-            tags.as_ref().map(|t| t.as_slice()),
-            Some(none),
-            "{what} of none"
-        );
-        let tags = treated(treatments, ONE_TAG)?;
-        assert_eq!(rt;
-            tags.as_ref().map(|t| t.as_slice()),
-            Some(one),
-            "{what} of one"
-        );
-        let tags = treated(treatments, TWO_TAGS)?;
-        assert_eq!(rt;
-            tags.as_ref().map(|t| t.as_slice()),
-            Some(two),
-            "{what} of two"
-        );
+        expect(&rt, what, treatments, UNTAGGED, Some(none))?;
+        expect(&rt, what, treatments, ONE_TAG, Some(one))?;
+        expect(&rt, what, treatments, TWO_TAGS, Some(two))?;
     }
     for frame in [UNTAGGED, ONE_TAG, TWO_TAGS] {
-        let tags = treated(0xc00f0000_000f0000, frame)?;
-        assert!(rt; tags.is_none(), "three are to be removed");
+        expect(
+            &rt,
+            "three are to be removed",
+            0xc00f0000_000f0000,
+            frame,
+            None,
+        )?;
     }
     Ok(())
 }
@@ -216,8 +241,7 @@ fn the_added_outer_tag_stands_before_the_added_inner_tag(rt: HostRuntime) -> Res
         ),
     ];
     for (what, treatments, frame, want) in rows {
-        let tags = treated(treatments, frame)?;
-        assert_eq!(rt; tags.as_ref().map(|t| t.as_slice()), Some(want), "{what}");
+        expect(&rt, what, treatments, frame, Some(want))?;
     }
     Ok(())
 }
@@ -280,11 +304,36 @@ fn worked_frames_leave_with_their_tags(rt: HostRuntime) -> Result<(), Fail> {
         ),
     ];
     for (what, treatments, frame, want) in rows {
-        let tags = treated(treatments, frame)?;
-        assert_eq!(rt; tags.as_ref().map(|t| t.as_slice()), Some(want), "{what}");
+        expect(&rt, what, treatments, frame, Some(want))?;
     }
     for frame in [voice, double] {
-        assert!(rt; treated(0xc00f0000_000f0000, frame)?.is_none(), "dropped");
+        expect(&rt, "dropped", 0xc00f0000_000f0000, frame, None)?;
+    }
+    Ok(())
+}
+
+#[test]
+fn a_compiled_treatment_asks_for_the_dscp_where_a_tag_takes_its_priority(
+    rt: HostRuntime,
+) -> Result<(), Fail> {
+    let rows = [
+        ("no tag is added", 0x000f0000_000f0000, false),
+        ("a fixed priority", 0x000f0000_00000324, false),
+        ("that of a received tag", 0x00080644_00090644, false),
+        ("the inner tag's is the DSCP's", 0x000f0000_000a0324, true),
+        ("the outer tag's is the DSCP's", 0x000a0324_000f0000, true),
+        ("the inner of two is the DSCP's", 0x00010966_000a0324, true),
+    ];
+    for (what, treatments, want) in rows {
+        let rule = rule(treatments)?;
+        for received in 0..3 {
+            let treat = Treat::of(&rule.treatment, &SETTINGS, received);
+            assert_eq!(rt;
+                treat.map(|t| t.uses_dscp()),
+                Some(want),
+                "{what}, {received} tags"
+            );
+        }
     }
     Ok(())
 }
