@@ -1,6 +1,5 @@
 //! Compiled treatments.
-ghost use Rattle.std.specs.Prelude.{◌≡◌, ◌≤◌, ◌<◌, ◌+◌, ◌++◌, IfSome, IsTrue, List, ℕ, Option, Some, map, take};
-ghost use Rattle.std.specs.Prelude.{length};
+ghost use Rattle.std.specs.Prelude.{◌≡◌, ◌≤◌, ◌<◌, ◌+◌, ◌++◌, IfSome, IsTrue, List, ℕ, Option, Some, length, map, take};
 ghost use Rattle.tag_view.specs.Tag.{TagFields};
 ghost use Rattle.tag_view.specs.Word.{tag_of};
 ghost use Rattle.vlan_rule.specs.Meaning.{addition_fits, treatment_fits, treatment_of};
