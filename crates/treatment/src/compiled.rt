@@ -83,8 +83,8 @@ impl Treat {
         }
     }
 
-    /// Whether the priority of a frame's DSCP has a part in any tag. Where it hasn't, `words` gives the
-    /// same whatever priority it is handed.
+    /// Whether a tag has the priority of the frame's DSCP. Where none has, the words that `words` means
+    /// are the same whatever priority it is handed.
     pub fn uses_dscp(&self) -> bool
         ensures { result ≡ asks_dscp self.now }
     {
@@ -103,8 +103,9 @@ impl Treat {
     }
 
     /// The words of the tags that a frame leaves with, outermost first, of the words of its first and its
-    /// last received tag and the priority that the table's mapping has for its DSCP (0 without one). Of the
-    /// four words the first `count` are meant; the others have no meaning.
+    /// last received tag (`NO_TAG` for both where it has none) and the priority that the table's mapping has
+    /// for its DSCP (0 without one). Of the four words the first `count` are meant; the others have no
+    /// meaning.
     #[inline(always)]
     pub fn words(&self, first: u32, last: u32, priority: u8) -> [u32; 4]
         ensures value { result ≡ words_by self.now.mixes first last priority }
