@@ -1,0 +1,45 @@
+-- The head of a frame: the tags that are read, and the type behind them. A tag is here also one
+-- number, the word of its four bytes (IEEE 802.1Q, 9.6).
+use Rattle.std.specs.Prelude.{ℕ, ◌+◌, ◌*◌, ◌/◌, ◌%◌, ◌^◌, List, [], ◌∷◌, Result, Ok, Err, ◌==◌, false, zero, suc}
+use Rattle.tag_view.specs.Tag.{TagFields, control_of}
+use Rattle.tag_view.specs.Frame.{Reading, frame_of, type_at}
+use Rattle.tag_view.specs.declared.fault.FrameFault.{FrameFault}
+
+-- what the filters of an entry look at
+pub record FrameHead : Type 0 where
+  -- outermost first
+  pub tags : List TagFields
+  pub type : ℕ
+
+-- the head of a frame that is read
+abbrev pub head_of : Reading → FrameHead
+head_of reading = record { tags = reading.tags; type = type_at 0 reading.rest }
+
+-- of a reading or a fault
+abbrev pub head_in : Result Reading FrameFault → Result FrameHead FrameFault
+head_in (Ok reading) = Ok (head_of reading)
+head_in (Err fault) = Err fault
+
+-- the head of the frame that some bytes are, or the frame's first fault
+abbrev pub head_read : ℕ → List ℕ → Result FrameHead FrameFault
+head_read input bytes = head_in (frame_of input bytes)
+
+-- ---- words
+
+-- the word of a tag
+abbrev pub word_of : TagFields → ℕ
+word_of tag = tag.tpid * 2 ^ 16 + control_of tag
+
+-- the tag of a word
+abbrev pub tag_of : ℕ → TagFields
+tag_of word = record { tpid = word / 2 ^ 16; pcp = word / 2 ^ 13 % 2 ^ 3; dei = word / 2 ^ 12 % 2 == 1; vid = word % 2 ^ 12 }
+
+-- what stands for a tag that isn't there
+abbrev pub no_tag : TagFields
+no_tag = record { tpid = 0x8100; pcp = 0; dei = false; vid = 0 }
+
+-- none, the second or both of two tags: of a frame with one tag this is the outer and the inner one
+abbrev pub last_tags : ℕ → TagFields → TagFields → List TagFields
+last_tags zero outer inner = []
+last_tags (suc zero) outer inner = inner ∷ []
+last_tags (suc (suc n)) outer inner = outer ∷ inner ∷ []

@@ -1,0 +1,11 @@
+pub mod Built
+pub mod CodeMasks
+pub mod Codes
+pub mod Filters
+pub mod Head
+pub mod Kinds
+pub mod Masks
+pub mod Order
+pub mod Readers
+pub mod TagMasks
+pub mod Vids

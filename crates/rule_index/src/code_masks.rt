@@ -1,0 +1,127 @@
+//! Masks by what a tag has beside its VID: its priority, its TPID and its DEI.
+ghost use Rattle.std.specs.Prelude.{◌≡◌, ◌<◌, ◌≤◌, ◌+◌, ◌/◌, ◌%◌, ◌==◌, ◌^◌, ◌++◌, ◌∷◌, [], ℕ, List, length, map, slice_index_or};
+ghost use Rattle.rule_index.specs.Head.{tag_of};
+ghost use Rattle.vlan_rule.specs.declared.filter.TagFilter.{TagFilter};
+ghost use Rattle.rule_index.specs.Masks.{AreGroups};
+ghost use Rattle.rule_index.specs.Filters.{code_of, priority_key, tpid_key};
+ghost use Rattle.rule_index.specs.Codes.{joined_code, joined_priority, joined_tpid, only_if, AreCodes};
+
+use crate::bit::set_bit;
+use vlan_rule::{PriorityFilter, TagFilter, TpidFilter};
+
+// The key of a filter for a priority.
+fn priority_key(filter: PriorityFilter) -> usize
+    ensures value { result ≡ priority_key filter }
+    ensures bound { result < 10 }
+{
+    match filter {
+        PriorityFilter::Any => 8,
+        PriorityFilter::Exactly(pcp) if pcp < 8 => usize::from(pcp),
+        PriorityFilter::Exactly(_) => 9,
+    }
+}
+
+// The key of a filter for a TPID and a DEI.
+fn tpid_key(filter: TpidFilter) -> usize
+    ensures value { result ≡ tpid_key filter }
+    ensures bound { result < 5 }
+{
+    match filter {
+        TpidFilter::Any => 0,
+        TpidFilter::Standard => 1,
+        TpidFilter::Input => 2,
+        TpidFilter::InputNotEligible => 3,
+        TpidFilter::InputEligible => 4,
+    }
+}
+
+// The code of the tag of a word: its TPID by whether it is 0x8100 and whether it is the input TPID, its
+// priority and its DEI.
+#[inline(always)]
+pub(crate) fn code_of(tag: u32, input_tpid: u16) -> usize
+    ensures value { result ≡ code_of input_tpid (tag_of tag) }
+    ensures bound { result < 64 }
+{
+    usize::from(tag >> 16 == 0x8100) * 32
+        + usize::from(tag >> 16 == u32::from(input_tpid)) * 16
+        + (tag >> 12 & 15) as usize
+}
+
+// A mask, or that of no entry.
+fn only_if(condition: bool, mask: u128) -> u128
+    ensures { result ≡ only_if condition mask }
+{
+    if condition { mask } else { 0 }
+}
+
+// The mask of a TPID and a DEI from those by key.
+fn joined_tpid(masks: &[u128; 5], standard: bool, input: bool, dei: bool) -> u128
+    ensures { result ≡ joined_tpid masks.now standard input dei }
+{
+    masks[0]
+        | only_if(standard, masks[1])
+        | only_if(input, masks[2])
+        | only_if(input && !dei, masks[3])
+        | only_if(input && dei, masks[4])
+}
+
+// The mask of a code from those by key.
+fn joined_code(priorities: &[u128; 10], tpids: &[u128; 5], code: usize) -> u128
+    requires { code < 64 }
+    ensures { result ≡ joined_code priorities.now tpids.now code }
+{
+    let mask = priorities[8] | priorities[code / 2 % 8];
+    mask & joined_tpid(tpids, code / 32 == 1, code / 16 % 2 == 1, code % 2 == 1)
+}
+
+// A mask for each code of a tag, joined from masks by priority and by TPID and DEI.
+#[derive(Clone, Copy)]
+pub(crate) struct CodeMasks {
+    priorities: [u128; 10],
+    tpids: [u128; 5],
+    codes: [u128; 64],
+}
+
+// No filter.
+pub(crate) const NO_CODES: CodeMasks = CodeMasks {
+    priorities: [0; 10],
+    tpids: [0; 5],
+    codes: [0; 64],
+};
+
+impl CodeMasks {
+    ghost use Rattle.rule_index.specs.CodeMasks.{IsCodeGrouping};
+
+    pub(crate) fn clear(&mut self)
+        ensures { IsCodeGrouping self.new [] }
+    {
+        self.priorities = [0; 10];
+        self.tpids = [0; 5];
+    }
+
+    // One filter more, which has a place in the order.
+    pub(crate) fn add(&mut self, filter: TagFilter, place: usize)
+        requires place { place < 128 }
+        ensures { (filters : List TagFilter) → length filters ≡ place → IsCodeGrouping self.old filters → IsCodeGrouping self.new (filters ++ filter ∷ []) }
+    {
+        set_bit(&mut self.priorities, priority_key(filter.priority), place);
+        set_bit(&mut self.tpids, tpid_key(filter.tpid), place);
+    }
+
+    // All filters are added.
+    pub(crate) fn finish(&mut self)
+        ensures { (filters : List TagFilter) → IsCodeGrouping self.old filters → AreCodes self.new.codes filters }
+    {
+        for code in 0..64 {
+            self.codes[code] = joined_code(&self.priorities, &self.tpids, code);
+        }
+    }
+
+    // The mask of the tag of a word.
+    #[inline(always)]
+    pub(crate) fn mask(&self, tag: u32, input_tpid: u16) -> u128
+        ensures { result ≡ slice_index_or self.now.codes (code_of input_tpid (tag_of tag)) 0 }
+    {
+        self.codes[code_of(tag, input_tpid)]
+    }
+}

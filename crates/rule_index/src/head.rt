@@ -1,0 +1,186 @@
+//! The head of a frame: what the filters of an entry look at.
+ghost use Rattle.std.specs.Prelude.{◌≡◌, ◌≤◌, ◌+◌, ◌-◌, ◌*◌, ◌^◌, [], ◌∷◌, length, slice_index_or};
+ghost use Rattle.tag_view.specs.Tag.{is_tag_type};
+ghost use Rattle.tag_view.specs.Frame.{type_at};
+ghost use Rattle.rule_index.specs.Head.{head_of, head_read, no_tag, tag_of};
+
+use byteorder::{BigEndian, ByteOrder};
+use std::marker::Model;
+use tag_view::{FrameFault, FrameView, Tag};
+
+// The word that stands for a tag that isn't there.
+const NO_TAG: u32 = 0x8100_0000;
+
+/// The tags of a frame and the type behind them. A tag is held as one word, the number in its four
+/// bytes (IEEE 802.1Q, 9.6): the tag protocol identifier, then from the highest bit priority, DEI and
+/// VLAN identifier.
+#[derive(Debug, Drop)]
+pub struct Head {
+    // The number of tags.
+    pub(crate) tags: u8,
+    // The first tag, or that which stands for none.
+    pub(crate) outer: u32,
+    // The last tag, which of one tag is that tag.
+    pub(crate) inner: u32,
+    pub(crate) ethertype: u16,
+}
+
+impl Model for Head {
+    ghost use Rattle.std.specs.Prelude.{◌≡◌, ◌<◌, ◌≤◌};
+    ghost use Rattle.rule_index.specs.Head.{FrameHead, last_tags, tag_of};
+
+    ghost Value = { FrameHead };
+
+    ghost view = { λ h. record { tags = last_tags h.tags (tag_of h.outer) (tag_of h.inner); type = h.ethertype } };
+
+    ghost invariant = { λ h. (h.tags ≤ 2) × (h.tags < 2 → h.outer ≡ h.inner) × (h.tags < 1 → h.inner ≡ 0x81000000) };
+}
+
+impl Head {
+    /// The head of a frame that was read.
+    #[inline(always)]
+    pub fn of(frame: &FrameView<'_>) -> Self
+        ensures { result ≡ head_of frame.now }
+    {
+        let tags = frame.tags();
+        let ethertype = frame.ethertype();
+        match tags {
+            [outer, inner, ..] => two_tags(word(outer), word(inner), ethertype),
+            [tag] => one_tag(word(tag), ethertype),
+            [] => untagged(ethertype),
+        }
+    }
+
+    /// The head of the frame that the bytes are, as it is found by `view`, with the same faults: no byte
+    /// behind the type is looked at. It is what is faster to forward by than a view.
+    #[inline(always)]
+    pub fn read(bytes: &[u8], input_tpid: u16) -> Result<Self, FrameFault>
+        ensures { result ≡ head_read input_tpid bytes.now }
+    {
+        if bytes.len() < 14 {
+            return Err(FrameFault::Runt);
+        }
+        let first = type_at(bytes, 12);
+        if !is_tag_type(first, input_tpid) {
+            return Ok(untagged(first));
+        }
+        if bytes.len() < 18 {
+            return Err(FrameFault::CutTag);
+        }
+        let outer = joined(first, type_at(bytes, 14));
+        let second = type_at(bytes, 16);
+        if !is_tag_type(second, input_tpid) {
+            return Ok(one_tag(outer, second));
+        }
+        if bytes.len() < 22 {
+            return Err(FrameFault::CutTag);
+        }
+        let inner = joined(second, type_at(bytes, 18));
+        Ok(two_tags(outer, inner, type_at(bytes, 20)))
+    }
+
+    /// The number of tags that were read, two at most.
+    #[inline(always)]
+    pub fn tags(&self) -> usize
+        ensures value { result ≡ length self.now.tags }
+        ensures limit { result ≤ 2 }
+    {
+        usize::from(self.tags)
+    }
+
+    /// The word of the first tag. Where there is none it is that of a tag of type 0x8100 that is zero
+    /// otherwise.
+    #[inline(always)]
+    pub fn outer(&self) -> u32
+        ensures { tag_of result ≡ slice_index_or self.now.tags 0 no_tag }
+    {
+        self.outer
+    }
+
+    /// The word of the last tag, which of one tag is that tag. Where there is none it is that of a tag of
+    /// type 0x8100 that is zero otherwise.
+    #[inline(always)]
+    pub fn inner(&self) -> u32
+        ensures { tag_of result ≡ slice_index_or self.now.tags (length self.now.tags - 1) no_tag }
+    {
+        self.inner
+    }
+
+    /// The type behind the tags that were read. It may be that of a third tag.
+    #[inline(always)]
+    pub fn ethertype(&self) -> u16
+        ensures { result ≡ self.now.type }
+    {
+        self.ethertype
+    }
+}
+
+#[inline(always)]
+fn untagged(ethertype: u16) -> Head
+    ensures { result ≡ record { tags = []; type = ethertype } }
+{
+    Head {
+        tags: 0,
+        outer: NO_TAG,
+        inner: NO_TAG,
+        ethertype,
+    }
+}
+
+#[inline(always)]
+fn one_tag(word: u32, ethertype: u16) -> Head
+    ensures { result ≡ record { tags = tag_of word ∷ []; type = ethertype } }
+{
+    Head {
+        tags: 1,
+        outer: word,
+        inner: word,
+        ethertype,
+    }
+}
+
+#[inline(always)]
+fn two_tags(outer: u32, inner: u32, ethertype: u16) -> Head
+    ensures { result ≡ record { tags = tag_of outer ∷ tag_of inner ∷ []; type = ethertype } }
+{
+    Head {
+        tags: 2,
+        outer,
+        inner,
+        ethertype,
+    }
+}
+
+// The word of a tag.
+#[inline(always)]
+fn word(tag: &Tag) -> u32
+    ensures { tag_of result ≡ tag.now }
+{
+    let control = u32::from(tag.pcp) * 8192 + u32::from(tag.dei) * 4096 + u32::from(tag.vid);
+    u32::from(tag.tpid) * 65536 + control
+}
+
+// The word of a tag by its type and its control information.
+#[inline(always)]
+fn joined(tpid: u16, control: u16) -> u32
+    ensures { result ≡ tpid * 2 ^ 16 + control }
+{
+    u32::from(tpid) << 16 | u32::from(control)
+}
+
+// The type in the two bytes from a place.
+#[inline(always)]
+fn type_at(bytes: &[u8], place: usize) -> u16
+    requires { place + 2 ≤ length bytes.now }
+    ensures { result ≡ type_at place bytes.now }
+{
+    BigEndian::read_u16(&bytes[place..])
+}
+
+// Whether a type begins a tag: one of IEEE 802.1Q, 9.5, or the one that the port is set to.
+#[inline(always)]
+fn is_tag_type(tpid: u16, input_tpid: u16) -> bool
+    ensures { result ≡ is_tag_type input_tpid tpid }
+{
+    tpid == 0x8100 || tpid == 0x88a8 || tpid == input_tpid
+}

@@ -1,0 +1,121 @@
+//! The index of a table.
+ghost use Rattle.std.specs.Prelude.{◌≡◌, ◌<◌, ◌≤◌, [], ℕ, None, IfOk, List, slice_get};
+ghost use Rattle.rule_index.specs.Order.{order_of};
+ghost use Rattle.rule_index.specs.Readers.{has_inner_vid, has_tags, mask_in_order, IsMaskInOrder};
+
+use crate::entries::{copy_entries, has_keys};
+use crate::head::Head;
+use crate::masks::Masks;
+use crate::ranking::{place_at, rank_entries};
+use crate::row::Row;
+use std::alloc::{AllocError, Global};
+use std::marker::Model;
+use tag_view::FrameView;
+use vlan_rule::{Entry, RuleTable, TABLE_MAX_SIZE};
+
+/// The index of a received frame VLAN tagging operation table (G.988, 9.3.13), by which the entry for a
+/// frame is found without a look at each. It is seen as the list of the entries that it is of.
+#[derive(Drop)]
+pub struct Index {
+    entries: Vec<Entry>,
+    // In the order of rank and place.
+    rows: Vec<Row>,
+    masks: Masks,
+}
+
+impl Model for Index {
+    ghost use Rattle.std.specs.Prelude.{◌≤◌, List, ℕ, map, vec_capacity};
+    ghost use Rattle.vlan_rule.specs.Table.{table_max_size};
+    ghost use Rattle.rule_index.specs.Built.{IsIndexOf};
+
+    ghost Value = { List (List ℕ) };
+
+    ghost view = { λ index. map (λ entry. entry.0) index.entries.items };
+
+    ghost invariant = { λ index.
+        (table_max_size ≤ vec_capacity index.entries) × (table_max_size ≤ vec_capacity index.rows)
+        × IsIndexOf (map (λ entry. entry.0) index.entries.items) index.rows.items index.masks };
+}
+
+impl Index {
+    ghost use Rattle.tag_view.specs.Frame.{type_at};
+    ghost use Rattle.vlan_rule.specs.Choice.{choice, matches, IsChoice};
+
+    /// An index of no entries, with room for those of any table.
+    pub fn new(alloc: Global) -> Result<Self, AllocError>
+        ensures { IfOk result (λ index. index ≡ []) }
+    {
+        let mut masks = Masks::new(alloc)?;
+        masks.rebuild(&[]);
+        Ok(Index {
+            entries: Vec::with_capacity(alloc, TABLE_MAX_SIZE as usize)?,
+            rows: Vec::with_capacity(alloc, TABLE_MAX_SIZE as usize)?,
+            masks,
+        })
+    }
+
+    /// Becomes the index of a table. It takes no memory. Where the table has the keys that it had, as after
+    /// a treatment was set, order and masks stay, and only the entries are copied.
+    pub fn rebuild(&mut self, table: &RuleTable)
+        ensures { self.new ≡ table.now }
+    {
+        let keys_stay = has_keys(&self.entries, table);
+        copy_entries(&mut self.entries, table);
+        if keys_stay {
+            return;
+        }
+        rank_entries(&mut self.rows, table);
+        self.masks.rebuild(&self.rows);
+    }
+
+    /// The place of the entry that is used for a frame, or None where none matches it: of those that match,
+    /// the first of least rank. It takes no memory, and the same time whatever the entries are.
+    pub fn find(&self, frame: &FrameView<'_>, input_tpid: u16) -> Option<usize>
+        ensures used { IsChoice (matches input_tpid frame.now.tags (type_at 0 frame.now.rest)) self.now result }
+        ensures computed { result ≡ choice (matches input_tpid frame.now.tags (type_at 0 frame.now.rest)) self.now }
+    {
+        place_at(&self.rows, self.number(&Head::of(frame), input_tpid))
+    }
+
+    /// The number, in the order of rank and place, of the entry that is used for a frame with this head, or
+    /// 128 where none matches it. What belongs to an entry can be kept by this number: its place is
+    /// `order` of it.
+    #[inline(always)]
+    pub fn number(&self, head: &Head, input_tpid: u16) -> usize
+        ensures used { slice_get (order_of self.now) result ≡ choice (matches input_tpid head.now.tags head.now.type) self.now }
+        ensures none { choice (matches input_tpid head.now.tags head.now.type) self.now ≡ None → result ≡ 128 }
+        ensures limit { result ≤ 128 }
+    {
+        self.masks.mask(head, input_tpid).trailing_zeros() as usize
+    }
+
+    /// The place of entry number `j` in the order of rank and place, counted from 0, or None where there is
+    /// no such entry.
+    pub fn order(&self, j: u8) -> Option<usize>
+        ensures { result ≡ slice_get (order_of self.now) j }
+    {
+        place_at(&self.rows, usize::from(j))
+    }
+
+    /// Which entries are of a kind with this number of tags: bit j is set exactly where there is an entry
+    /// number j in the order of rank and place, and it is.
+    pub fn tag_mask(&self, tags: u8) -> u128
+        ensures bits { IsMaskInOrder (has_tags tags) self.now result }
+        ensures value { result ≡ mask_in_order (has_tags tags) self.now }
+    {
+        if tags > 2 {
+            return 0;
+        }
+        self.masks.tag_mask(usize::from(tags))
+    }
+
+    /// Which entries admit this inner VID, as those do whose kind doesn't count it: bit j is set exactly
+    /// where there is an entry number j in the order of rank and place, and it does.
+    pub fn inner_vid_mask(&self, vid: u16) -> u128
+        requires { vid < 4096 }
+        ensures bits { IsMaskInOrder (has_inner_vid vid) self.now result }
+        ensures value { result ≡ mask_in_order (has_inner_vid vid) self.now }
+    {
+        self.masks.inner_vid_mask(vid)
+    }
+}

@@ -1,0 +1,85 @@
+//! Masks by the number of tags and the type behind them.
+ghost use Rattle.std.specs.Prelude.{◌≡◌, ◌<◌, ◌≤◌, ◌+◌, ◌*◌, ◌++◌, ◌∷◌, [], ℕ, List, length, slice_index_or};
+ghost use Rattle.rule_index.specs.declared.row.Row.{Row};
+ghost use Rattle.rule_index.specs.Filters.{type_class};
+ghost use Rattle.rule_index.specs.Kinds.{joined_kind, AreKinds, AreTags, AreTypes};
+
+use crate::bit::set_bit;
+use crate::row::Row;
+
+// The class of a type: the key of the filter that asks for it, or 0. It has no branch, for types come in no
+// order that a processor could foresee.
+#[inline(always)]
+pub(crate) fn type_class(ethertype: u16) -> usize
+    ensures value { result ≡ type_class ethertype }
+    ensures bound { result < 6 }
+{
+    usize::from(ethertype == 0x0800)
+        + usize::from(ethertype == 0x8863 || ethertype == 0x8864) * 2
+        + usize::from(ethertype == 0x0806) * 3
+        + usize::from(ethertype == 0x86dd) * 4
+        + usize::from(ethertype == 0x888e) * 5
+}
+
+// A mask for each number of tags and class of types, joined from masks by either.
+#[derive(Clone, Copy)]
+pub(crate) struct KindMasks {
+    tags: [u128; 3],
+    types: [u128; 6],
+    joined: [u128; 18],
+}
+
+// No row.
+pub(crate) const NO_KINDS: KindMasks = KindMasks {
+    tags: [0; 3],
+    types: [0; 6],
+    joined: [0; 18],
+};
+
+impl KindMasks {
+    pub(crate) fn clear(&mut self)
+        ensures tags { AreTags self.new.tags [] }
+        ensures types { AreTypes self.new.types [] }
+    {
+        self.tags = [0; 3];
+        self.types = [0; 6];
+    }
+
+    // One row more, which has a place in the order.
+    pub(crate) fn add(&mut self, row: &Row, place: usize)
+        requires place { place < 128 }
+        ensures tags { (rows : List Row) → length rows ≡ place → AreTags self.old.tags rows → AreTags self.new.tags (rows ++ row.now ∷ []) }
+        ensures types { (rows : List Row) → length rows ≡ place → AreTypes self.old.types rows → AreTypes self.new.types (rows ++ row.now ∷ []) }
+    {
+        set_bit(&mut self.tags, row.tags(), place);
+        set_bit(&mut self.types, row.type_key(), place);
+    }
+
+    // All rows are added.
+    pub(crate) fn finish(&mut self)
+        ensures tags { self.new.tags ≡ self.old.tags }
+        ensures kinds { (rows : List Row) → AreTags self.old.tags rows → AreTypes self.old.types rows → AreKinds self.new.joined rows }
+    {
+        for k in 0..18 {
+            self.joined[k] = self.tags[k / 6] & (self.types[0] | self.types[k % 6]);
+        }
+    }
+
+    // The mask of a number of tags and a class.
+    #[inline(always)]
+    pub(crate) fn mask(&self, tags: usize, class: usize) -> u128
+        requires tags { tags ≤ 2 }
+        requires class { class < 6 }
+        ensures { result ≡ slice_index_or self.now.joined (tags * 6 + class) 0 }
+    {
+        self.joined[tags * 6 + class]
+    }
+
+    // The mask of a number of tags.
+    pub(crate) fn tag_mask(&self, tags: usize) -> u128
+        requires { tags ≤ 2 }
+        ensures { result ≡ slice_index_or self.now.tags tags 0 }
+    {
+        self.tags[tags]
+    }
+}

@@ -1,0 +1,86 @@
+//! The masks of an index.
+ghost use Rattle.std.specs.Prelude.{◌≡◌, ◌<◌, ◌≤◌, ◌==◌, ◌+◌, ◌++◌, ◌∷◌, [], ℕ, List, length};
+ghost use Rattle.rule_index.specs.declared.row.Row.{Row};
+ghost use Rattle.rule_index.specs.Masks.{mask_of};
+ghost use Rattle.rule_index.specs.Order.{row_matches};
+ghost use Rattle.rule_index.specs.Filters.{admits_vid, inner_in, tags_in};
+
+use crate::head::Head;
+use crate::kind_masks::{KindMasks, NO_KINDS, type_class};
+use crate::row::Row;
+use crate::tag_masks::TagMasks;
+use std::alloc::{AllocError, Global};
+
+// The masks of an index: a mask for each value of each field.
+#[derive(Drop)]
+pub(crate) struct Masks {
+    kinds: KindMasks,
+    outer: TagMasks,
+    inner: TagMasks,
+}
+
+impl Masks {
+    ghost use Rattle.rule_index.specs.Built.{IsGrouping, IsBuilt};
+
+    pub(crate) fn new(alloc: Global) -> Result<Self, AllocError> {
+        Ok(Masks {
+            kinds: NO_KINDS,
+            outer: TagMasks::new(alloc)?,
+            inner: TagMasks::new(alloc)?,
+        })
+    }
+
+    // The masks of some rows.
+    pub(crate) fn rebuild(&mut self, rows: &[Row])
+        requires { length rows.now ≤ 128 }
+        ensures { IsBuilt self.new rows.now }
+    {
+        self.group(rows);
+        self.kinds.finish();
+        self.outer.finish();
+        self.inner.finish();
+    }
+
+    fn group(&mut self, rows: &[Row])
+        requires { length rows.now ≤ 128 }
+        ensures { IsGrouping self.new rows.now }
+    {
+        self.kinds.clear();
+        self.outer.clear();
+        self.inner.clear();
+        for place in 0..rows.len() {
+            let row = &rows[place];
+            self.kinds.add(row, place);
+            self.outer.add(row.outer(), place);
+            self.inner.add(row.inner(), place);
+        }
+    }
+
+    // The mask of the rows that are for a frame with this head. The rows of a kind without a tag
+    // admit any tag in its place, so that it doesn't matter what the head has there.
+    #[inline(always)]
+    pub(crate) fn mask(&self, head: &Head, input_tpid: u16) -> u128
+        ensures { (rows : List Row) → IsBuilt self.now rows → result ≡ mask_of (λ row. row_matches input_tpid head.now.tags head.now.type row) rows }
+    {
+        self.kinds
+            .mask(usize::from(head.tags), type_class(head.ethertype))
+            & self.outer.mask(head.outer, input_tpid)
+            & self.inner.mask(head.inner, input_tpid)
+    }
+
+    // The mask of the rows of a number of tags.
+    pub(crate) fn tag_mask(&self, tags: usize) -> u128
+        requires { tags ≤ 2 }
+        ensures { (rows : List Row) → IsBuilt self.now rows → result ≡ mask_of (λ row. tags_in row.filter == tags) rows }
+    {
+        self.kinds.tag_mask(tags)
+    }
+
+    // The mask of the rows that admit an inner VID.
+    pub(crate) fn inner_vid_mask(&self, vid: u16) -> u128
+        requires { vid < 4096 }
+        ensures { (rows : List Row) → IsBuilt self.now rows → result ≡ mask_of (λ row. admits_vid vid (inner_in row.filter).vid) rows }
+    {
+        self.inner.vid_mask(vid)
+    }
+}

@@ -1,0 +1,50 @@
+//! The rows of a table in the order of rank and place.
+ghost use Rattle.std.specs.Prelude.{◌≡◌, ◌≤◌, ◌+◌, ◌++◌, length, slice_get, vec_capacity, vec_len};
+ghost use Rattle.std.specs.Option.{option_map};
+ghost use Rattle.vlan_rule.specs.Table.{table_max_size};
+ghost use Rattle.rule_index.specs.Order.{rows_from, rows_of};
+
+use crate::row::Row;
+use vlan_rule::RuleTable;
+
+// Puts the entries of a table in order: those of rank 0, of rank 1, of rank 2.
+pub(crate) fn rank_entries(rows: &mut Vec<Row>, table: &RuleTable)
+    requires room { table_max_size ≤ vec_capacity rows.old }
+    requires limit { length table.now ≤ table_max_size }
+    ensures rows { rows.new.items ≡ rows_of table.now }
+    ensures room { vec_capacity rows.new ≡ vec_capacity rows.old }
+    ensures few { length rows.new.items ≤ table_max_size }
+{
+    rows.clear();
+    add_rank(rows, table, 0);
+    add_rank(rows, table, 1);
+    add_rank(rows, table, 2);
+}
+
+// Adds the entries of a rank.
+fn add_rank(rows: &mut Vec<Row>, table: &RuleTable, rank: u8)
+    requires { vec_len rows.old + length (rows_from rank 0 table.now) ≤ vec_capacity rows.old }
+    ensures rows { rows.new.items ≡ rows.old.items ++ rows_from rank 0 table.now }
+    ensures room { vec_capacity rows.new ≡ vec_capacity rows.old }
+{
+    for place in 0..table.len() {
+        if let Some(rule) = table.rule(place) {
+            if rule.rank.number() == rank {
+                rows.push_reserved(Row {
+                    place,
+                    filter: rule.filter,
+                    ethertype: rule.ethertype,
+                });
+            }
+        }
+    }
+}
+
+// The place of the entry of a number in the order.
+#[inline(always)]
+pub(crate) fn place_at(rows: &[Row], number: usize) -> Option<usize>
+    ensures { result ≡ option_map (λ (row : _). row.place) (slice_get rows.now number) }
+{
+    let row = rows.get(number)?;
+    Some(row.place)
+}
