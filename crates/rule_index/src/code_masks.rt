@@ -1,5 +1,5 @@
 //! Masks by what a tag has beside its VID: its priority, its TPID and its DEI.
-ghost use Rattle.std.specs.Prelude.{◌≡◌, ◌<◌, ◌≤◌, ◌+◌, ◌/◌, ◌%◌, ◌==◌, ◌^◌, ◌++◌, ◌∷◌, [], ℕ, List, length, map, slice_index_or};
+ghost use Rattle.std.specs.Prelude.{◌≡◌, ◌<◌, ◌≤◌, ◌+◌, ◌/◌, ◌%◌, ◌==◌, ◌^◌, ◌++◌, ◌∷◌, [], ℕ, List, length, slice_index_or};
 ghost use Rattle.rule_index.specs.Head.{tag_of};
 ghost use Rattle.vlan_rule.specs.declared.filter.TagFilter.{TagFilter};
 ghost use Rattle.rule_index.specs.Masks.{AreGroups};
@@ -102,7 +102,8 @@ impl CodeMasks {
     // One filter more, which has a place in the order.
     pub(crate) fn add(&mut self, filter: TagFilter, place: usize)
         requires place { place < 128 }
-        ensures { (filters : List TagFilter) → length filters ≡ place → IsCodeGrouping self.old filters → IsCodeGrouping self.new (filters ++ filter ∷ []) }
+        ensures { (filters : List TagFilter) → length filters ≡ place
+            → IsCodeGrouping self.old filters → IsCodeGrouping self.new (filters ++ filter ∷ []) }
     {
         set_bit(&mut self.priorities, priority_key(filter.priority), place);
         set_bit(&mut self.tpids, tpid_key(filter.tpid), place);

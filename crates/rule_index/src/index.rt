@@ -83,7 +83,8 @@ impl Index {
     #[inline(always)]
     pub fn number(&self, head: &Head, input_tpid: u16) -> usize
         ensures used { slice_get (order_of self.now) result ≡ choice (matches input_tpid head.now.tags head.now.type) self.now }
-        ensures none { choice (matches input_tpid head.now.tags head.now.type) self.now ≡ None → result ≡ 128 }
+        ensures none { choice (matches input_tpid head.now.tags head.now.type) self.now ≡ None
+            → result ≡ 128 }
         ensures limit { result ≤ 128 }
     {
         self.masks.mask(head, input_tpid).trailing_zeros() as usize

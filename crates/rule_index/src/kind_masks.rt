@@ -48,8 +48,10 @@ impl KindMasks {
     // One row more, which has a place in the order.
     pub(crate) fn add(&mut self, row: &Row, place: usize)
         requires place { place < 128 }
-        ensures tags { (rows : List Row) → length rows ≡ place → AreTags self.old.tags rows → AreTags self.new.tags (rows ++ row.now ∷ []) }
-        ensures types { (rows : List Row) → length rows ≡ place → AreTypes self.old.types rows → AreTypes self.new.types (rows ++ row.now ∷ []) }
+        ensures tags { (rows : List Row) → length rows ≡ place
+            → AreTags self.old.tags rows → AreTags self.new.tags (rows ++ row.now ∷ []) }
+        ensures types { (rows : List Row) → length rows ≡ place
+            → AreTypes self.old.types rows → AreTypes self.new.types (rows ++ row.now ∷ []) }
     {
         set_bit(&mut self.tags, row.tags(), place);
         set_bit(&mut self.types, row.type_key(), place);
@@ -58,7 +60,8 @@ impl KindMasks {
     // All rows are added.
     pub(crate) fn finish(&mut self)
         ensures tags { self.new.tags ≡ self.old.tags }
-        ensures kinds { (rows : List Row) → AreTags self.old.tags rows → AreTypes self.old.types rows → AreKinds self.new.joined rows }
+        ensures kinds { (rows : List Row) → AreTags self.old.tags rows → AreTypes self.old.types rows
+            → AreKinds self.new.joined rows }
     {
         for k in 0..18 {
             self.joined[k] = self.tags[k / 6] & (self.types[0] | self.types[k % 6]);

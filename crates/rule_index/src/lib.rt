@@ -21,10 +21,10 @@
 //! and all others share one. There is one mask for each class.
 //!
 //! **What it costs.** `find` joins five masks and counts zeros, for 3 entries as for 128: no turn per entry,
-//! and nothing to be searched, sorted or compared. Groups of entries by VID and priority would need a search for each
-//! combination of fields that some entry leaves open. `rebuild` sets some bits for each entry and then joins
-//! the masks that `find` needs; where no key changed it copies the entries alone. An index takes some 20 KB,
-//! all of it in `new`.
+//! and nothing to be searched, sorted or compared. Groups of entries by VID and priority would need a search
+//! for each combination of fields that some entry leaves open. `rebuild` sets some bits for each entry and
+//! then joins the masks that `find` needs; where no key changed it copies the entries alone. An index takes
+//! some 20 KB, all of it in `new`.
 //!
 //! What a caller keeps for each entry can be kept by its number in the order: [`Index::number`] gives that,
 //! for a [`Head`], the words of a frame that filters look at.

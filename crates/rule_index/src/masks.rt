@@ -41,6 +41,7 @@ impl Masks {
         self.inner.finish();
     }
 
+    // Sets the bits of some rows.
     fn group(&mut self, rows: &[Row])
         requires { length rows.now ≤ 128 }
         ensures { IsGrouping self.new rows.now }
@@ -60,7 +61,8 @@ impl Masks {
     // admit any tag in its place, so that it doesn't matter what the head has there.
     #[inline(always)]
     pub(crate) fn mask(&self, head: &Head, input_tpid: u16) -> u128
-        ensures { (rows : List Row) → IsBuilt self.now rows → result ≡ mask_of (λ row. row_matches input_tpid head.now.tags head.now.type row) rows }
+        ensures { (rows : List Row) → IsBuilt self.now rows
+            → result ≡ mask_of (λ row. row_matches input_tpid head.now.tags head.now.type row) rows }
     {
         self.kinds
             .mask(usize::from(head.tags), type_class(head.ethertype))
@@ -71,7 +73,8 @@ impl Masks {
     // The mask of the rows of a number of tags.
     pub(crate) fn tag_mask(&self, tags: usize) -> u128
         requires { tags ≤ 2 }
-        ensures { (rows : List Row) → IsBuilt self.now rows → result ≡ mask_of (λ row. tags_in row.filter == tags) rows }
+        ensures { (rows : List Row) → IsBuilt self.now rows
+            → result ≡ mask_of (λ row. tags_in row.filter == tags) rows }
     {
         self.kinds.tag_mask(tags)
     }
@@ -79,7 +82,8 @@ impl Masks {
     // The mask of the rows that admit an inner VID.
     pub(crate) fn inner_vid_mask(&self, vid: u16) -> u128
         requires { vid < 4096 }
-        ensures { (rows : List Row) → IsBuilt self.now rows → result ≡ mask_of (λ row. admits_vid vid (inner_in row.filter).vid) rows }
+        ensures { (rows : List Row) → IsBuilt self.now rows
+            → result ≡ mask_of (λ row. admits_vid vid (inner_in row.filter).vid) rows }
     {
         self.inner.vid_mask(vid)
     }

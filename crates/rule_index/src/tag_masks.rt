@@ -42,7 +42,8 @@ impl TagMasks {
         requires place { place < 128 }
         requires room { self.old.vids.named ≤ place }
         ensures few { self.new.vids.named ≤ place + 1 }
-        ensures grouping { (filters : List TagFilter) → length filters ≡ place → IsTagGrouping self.old filters → IsTagGrouping self.new (filters ++ filter ∷ []) }
+        ensures grouping { (filters : List TagFilter) → length filters ≡ place
+            → IsTagGrouping self.old filters → IsTagGrouping self.new (filters ++ filter ∷ []) }
     {
         self.codes.add(filter, place);
         self.vids.add(filter.vid, place);
@@ -59,7 +60,8 @@ impl TagMasks {
     // The mask of the filters that the tag of a word passes.
     #[inline(always)]
     pub(crate) fn mask(&self, tag: u32, input_tpid: u16) -> u128
-        ensures { (filters : List TagFilter) → IsTagIndex self.now filters → result ≡ mask_of (λ filter. is_tag input_tpid filter (tag_of tag)) filters }
+        ensures { (filters : List TagFilter) → IsTagIndex self.now filters
+            → result ≡ mask_of (λ filter. is_tag input_tpid filter (tag_of tag)) filters }
     {
         self.codes.mask(tag, input_tpid) & self.vids.mask((tag % 4096) as u16)
     }

@@ -3,6 +3,7 @@ ghost use Rattle.std.specs.Prelude.{◌<◌, length};
 use crate::{Head, Index, law_of_order};
 use byteorder::{BigEndian, ByteOrder};
 use std::alloc::Global;
+use std::process::Abort;
 use std::test::Fail;
 use tag_view::{FrameFault, view};
 use vlan_rule::{Entry, Filter, Put, RuleTable, TABLE_MAX_SIZE};
@@ -295,6 +296,32 @@ impl Seen {
     }
 }
 
+/// Looks 100 frames up in a table and its index.
+fn compare(
+    rt: &impl Abort,
+    alloc: Global,
+    table: &RuleTable,
+    index: &Index,
+    draws: &mut Draws,
+    seen: &mut Seen,
+) -> Result<(), Fail> {
+    for _ in 0..100 {
+        let input_tpid = (draws.of(&[0x8100, 0x88a8, 0x9100]) % 0x10000) as u16;
+        let bytes = draws.frame(alloc)?;
+        let frame = view(&bytes, input_tpid)?;
+        let walked = table.walk(&frame, input_tpid);
+        assert_eq!(rt; index.find(&frame, input_tpid), walked);
+        let number = index.number(&Head::read(&bytes, input_tpid)?, input_tpid);
+        assert_eq!(rt; index.order(number as u8), walked);
+        seen.count(
+            walked
+                .and_then(|place| table.rule(place))
+                .map(|rule| rule.filter),
+        );
+    }
+    Ok(())
+}
+
 #[test]
 fn find_agrees_with_a_walk(rt: HostRuntime) -> Result<(), Fail> {
     let mut draws = Draws {
@@ -307,20 +334,7 @@ fn find_agrees_with_a_walk(rt: HostRuntime) -> Result<(), Fail> {
         draw_table(&mut table, &mut draws)?;
         assert_eq!(rt; table.len(), 128);
         index.rebuild(&table);
-        for _ in 0..100 {
-            let input_tpid = (draws.of(&[0x8100, 0x88a8, 0x9100]) % 0x10000) as u16;
-            let bytes = draws.frame(rt.alloc())?;
-            let frame = view(&bytes, input_tpid)?;
-            let walked = table.walk(&frame, input_tpid);
-            assert_eq!(rt; index.find(&frame, input_tpid), walked);
-            let number = index.number(&Head::read(&bytes, input_tpid)?, input_tpid);
-            assert_eq!(rt; index.order(number as u8), walked);
-            seen.count(
-                walked
-                    .and_then(|place| table.rule(place))
-                    .map(|rule| rule.filter),
-            );
-        }
+        compare(&rt, rt.alloc(), &table, &index, &mut draws, &mut seen)?;
     }
     assert!(rt; seen.least() > 1000);
     Ok(())
