@@ -51,8 +51,8 @@ impl Head {
         }
     }
 
-    /// The head of the frame that the bytes are, as it is found by `view`, with the same faults: no byte
-    /// behind the type is looked at. It is what is faster to forward by than a view.
+    /// The head of the frame that the bytes are, or the fault for which `view` refuses them. No byte behind
+    /// the type is looked at. To find by it is faster than by a view, since no tag is taken apart.
     #[inline(always)]
     pub fn read(bytes: &[u8], input_tpid: u16) -> Result<Self, FrameFault>
         ensures { result ≡ head_read input_tpid bytes.now }

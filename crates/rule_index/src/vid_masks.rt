@@ -1,7 +1,7 @@
 //! Masks by VID.
-ghost use Rattle.vlan_rule.specs.Table.{table_max_size};
 ghost use Rattle.std.specs.Prelude.{◌≡◌, ◌<◌, ◌≤◌, ◌+◌, ◌++◌, ◌∷◌, [], ℕ, List, length, vec_len, bit_or, slice_index_or};
 ghost use Rattle.vlan_rule.specs.declared.filter.VidFilter.{VidFilter};
+ghost use Rattle.vlan_rule.specs.Table.{table_max_size};
 ghost use Rattle.rule_index.specs.Vids.{class_at, mask_at, AreVids, IsVidGrouping};
 
 use crate::bit::bit;
