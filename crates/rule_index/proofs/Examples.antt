@@ -5,7 +5,7 @@ use Rattle.vlan_rule.specs.Entry.{entry_of, key_of, kind_of, number_of, value_of
 use Rattle.vlan_rule.specs.Table.{predefined}
 use Rattle.vlan_rule.specs.Choice.{choice, matches}
 use Rattle.vlan_rule.specs.Meaning.{ethertype_of, filter_of, rank_of}
-use Rattle.rule_index.specs.Head.{tag_of}
+use Rattle.tag_view.specs.Word.{tag_of}
 use Rattle.rule_index.specs.Masks.{mask_of}
 use Rattle.rule_index.specs.Order.{order_of, rows_from, rows_of}
 use Rattle.rule_index.specs.Readers.{has_inner_vid, has_tags, mask_in_order}

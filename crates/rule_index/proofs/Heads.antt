@@ -1,27 +1,18 @@
 -- The head of a frame by the words that stand in its bytes.
 use Rattle.std.proofs.Common.{◌≡◌, ◌<◌, ◌≤◌, ℕ, ◌+◌, ◌*◌, ◌/◌, ◌%◌, ◌^◌, ◌==◌, Bool, true, false, List, [], ◌∷◌, length, take, drop, Some, None, Ok, Err, arith, refl, ap, ◌∙◌, sym}
 use Rattle.std.specs.Prelude.{nat_lt}
-use Rattle.std.proofs.lemmas.Bool.{le-ltb, lt-ltb, eq-eqb, ne_eqb}
+use Rattle.std.proofs.lemmas.Bool.{le-ltb, lt-ltb}
 use Rattle.std.proofs.lemmas.List.{drop-drop}
 use Rattle.byteorder.specs.Endian.{big_number}
 use Rattle.tag_view.specs.declared.fault.FrameFault.TheVariants.{Runt, CutTag}
 use Rattle.tag_view.specs.Tag.{TagFields, is_tag_type}
 use Rattle.tag_view.specs.Frame.{Reading, type_at, tag_at, reading_of, fault_of}
+use Rattle.tag_view.proofs.Tags.{same_fields}
 use Rattle.tag_view.proofs.Readings.{frame_read, frame_refused, runt_frame}
-use Rattle.rule_index.specs.Head.{head_in, head_of, head_read, tag_of, word_of}
+use Rattle.tag_view.specs.Word.{tag_of}
+use Rattle.rule_index.specs.Head.{head_in, head_of, head_read}
 
 -- ---- words
-
-same_fields : (t p v t' p' v' : ℕ) (d d' : Bool) → t' ≡ t → p' ≡ p → d' ≡ d → v' ≡ v
-    → let tag : TagFields = record { tpid = t'; pcp = p'; dei = d'; vid = v' } in tag ≡ record { tpid = t; pcp = p; dei = d; vid = v }
-same_fields t p v t' p' v' d d' e f g h = rw (e, f, g, h) refl
-
-pub word_back : (tag : TagFields) → tag.pcp < 8 → tag.vid < 4096 → tag_of (word_of tag) ≡ tag
-word_back tag small low = back tag.tpid tag.pcp tag.vid tag.dei small low
-  where
-    back : (t p v : ℕ) (d : Bool) → p < 8 → v < 4096 → tag_of (word_of (record { tpid = t; pcp = p; dei = d; vid = v })) ≡ record { tpid = t; pcp = p; dei = d; vid = v }
-    back t p v true hp hv = same_fields _ _ _ _ _ _ _ _ (omega arith) (omega arith) (eq-eqb _ _ (omega arith)) (omega arith)
-    back t p v false hp hv = same_fields _ _ _ _ _ _ _ _ (omega arith) (omega arith) (ne_eqb _ _ (λ e. omega arith)) (omega arith)
 
 -- the tag at a place by its type and its control information
 word_at : (place : ℕ) (bytes : List ℕ) (tpid control : ℕ) → control < 2 ^ 16 → tpid ≡ type_at place bytes → control ≡ type_at (place + 2) bytes

@@ -1,7 +1,7 @@
--- The head of a frame: the tags that are read, and the type behind them. A tag is here also one
--- number, the word of its four bytes (IEEE 802.1Q, 9.6).
-use Rattle.std.specs.Prelude.{ℕ, ◌+◌, ◌*◌, ◌/◌, ◌%◌, ◌^◌, List, [], ◌∷◌, Result, Ok, Err, ◌==◌, false, zero, suc}
-use Rattle.tag_view.specs.Tag.{TagFields, control_of}
+-- The head of a frame: the tags that are read, and the type behind them. A tag is kept as the word of its
+-- four bytes (IEEE 802.1Q, 9.6).
+use Rattle.std.specs.Prelude.{ℕ, List, [], ◌∷◌, Result, Ok, Err, false, zero, suc}
+use Rattle.tag_view.specs.Tag.{TagFields}
 use Rattle.tag_view.specs.Frame.{Reading, frame_of, type_at}
 use Rattle.tag_view.specs.declared.fault.FrameFault.{FrameFault}
 
@@ -24,15 +24,7 @@ head_in (Err fault) = Err fault
 abbrev pub head_read : ℕ → List ℕ → Result FrameHead FrameFault
 head_read input bytes = head_in (frame_of input bytes)
 
--- ---- words
-
--- the word of a tag
-abbrev pub word_of : TagFields → ℕ
-word_of tag = tag.tpid * 2 ^ 16 + control_of tag
-
--- the tag of a word
-abbrev pub tag_of : ℕ → TagFields
-tag_of word = record { tpid = word / 2 ^ 16; pcp = word / 2 ^ 13 % 2 ^ 3; dei = word / 2 ^ 12 % 2 == 1; vid = word % 2 ^ 12 }
+-- ---- tags that are kept as words
 
 -- what stands for a tag that isn't there
 abbrev pub no_tag : TagFields

@@ -1,6 +1,6 @@
 //! Masks by what a tag has beside its VID: its priority, its TPID and its DEI.
 ghost use Rattle.std.specs.Prelude.{◌≡◌, ◌<◌, ◌≤◌, ◌+◌, ◌/◌, ◌%◌, ◌==◌, ◌^◌, ◌++◌, ◌∷◌, [], ℕ, List, length, slice_index_or};
-ghost use Rattle.rule_index.specs.Head.{tag_of};
+ghost use Rattle.tag_view.specs.Word.{tag_of};
 ghost use Rattle.vlan_rule.specs.declared.filter.TagFilter.{TagFilter};
 ghost use Rattle.rule_index.specs.Masks.{AreGroups};
 ghost use Rattle.rule_index.specs.Filters.{code_of, priority_key, tpid_key};

@@ -2,7 +2,8 @@
 ghost use Rattle.std.specs.Prelude.{◌≡◌, ◌≤◌, ◌+◌, ◌-◌, ◌*◌, ◌^◌, [], ◌∷◌, length, slice_index_or};
 ghost use Rattle.tag_view.specs.Tag.{is_tag_type};
 ghost use Rattle.tag_view.specs.Frame.{type_at};
-ghost use Rattle.rule_index.specs.Head.{head_of, head_read, no_tag, tag_of};
+ghost use Rattle.tag_view.specs.Word.{tag_of};
+ghost use Rattle.rule_index.specs.Head.{head_of, head_read, no_tag};
 
 use byteorder::{BigEndian, ByteOrder};
 use std::marker::Model;
@@ -27,7 +28,8 @@ pub struct Head {
 
 impl Model for Head {
     ghost use Rattle.std.specs.Prelude.{◌≡◌, ◌<◌, ◌≤◌};
-    ghost use Rattle.rule_index.specs.Head.{FrameHead, last_tags, tag_of};
+    ghost use Rattle.tag_view.specs.Word.{tag_of};
+    ghost use Rattle.rule_index.specs.Head.{FrameHead, last_tags};
 
     ghost Value = { FrameHead };
 

@@ -1,6 +1,6 @@
 //! Masks by the fields of one tag of a frame.
 ghost use Rattle.std.specs.Prelude.{◌≡◌, ◌<◌, ◌≤◌, ◌+◌, ◌++◌, ◌∷◌, [], ℕ, List, length};
-ghost use Rattle.rule_index.specs.Head.{tag_of};
+ghost use Rattle.tag_view.specs.Word.{tag_of};
 ghost use Rattle.vlan_rule.specs.declared.filter.TagFilter.{TagFilter};
 ghost use Rattle.vlan_rule.specs.Choice.{is_tag};
 ghost use Rattle.rule_index.specs.Masks.{mask_of};

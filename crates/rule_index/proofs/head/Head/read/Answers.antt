@@ -1,7 +1,8 @@
 -- Each return has the head or the fault of the frame.
 use Rattle.std.proofs.Common.{◌<◌, ◌^◌, ℕ, [], ◌∷◌, Ok, Result, ap, ap₂, sym, ◌∙◌, arith}
 use Rattle.tag_view.specs.declared.fault.FrameFault.{FrameFault}
-use Rattle.rule_index.specs.Head.{FrameHead, tag_of}
+use Rattle.tag_view.specs.Word.{tag_of}
+use Rattle.rule_index.specs.Head.{FrameHead}
 use Rattle.rule_index.proofs.Heads.{runt, untagged, cut_one, one_tag, cut_two, two_tags}
 use Rattle.rule_index.proofs.head.Head.read.Goals as goal
 

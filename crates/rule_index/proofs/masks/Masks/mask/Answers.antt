@@ -1,5 +1,6 @@
 use Rattle.std.proofs.Common.{ℕ, ◌∙◌, ◌+◌, ◌*◌, ap, ap₂, get_or, map}
-use Rattle.rule_index.specs.Head.{FrameHead, tag_of}
+use Rattle.tag_view.specs.Word.{tag_of}
+use Rattle.rule_index.specs.Head.{FrameHead}
 use Rattle.rule_index.specs.declared.row.Row.{Row}
 use Rattle.rule_index.specs.Filters.{inner_in, outer_in, type_class}
 use Rattle.rule_index.specs.Masks.{mask_of}

@@ -1,5 +1,5 @@
 use Rattle.std.proofs.Common.{◌<◌, ◌∙◌, ap₂, bit_and, arith}
-use Rattle.rule_index.specs.Head.{tag_of}
+use Rattle.tag_view.specs.Word.{tag_of}
 use Rattle.rule_index.proofs.Joined.{tag-mask}
 use Rattle.rule_index.proofs.tag_masks.TagMasks.mask.Goals as goal
 
