@@ -1,10 +1,9 @@
 -- Masks joined for a frame.
-use Rattle.std.proofs.Common.{◌≡◌, ◌≢◌, ◌==◌, ℕ, zero, suc, ◌+◌, ◌*◌, ◌/◌, ◌%◌, ◌<◌, ◌≤◌, Bool, true, false, ◌&&◌, ◌||◌, cond, List, length, map, get_or, refl, ap, ap₂, sym, ◌∙◌, arith, bit_or, bit_and, ◌⊎◌, inl, inr, subst}
+use Rattle.std.proofs.Common.{◌≡◌, ◌≢◌, ◌==◌, ℕ, ◌+◌, ◌*◌, ◌/◌, ◌%◌, ◌<◌, ◌≤◌, Bool, true, false, ◌&&◌, ◌||◌, cond, List, [], ◌∷◌, length, map, get_or, refl, ap, ap₂, sym, ◌∙◌, arith, bit_or, bit_and, ◌⊎◌, inl, inr, subst}
 use Rattle.std.proofs.lemmas.Bool.Decides.{eqb_tells}
 use Rattle.std.proofs.lemmas.Nat.{div-mul-add, mod-mul-add}
 use Rattle.std.proofs.Math.Bool.{and-true, and-false}
 use Rattle.tag_view.specs.Tag.{TagFields}
-use Rattle.rule_index.specs.Head.{last_tags}
 use Rattle.vlan_rule.specs.Choice.{are_tags, has_priority, has_tpid, has_type, has_vid, is_tag}
 use Rattle.vlan_rule.specs.declared.filter.VidFilter.{VidFilter}
 use Rattle.vlan_rule.specs.declared.filter.VidFilter.TheVariants as vid
@@ -17,7 +16,7 @@ use Rattle.rule_index.specs.declared.row.Row.{Row}
 use Rattle.rule_index.specs.Masks.{mask_of}
 use Rattle.rule_index.specs.Filters.{admits_code, admits_type, admits_vid, code_of, inner_in, outer_in, tags_in, type_class, type_key}
 use Rattle.rule_index.specs.Codes.{AreCodes}
-use Rattle.rule_index.specs.Kinds.{admits_kind, joined_kind, AreTags, AreTypes}
+use Rattle.rule_index.specs.Kinds.{admits_kind, joined_kind, AreKinds, AreTags, AreTypes}
 use Rattle.rule_index.specs.Vids.{mask_at, AreVids}
 use Rattle.rule_index.specs.Order.{row_matches}
 use Rattle.rule_index.proofs.MaskLaws.{mask-and, mask-map, mask-or, mask-same}
@@ -169,56 +168,76 @@ types-below ethertype.Arp = omega arith
 types-below ethertype.Ipv6 = omega arith
 types-below ethertype.Eapol = omega arith
 
-pub kind-below : (n type : ℕ) → n ≤ 2 → n * 6 + type_class type < 18
-kind-below n type few = omega (arith, class-below type)
-
--- ---- a frame
-
-splits : (input : ℕ) (a b : TagFields) (t : Bool) (f : Filter) (n : ℕ) → n ≤ 2
-    → (((tags_in f == n && t) && is_tag input (outer_in f) a) && is_tag input (inner_in f) b) ≡ (are_tags input f (last_tags n a b) && t)
-splits input a b true filter.NoTag zero few = refl
-splits input a b true filter.NoTag (suc zero) few = refl
-splits input a b true filter.NoTag (suc (suc zero)) few = refl
-splits input a b true filter.OneTagDefault zero few = refl
-splits input a b true filter.OneTagDefault (suc zero) few = refl
-splits input a b true filter.OneTagDefault (suc (suc zero)) few = refl
-splits input a b true (filter.OneTag inner) zero few = refl
-splits input a b true (filter.OneTag inner) (suc zero) few = sym (and-true (is_tag input inner b))
-splits input a b true (filter.OneTag inner) (suc (suc zero)) few = refl
-splits input a b true filter.TwoTagDefault zero few = refl
-splits input a b true filter.TwoTagDefault (suc zero) few = refl
-splits input a b true filter.TwoTagDefault (suc (suc zero)) few = refl
-splits input a b true (filter.TwoTag outer inner) zero few = refl
-splits input a b true (filter.TwoTag outer inner) (suc zero) few = refl
-splits input a b true (filter.TwoTag outer inner) (suc (suc zero)) few = sym (and-true (is_tag input outer a && is_tag input inner b))
-splits input a b true f (suc (suc (suc n))) few = absurd (omega (arith, few))
-splits input a b false f n few = rw (and-false (tags_in f == n), and-false (are_tags input f (last_tags n a b))) refl
-
-pub row-splits : (input type n : ℕ) (a b : TagFields) (row : Row) → n ≤ 2
-    → ((admits_kind (n * 6 + type_class type) row && is_tag input (outer_in row.filter) a) && is_tag input (inner_in row.filter) b)
-    ≡ row_matches input (last_tags n a b) type row
-row-splits input type n a b row few =
+-- the mask at the place of a number of tags and a class
+pub kind-at : (joined : List ℕ) (rows : List Row) (n type class : ℕ) → n ≤ 2 → AreKinds joined rows → class ≡ type_class type
+    → get_or joined (n * 6 + class) 0 ≡ mask_of (λ row. tags_in row.filter == n && has_type row.ethertype type) rows
+kind-at joined rows n type class few of_kinds is_class =
     let k = n * 6 + type_class type in
     let of_tags : k / 6 ≡ n = div-mul-add n 6 (type_class type) (class-below type) in
     let of_class : k % 6 ≡ type_class type = mod-mul-add n 6 (type_class type) (class-below type) in
-    let admits : admits_kind k row ≡ (tags_in row.filter == n && has_type row.ethertype type) =
-    ap₂ (λ x y. tags_in row.filter == x && admits_type y row.ethertype) of_tags of_class ∙ ap (λ x. tags_in row.filter == n && x) (type-admits row.ethertype type) in
-    ap (λ x. (x && is_tag input (outer_in row.filter) a) && is_tag input (inner_in row.filter) b) admits
-    ∙ splits input a b (has_type row.ethertype type) row.filter n few
+    ap (λ x. get_or joined (n * 6 + x) 0) is_class ∙ of_kinds k (omega (arith, class-below type))
+    ∙ mask-same (λ row. admits_kind k row) (λ row. tags_in row.filter == n && has_type row.ethertype type) rows
+    (λ row. ap₂ (λ x y. tags_in row.filter == x && admits_type y row.ethertype) of_tags of_class
+    ∙ ap (λ x. tags_in row.filter == n && x) (type-admits row.ethertype type))
+
+-- ---- a frame: of the kinds with as many tags only the filters of these tags count
+
+of-no-tag : (input : ℕ) (t : Bool) (f : Filter) → (tags_in f == 0 && t) ≡ (are_tags input f [] && t)
+of-no-tag input t filter.NoTag = refl
+of-no-tag input t filter.OneTagDefault = refl
+of-no-tag input t (filter.OneTag inner) = refl
+of-no-tag input t filter.TwoTagDefault = refl
+of-no-tag input t (filter.TwoTag outer inner) = refl
+
+of-one-tag : (input : ℕ) (b : TagFields) (t : Bool) (f : Filter)
+    → ((tags_in f == 1 && t) && is_tag input (inner_in f) b) ≡ (are_tags input f (b ∷ []) && t)
+of-one-tag input b true filter.NoTag = refl
+of-one-tag input b true filter.OneTagDefault = refl
+of-one-tag input b true (filter.OneTag inner) = sym (and-true (is_tag input inner b))
+of-one-tag input b true filter.TwoTagDefault = refl
+of-one-tag input b true (filter.TwoTag outer inner) = refl
+of-one-tag input b false f = rw (and-false (tags_in f == 1), and-false (are_tags input f (b ∷ []))) refl
+
+of-two-tags : (input : ℕ) (a b : TagFields) (t : Bool) (f : Filter)
+    → (((tags_in f == 2 && t) && is_tag input (outer_in f) a) && is_tag input (inner_in f) b) ≡ (are_tags input f (a ∷ b ∷ []) && t)
+of-two-tags input a b true filter.NoTag = refl
+of-two-tags input a b true filter.OneTagDefault = refl
+of-two-tags input a b true (filter.OneTag inner) = refl
+of-two-tags input a b true filter.TwoTagDefault = refl
+of-two-tags input a b true (filter.TwoTag outer inner) = sym (and-true (is_tag input outer a && is_tag input inner b))
+of-two-tags input a b false f = rw (and-false (tags_in f == 2), and-false (are_tags input f (a ∷ b ∷ []))) refl
 
 -- ---- the masks of a frame joined
 
-pub frame-mask : (kind outer inner : ℕ) (rows : List Row) (input type n : ℕ) (a b : TagFields) → n ≤ 2
-    → kind ≡ mask_of (λ row. admits_kind (n * 6 + type_class type) row) rows
+pub no-tag-mask : (kind : ℕ) (rows : List Row) (input type : ℕ)
+    → kind ≡ mask_of (λ row. tags_in row.filter == 0 && has_type row.ethertype type) rows
+    → kind ≡ mask_of (λ row. row_matches input [] type row) rows
+no-tag-mask kind rows input type of_kind =
+    of_kind
+    ∙ mask-same (λ (row : Row). tags_in row.filter == 0 && has_type row.ethertype type) (λ row. row_matches input [] type row) rows
+    (λ row. of-no-tag input (has_type row.ethertype type) row.filter)
+
+pub one-tag-mask : (kind inner : ℕ) (rows : List Row) (input type : ℕ) (b : TagFields)
+    → kind ≡ mask_of (λ row. tags_in row.filter == 1 && has_type row.ethertype type) rows
+    → inner ≡ mask_of (λ f. is_tag input f b) (map (λ (row : Row). inner_in row.filter) rows)
+    → bit_and kind inner ≡ mask_of (λ row. row_matches input (b ∷ []) type row) rows
+one-tag-mask kind inner rows input type b of_kind of_inner =
+    ap₂ bit_and of_kind (of_inner ∙ mask-map (λ f. is_tag input f b) (λ (row : Row). inner_in row.filter) rows)
+    ∙ mask-and (λ (row : Row). tags_in row.filter == 1 && has_type row.ethertype type) (λ (row : Row). is_tag input (inner_in row.filter) b) rows
+    ∙ mask-same (λ (row : Row). (tags_in row.filter == 1 && has_type row.ethertype type) && is_tag input (inner_in row.filter) b)
+    (λ row. row_matches input (b ∷ []) type row) rows (λ row. of-one-tag input b (has_type row.ethertype type) row.filter)
+
+pub two-tag-mask : (kind outer inner : ℕ) (rows : List Row) (input type : ℕ) (a b : TagFields)
+    → kind ≡ mask_of (λ row. tags_in row.filter == 2 && has_type row.ethertype type) rows
     → outer ≡ mask_of (λ f. is_tag input f a) (map (λ (row : Row). outer_in row.filter) rows)
     → inner ≡ mask_of (λ f. is_tag input f b) (map (λ (row : Row). inner_in row.filter) rows)
-    → bit_and (bit_and kind outer) inner ≡ mask_of (λ row. row_matches input (last_tags n a b) type row) rows
-frame-mask kind outer inner rows input type n a b few of_kind of_outer of_inner =
-    let k = n * 6 + type_class type in
+    → bit_and (bit_and kind outer) inner ≡ mask_of (λ row. row_matches input (a ∷ b ∷ []) type row) rows
+two-tag-mask kind outer inner rows input type a b of_kind of_outer of_inner =
     ap₂ bit_and
     (ap₂ bit_and of_kind (of_outer ∙ mask-map (λ f. is_tag input f a) (λ (row : Row). outer_in row.filter) rows)
-    ∙ mask-and (λ row. admits_kind k row) (λ (row : Row). is_tag input (outer_in row.filter) a) rows)
+    ∙ mask-and (λ (row : Row). tags_in row.filter == 2 && has_type row.ethertype type) (λ (row : Row). is_tag input (outer_in row.filter) a) rows)
     (of_inner ∙ mask-map (λ f. is_tag input f b) (λ (row : Row). inner_in row.filter) rows)
-    ∙ mask-and (λ (row : Row). admits_kind k row && is_tag input (outer_in row.filter) a) (λ (row : Row). is_tag input (inner_in row.filter) b) rows
-    ∙ mask-same (λ (row : Row). (admits_kind k row && is_tag input (outer_in row.filter) a) && is_tag input (inner_in row.filter) b)
-    (λ row. row_matches input (last_tags n a b) type row) rows (λ row. row-splits input type n a b row few)
+    ∙ mask-and (λ (row : Row). (tags_in row.filter == 2 && has_type row.ethertype type) && is_tag input (outer_in row.filter) a)
+    (λ (row : Row). is_tag input (inner_in row.filter) b) rows
+    ∙ mask-same (λ (row : Row). ((tags_in row.filter == 2 && has_type row.ethertype type) && is_tag input (outer_in row.filter) a) && is_tag input (inner_in row.filter) b)
+    (λ row. row_matches input (a ∷ b ∷ []) type row) rows (λ row. of-two-tags input a b (has_type row.ethertype type) row.filter)

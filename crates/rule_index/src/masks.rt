@@ -57,17 +57,23 @@ impl Masks {
         }
     }
 
-    // The mask of the rows that are for a frame with this head. The rows of a kind without a tag
-    // admit any tag in its place, so that it doesn't matter what the head has there.
+    // The mask of the rows that are for a frame with this head. Only the masks of the tags that it has
+    // count, so that where their number is known at the call no other is read.
     #[inline(always)]
     pub(crate) fn mask(&self, head: &Head, input_tpid: u16) -> u128
         ensures { (rows : List Row) → IsBuilt self.now rows
             → result ≡ mask_of (λ row. row_matches input_tpid head.now.tags head.now.type row) rows }
     {
-        self.kinds
-            .mask(usize::from(head.tags), type_class(head.ethertype))
-            & self.outer.mask(head.outer, input_tpid)
-            & self.inner.mask(head.inner, input_tpid)
+        let class = type_class(head.ethertype);
+        match head.tags {
+            0 => self.kinds.mask(0, class),
+            1 => self.kinds.mask(1, class) & self.inner.mask(head.inner, input_tpid),
+            _ => {
+                self.kinds.mask(2, class)
+                    & self.outer.mask(head.outer, input_tpid)
+                    & self.inner.mask(head.inner, input_tpid)
+            }
+        }
     }
 
     // The mask of the rows of a number of tags.
