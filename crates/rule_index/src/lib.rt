@@ -9,10 +9,10 @@
 //! **Masks.** The entries are put in the order of rank and place, and entry number j of that order is bit j
 //! of every mask; a mask has 128 bits, and a table at most 128 entries. For each value that a frame can
 //! have in a field there is a mask of the entries that admit it. So the entries that match a frame are the
-//! "and" of one mask per field, and the one that is used is its lowest bit. An entry whose kind doesn't
-//! count a field admits every value of it: no kind is a case of its own, and of a frame with fewer than two
-//! tags any tag may stand for one that isn't there. In the proofs a mask is a function of a test and a list,
-//! and all that an index keeps is one equation for each mask. To join masks is to join tests.
+//! "and" of one mask per field that the frame has, and the one that is used is its lowest bit. An entry whose
+//! kind doesn't count a field admits every value of it, so that no kind is a case of its own. In the proofs a
+//! mask is a function of a test and a list, and all that an index keeps is one equation for each mask. To join
+//! masks is to join tests.
 //!
 //! **Fields.** The number of tags and the Ethertype have one mask for each of three numbers and six classes
 //! of types. Priority, TPID and DEI of a tag have one for each of 64 codes; the TPID counts there by whether
@@ -20,11 +20,12 @@
 //! it. A VID has a class, which is found in 4,096 bytes: each VID that an entry names has one of its own,
 //! and all others share one. There is one mask for each class.
 //!
-//! **What it costs.** `find` joins five masks and counts zeros, for 3 entries as for 128: no turn per entry,
-//! and nothing to be searched, sorted or compared. Groups of entries by VID and priority would need a search
-//! for each combination of fields that some entry leaves open. `rebuild` sets some bits for each entry and
-//! then joins the masks that `find` needs; where no key changed it copies the entries alone. An index takes
-//! some 20 KB, all of it in `new`.
+//! **What it costs.** `find` joins one mask and two more for each tag of the frame, and counts zeros, for 3
+//! entries as for 128: no turn per entry, and nothing to be searched, sorted or compared. It branches on the
+//! number of tags alone, which its caller mostly knows. Groups of entries by VID and priority would need a
+//! search for each combination of fields that some entry leaves open. `rebuild` sets some bits for each entry
+//! and then joins the masks that `find` needs; where no key changed it copies the entries alone. An index
+//! takes some 20 KB, all of it in `new`.
 //!
 //! What a caller keeps for each entry can be kept by its number in the order: [`Index::number`] gives that,
 //! for a [`Head`], the words of a frame that filters look at.

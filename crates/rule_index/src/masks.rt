@@ -57,8 +57,8 @@ impl Masks {
         }
     }
 
-    // The mask of the rows that are for a frame with this head. Only the masks of the tags that it has
-    // count, so that where their number is known at the call no other is read.
+    // The mask of the rows that are for a frame with this head, joined from those of the tags that it has.
+    // Inlined where the number of tags is known, only its arm is left.
     #[inline(always)]
     pub(crate) fn mask(&self, head: &Head, input_tpid: u16) -> u128
         ensures { (rows : List Row) → IsBuilt self.now rows
