@@ -1,5 +1,8 @@
 -- What a search finds among instances in ascending order, and what an edit at that place does.
 use Rattle.std.proofs.Common.{◌≡◌, ℕ, zero, suc, ◌+◌, ◌-◌, ◌<◌, ◌≤◌, List, [], ◌∷◌, length, get_or, set, map, Some, None, Result, Ok, Err, IfOk, IfErr, refl, sym, ap, subst, ◌∙◌, arith}
+use Rattle.std.specs.Prelude.{is_some, slice_get}
+use Rattle.std.specs.Option.{option_and_then}
+use Rattle.std.specs.Result.{result_ok}
 use Rattle.std.specs.List as list
 use Rattle.std.specs.List.Sorted.{IsSearchInRange, IsBinarySearchResult, IsNonDecreasingBy}
 use Rattle.std.specs.Ordering.{nat_cmp, ordering_index}
@@ -7,6 +10,7 @@ use Rattle.std.specs.declared.cmp.Ordering.{Ordering}
 use Rattle.std.proofs.lemmas.Cmp.{ranked}
 use Rattle.std.proofs.lemmas.List.Edits.{length-insert, get_or-insert_below, get_or-insert_at, get_or-insert_above, length-remove, get_or-remove_below, get_or-remove_above}
 use Rattle.std.proofs.lemmas.List.{get_or-map, length-map}
+use Rattle.std.proofs.lemmas.Option.{slice_get-get_or}
 use Rattle.std.proofs.lemmas.Bool.{lt-ltb, le-ltb, ne_eqb, eq-eqb}
 use Rattle.std.proofs.lemmas.Bool.Decides.{nat_tests}
 use Rattle.std.proofs.lemmas.Grind.{common_steps}
@@ -72,6 +76,23 @@ insert_gap (x ∷ l) zero new gap = rw (lt-ltb new.number x.number (gap.greater_
 insert_gap (x ∷ l) (suc i) new gap =
     let smaller : x.number < new.number = gap.smaller_before zero (omega arith) in
     rw (le-ltb new.number x.number (omega arith)) (ap (λ rest. x ∷ rest) (insert_gap l i new (tail_gap x l new.number i gap)))
+
+-- ---- what a search gives
+
+module _ (l : List Instance) (n : ℕ) where
+  pub found_instance : IsAscending l → (r : Result ℕ ℕ) → IfOk r (IsAt l n) → IfOk r (λ i. slice_get l i ≡ find n l)
+  found_instance up (Ok i) at = slice_get-get_or l i blank at.in_range ∙ sym (find_at l n i up at)
+  found_instance up (Err i) at = tt
+
+  pub found_room : (room : ℕ) → length l ≤ room → (r : Result ℕ ℕ) → IfOk r (IsAt l n) → IfOk r (λ i. i < room)
+  found_room room fits (Ok i) at = omega (arith, at.in_range)
+  found_room room fits (Err i) at = tt
+
+  -- the place of an instance, if there is one
+  pub place_found : (r : Result ℕ ℕ) → IfOk r (IsAt l n) → IfErr r (IsGapFor l n) → IfOk r (λ i. slice_get l i ≡ find n l)
+      → record { instance : option_and_then (slice_get l) (result_ok r) ≡ find n l; held : is_some (result_ok r) ≡ is_some (find n l) }
+  place_found (Ok i) at gap is = record { instance = is; held = ap is_some (sym (slice_get-get_or l i blank at.in_range) ∙ is) }
+  place_found (Err i) at gap is = let none = find_gap l n i gap in record { instance = sym none; held = ap is_some (sym none) }
 
 -- ---- the order is kept
 

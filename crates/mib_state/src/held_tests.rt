@@ -74,3 +74,62 @@ fn a_table_and_what_a_class_has_not_have_no_bytes(rt: HostRuntime) -> Result<(),
     }
     Ok(())
 }
+
+/// The same, with a second mapper and a second table, made after the first and of smaller numbers.
+fn set_up_two(alloc: Global) -> Result<Mib, AllocError> {
+    let mut mib = set_up(alloc)?;
+    let _ = mib.step(&create(130, 0x0600, &[1, 2, 5, 1, 5, 2, 5, 3]));
+    let _ = mib.step(&create(171, 0x0700, &[2, 1, 2]));
+    Ok(mib)
+}
+
+#[test]
+fn an_instance_has_a_place_among_those_of_its_class(rt: HostRuntime) -> Result<(), Fail> {
+    let mib = set_up_two(rt.alloc())?;
+    for (class, instance, wanted) in [
+        (2, 0, Some(0)),
+        (2, 1, None),
+        (130, 0x0600, Some(0)),
+        (130, 0x0601, Some(1)),
+        (130, 0x0701, None),
+        (171, 0x0700, Some(0)),
+        (171, 0x0701, Some(1)),
+        (171, 0x0601, None),
+        (266, 0x0501, Some(0)),
+        (266, 0x0500, None),
+        (268, 0x0401, Some(0)),
+        (268, 0x0402, Some(1)),
+        (268, 0x0403, None),
+        (45, 0x0601, None),
+    ] {
+        assert_eq!(rt;
+            mib.place_of(class, instance),
+            wanted,
+            "the place of {instance} of {class}"
+        );
+    }
+    Ok(())
+}
+
+#[test]
+fn mappers_and_tables_are_lent_by_place(rt: HostRuntime) -> Result<(), Fail> {
+    let mib = set_up_two(rt.alloc())?;
+    for (place, mapper, vlan) in [
+        (0, Some((0x0600, 258)), Some((0x0700, 258))),
+        (1, Some((0x0601, 257)), Some((0x0701, 257))),
+        (2, None, None),
+        (usize::MAX, None, None),
+    ] {
+        assert_eq!(rt;
+            mib.mapper_at(place).map(|held| (held.0, held.1.tp_pointer)),
+            mapper,
+            "the mapper at place {place}"
+        );
+        assert_eq!(rt;
+            mib.vlan_at(place).map(|held| (held.0, held.1.pointer)),
+            vlan,
+            "the table at place {place}"
+        );
+    }
+    Ok(())
+}

@@ -1,5 +1,6 @@
 //! The instances of a class, by ascending number, in room that is reserved.
-ghost use Rattle.std.specs.Prelude.{◌≡◌, ◌<◌, [], None, if◌then◌else◌, length, map, option_map, drop, slice_get, is_ok, true, IfOk, IfErr, IfSome, vec_len, vec_capacity, ◌≤◌};
+ghost use Rattle.std.specs.Prelude.{◌≡◌, ◌<◌, [], None, if◌then◌else◌, length, map, option_map, drop, slice_get, is_ok, is_some, true, IfOk, IfErr, IfSome, vec_len, vec_capacity, ◌≤◌};
+ghost use Rattle.std.specs.Option.{option_and_then};
 ghost use Rattle.managed_entity.specs.Class.{table_at, width_at};
 ghost use Rattle.mib_state.specs.Entities.{find, next, IsAt, IsGapFor};
 ghost use Rattle.managed_entity.specs.Instance.{shown_as, value_at};
@@ -59,6 +60,8 @@ impl<E: ManagedEntity> Instances<E> {
     fn search(&self, number: u16) -> Result<usize, usize>
         ensures found { IfOk result (IsAt self.now number) }
         ensures absent { IfErr result (IsGapFor self.now number) }
+        ensures instance { IfOk result (λ place. slice_get self.now place ≡ find number self.now) }
+        ensures room { IfOk result (λ place. place < E.ROOM) }
     {
         self.rows.binary_search_by_key(&number, |row| row.number)
     }
@@ -80,6 +83,15 @@ impl<E: ManagedEntity> Instances<E> {
     {
         let row = self.rows.get(place)?;
         Some((row.number, &row.entity))
+    }
+
+    /// The place of the instance of a number.
+    pub(crate) fn place_of(&self, number: u16) -> Option<usize>
+        ensures instance { option_and_then (λ (place : _). slice_get self.now place) result ≡ find number self.now }
+        ensures held { is_some result ≡ is_some (find number self.now) }
+        ensures room { IfSome result (λ place. place < E.ROOM) }
+    {
+        self.search(number).ok()
     }
 
     /// The attribute at a place of the instance of a number; None for the table.

@@ -1,5 +1,6 @@
 //! The management information base, and what it shows.
-ghost use Rattle.std.specs.Prelude.{◌≡◌, ◌<◌, ◌-◌, IfOk, IfSome, option_map, length, slice_get};
+ghost use Rattle.std.specs.Prelude.{◌≡◌, ◌<◌, ◌-◌, IfOk, IfSome, is_some, option_map, length, slice_get};
+ghost use Rattle.std.specs.Option.{option_and_then};
 ghost use Rattle.managed_entity.specs.Class.{attributes_of, room_of, width_at};
 ghost use Rattle.mib_state.specs.Entities.{nothing, unlatched, instances_of, find, next};
 ghost use Rattle.managed_entity.specs.Instance.{attribute_of};
@@ -133,6 +134,39 @@ impl Mib {
             GEM_PORT => self.gem_ports.attribute(instance, place),
             _ => None,
         }
+    }
+
+    /// The place of an instance among those of its class: the one at which `instance_at` lends it.
+    pub fn place_of(&self, class: u16, instance: u16) -> Option<usize>
+        ensures instance { option_and_then (λ (place : _). slice_get (instances_of self.now.entities class) place) result ≡ find instance (instances_of self.now.entities class) }
+        ensures held { is_some result ≡ is_some (find instance (instances_of self.now.entities class)) }
+        ensures room { IfSome result (λ place. place < room_of class) }
+    {
+        match class {
+            ONU_DATA if instance == 0 => Some(0),
+            MAPPER => self.mappers.place_of(instance),
+            VLAN => self.vlans.place_of(instance),
+            INTERWORK => self.interworks.place_of(instance),
+            GEM_PORT => self.gem_ports.place_of(instance),
+            _ => None,
+        }
+    }
+
+    /// The number of the 802.1p mapper service profile at a place, and the mapper; places as in `instance_at`.
+    pub fn mapper_at(&self, place: usize) -> Option<(u16, &Mapper)>
+        ensures shown { option_map (λ (held : _). mapper_instance held.0 held.1.now) result ≡ slice_get self.now.entities.mappers place }
+        ensures room { IfSome result (λ held. place < room_of 130) }
+    {
+        self.mappers.at(place)
+    }
+
+    /// The number of the extended VLAN tagging operation configuration data at a place, and the data; places as in
+    /// `instance_at`.
+    pub fn vlan_at(&self, place: usize) -> Option<(u16, &VlanConfig)>
+        ensures shown { option_map (λ (held : _). vlan_instance held.0 held.1.now) result ≡ slice_get self.now.entities.vlans place }
+        ensures room { IfSome result (λ held. place < room_of 171) }
+    {
+        self.vlans.at(place)
     }
 
     /// The 802.1p mapper service profile of a number.
