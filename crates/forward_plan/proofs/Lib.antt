@@ -2,4 +2,5 @@ pub mod Numbers
 pub mod GemPorts
 pub mod Tables
 pub mod Spellings
+pub mod Attachments
 mod Examples

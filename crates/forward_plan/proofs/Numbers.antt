@@ -16,7 +16,7 @@ pub two_bytes : (x : ℕ) → x < 2 ^ 16 → number_of (x / 256 % 256 ∷ x % 25
 two_bytes x h = omega arith
 
 -- the one byte of a number spells it
-one_byte : (x : ℕ) → number_of (x ∷ []) ≡ x
+pub one_byte : (x : ℕ) → number_of (x ∷ []) ≡ x
 one_byte x = omega arith
 
 -- what a mapper says of frames without a tag, by the fields that code keeps it in

@@ -1,3 +1,4 @@
 pub mod Reason
 pub mod Meaning
 pub mod Size
+pub mod Plan

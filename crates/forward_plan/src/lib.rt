@@ -14,8 +14,10 @@
 //! Nothing but [`OutFrame::append_to`] takes memory.
 #![tactic(auto)]
 
+mod attached;
 mod gem_port;
 mod out_frame;
+mod ports;
 mod reason;
 mod spelling;
 mod table;
@@ -28,5 +30,7 @@ pub use spelling::NoMemory;
 pub use verdict::Verdict;
 pub use walk::plain_walk;
 
+#[cfg(test)]
+mod ports_tests;
 #[cfg(test)]
 mod tests;

@@ -1,0 +1,54 @@
+//! What is attached to a port.
+ghost use Rattle.std.specs.Prelude.{◌≤◌};
+ghost use Rattle.std.specs.Option.{option_and_then};
+ghost use Rattle.managed_entity.specs.Class.{room_of};
+ghost use Rattle.mib_state.specs.Entities.{find, instances_of};
+ghost use Rattle.forward_plan.specs.Plan.{IsPlaceOf};
+
+use managed_entity::class::{MAPPER, VLAN};
+use mib_state::Mib;
+
+/// The place of a table or a mapper that a port doesn't have.
+pub(crate) const NONE: u8 = 255;
+
+/// What is attached to a port: its table and its mapper, each by its place among the instances of its class, or `NONE`.
+#[derive(Clone, Copy, Debug, PartialEq, Eq)]
+pub(crate) struct Attached {
+    pub(crate) table: u8,
+    pub(crate) mapper: u8,
+}
+
+impl Attached {
+    ghost use Rattle.forward_plan.specs.Plan.{IsAttached};
+
+    /// Neither a table nor a mapper.
+    pub(crate) const NOTHING: Attached = Attached {
+        table: NONE,
+        mapper: NONE,
+    };
+
+    /// What is attached to a port.
+    #[tactic(auto, unfolding(crate::specs::Meaning::mapper_at))]
+    pub(crate) fn of(mib: &Mib, port: u16) -> Self
+        ensures { IsAttached mib.now.entities port result }
+    {
+        Attached {
+            table: place_of(mib, VLAN, mib.table_of_port(port)),
+            mapper: place_of(mib, MAPPER, mib.mapper_of_port(port)),
+        }
+    }
+}
+
+/// The place of an instance of a class, or `NONE`.
+fn place_of(mib: &Mib, class: u16, instance: Option<u16>) -> u8
+    requires { room_of class ≤ 255 }
+    ensures { IsPlaceOf (instances_of mib.now.entities class) (option_and_then (λ n. find n (instances_of mib.now.entities class)) instance) result }
+{
+    let Some(number) = instance else {
+        return NONE;
+    };
+    match mib.place_of(class, number) {
+        Some(place) => place as u8,
+        None => NONE,
+    }
+}
