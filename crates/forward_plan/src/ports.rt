@@ -35,7 +35,7 @@ impl Ports {
     ghost use Rattle.mib_state.specs.Entities.{Entities, nothing};
     ghost use Rattle.forward_plan.specs.Plan.{AreAttached, AreMapped, IsAttached, IsAttachedIn};
 
-    /// The ports when there is no entity.
+    /// The ports when there is no entity, with room for all.
     pub(crate) fn new(alloc: Global) -> Result<Self, AllocError>
         ensures { IfOk result (λ ports. AreAttached nothing ports) }
     {
@@ -55,7 +55,7 @@ impl Ports {
 
     /// Attaches to each port what the entities say. This takes no memory.
     ///
-    /// A port that no mapper and no table names has neither, so only those that are named are looked up.
+    /// A port that no mapper and no table points to has neither, so only those that are pointed to are looked up: 48 at most.
     pub(crate) fn compile(&mut self, mib: &Mib)
         ensures { AreAttached mib.now.entities self.new }
     {
