@@ -1,27 +1,60 @@
 -- What is compiled of managed entities for forwarding, part by part: each part is a function of the entities.
-use Rattle.std.specs.Prelude.{◌≡◌, ◌<◌, ◌⊎◌, ℕ, List, [], ◌∷◌, map, Option, Some, None, Result, slice_get}
-use Rattle.std.specs.Option.{option_and_then}
-use Rattle.pmapper.specs.Mapper.{Unmarked}
+use Rattle.std.specs.Prelude.{◌≡◌, ◌<◌, ◌⊎◌, ℕ, Bool, false, List, [], ◌∷◌, map, Option, Some, None, IfSome, Result, Ok, Err, slice_get, slice_index, replicate}
+use Rattle.std.specs.Option.{option_and_then, unwrap_or}
+use Rattle.vlan_rule.specs.Table.{predefined}
+use Rattle.pmapper.specs.Mapper.{unmarked_priority_of}
 use Rattle.managed_entity.specs.Instance.{Instance}
 use Rattle.mib_state.specs.Entities.{Entities, find, nothing}
 use Rattle.mib_state.specs.Attached.{mapper_of_port, table_of_port}
 use Rattle.forward_plan.specs.declared.reason.Reason.{Reason}
+use Rattle.forward_plan.specs.declared.reason.Reason.TheVariants.{NoMapper}
 use Rattle.forward_plan.specs.declared.attached.Attached.{Attached}
-use Rattle.forward_plan.specs.Meaning.{mapper_at, unmarked_at, gem_port_of}
+use Rattle.forward_plan.specs.declared.routes.Routes.{Routes}
+use Rattle.forward_plan.specs.Meaning.{Table, mapper_at, unmarked_at, gem_port_of}
+
+-- ---- the DSCP of a frame as a place in a list: its number, and 64 for none
+
+abbrev pub dscp_place : Option ℕ → ℕ
+dscp_place (Some dscp) = dscp
+dscp_place None = 64
+
+-- a DSCP has six bits
+abbrev pub IsDscp : Option ℕ → Type 0
+IsDscp dscp = IfSome dscp (λ d. d < 64)
+
+-- ---- a table
+
+-- what is compiled of a table: the table that it is, and whether it asks for the DSCP of a frame
+pub record TablePlan : Type 0 where
+  pub table : Table
+  pub uses_dscp : Bool
+
+-- a table by which every frame keeps its tags: a new one. A port without a table is as one with this.
+abbrev pub transparent : Table
+transparent =
+    record {
+      settings = record { input_tpid = 0x8100; output_tpid = 0x8100; dscp_map = record { 0 = replicate 24 0 } };
+      entries = predefined;
+    }
 
 -- ---- a mapper
 
--- the routes of a mapper: for each priority, 0 first, the GEM port or the reason that there is none; and what it says of
--- frames without a tag
-pub record MapperRoutes : Type 0 where
-  pub by_priority : List (Result ℕ Reason)
-  pub unmarked : Unmarked
+-- the GEM port of the frames of a priority that come to a mapper, or the reason that there is none
+abbrev pub route_of : Entities → Option Instance → ℕ → Result ℕ Reason
+route_of e None priority = Err NoMapper
+route_of e (Some mapper) priority = gem_port_of e mapper priority
 
-abbrev pub priorities : List ℕ
-priorities = 0 ∷ 1 ∷ 2 ∷ 3 ∷ 4 ∷ 5 ∷ 6 ∷ 7 ∷ []
+-- the priority that a mapper has for frames without a tag, by their DSCP if they have one
+abbrev pub untagged_priority : Option Instance → Option ℕ → ℕ
+untagged_priority None dscp = 0
+untagged_priority (Some mapper) dscp = unmarked_priority_of (unmarked_at mapper) dscp
 
-abbrev pub routes_of : Entities → Instance → MapperRoutes
-routes_of e mapper = record { by_priority = map (gem_port_of e mapper) priorities; unmarked = unmarked_at mapper }
+-- the routes of a mapper, or those of a port without one
+pub record AreRoutes (e : Entities) (mapper : Option Instance) (routes : Routes) : Type 0 where
+  pub by_priority : (priority : ℕ) → priority < 8 → slice_get routes.by_priority priority ≡ Some (route_of e mapper priority)
+  pub untagged : (dscp : Option ℕ) → IsDscp dscp → slice_index routes.untagged (dscp_place dscp) ≡ untagged_priority mapper dscp
+  -- where the DSCP isn't asked for, it makes no difference
+  pub foreseen : routes.uses_dscp ≡ false → (dscp : Option ℕ) → IsDscp dscp → untagged_priority mapper dscp ≡ untagged_priority mapper None
 
 -- ---- a port
 

@@ -19,6 +19,7 @@ mod gem_port;
 mod out_frame;
 mod ports;
 mod reason;
+mod routes;
 mod spelling;
 mod table;
 mod verdict;
