@@ -3,4 +3,5 @@ pub mod GemPorts
 pub mod Tables
 pub mod Spellings
 pub mod Attachments
+pub mod Routing
 mod Examples

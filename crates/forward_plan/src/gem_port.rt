@@ -54,7 +54,7 @@ fn gem_port_behind(mib: &Mib, point: &Interwork) -> Result<u16, Reason>
 
 /// The GEM port of the frames of a priority that come to a mapper.
 #[tactic(auto, unfolding(crate::specs::Meaning::gem_port_of))]
-fn gem_port_of(mib: &Mib, mapper: &Mapper, priority: u8) -> Result<u16, Reason>
+pub(crate) fn gem_port_of(mib: &Mib, mapper: &Mapper, priority: u8) -> Result<u16, Reason>
     requires { priority < 8 }
     ensures { (n : ℕ) → result ≡ gem_port_of mib.now.entities (mapper_instance n mapper.now) priority }
 {

@@ -16,6 +16,7 @@
 
 mod attached;
 mod gem_port;
+mod mapper_routes;
 mod out_frame;
 mod ports;
 mod reason;
