@@ -4,4 +4,7 @@ pub mod Tables
 pub mod Spellings
 pub mod Attachments
 pub mod Routing
+pub mod Places
+pub mod Planned
+pub mod Transparent
 mod Examples

@@ -1,5 +1,5 @@
 -- The routes of a mapper, by what each of their parts says.
-use Rattle.std.proofs.Common.{◌≡◌, ◌≢◌, ℕ, zero, suc, ◌%◌, ◌^◌, ◌+◌, ◌<◌, false, List, [], ◌∷◌, length, replicate, set, below_more, get_or-set_other, get_or-set_same, Option, Some, None, Err, refl, ap, sym, ◌∙◌, arith}
+use Rattle.std.proofs.Common.{◌≡◌, ◌≢◌, ℕ, zero, suc, ◌%◌, ◌+◌, ◌<◌, false, List, [], ◌∷◌, length, replicate, set, below_more, get_or-set_other, get_or-set_same, Option, Some, None, Err, refl, ap, sym, ◌∙◌, arith}
 use Rattle.std.specs.Prelude.{Result, slice_get, slice_index}
 use Rattle.std.proofs.lemmas.Bool.{ne_eqb}
 use Rattle.std.proofs.lemmas.List.{get_or-replicate}
@@ -39,7 +39,7 @@ of_none e routes by_priority untagged =
     record {
       by_priority = λ priority small. rw by_priority (all_same 8 (Err NoMapper) priority small);
       untagged = λ dscp six. rw untagged (all_zero 65 (dscp_place dscp));
-      foreseen = λ unused dscp six. refl;
+      foreseen = λ unused dscp. refl;
     }
 
 -- ---- the routes of a mapper
@@ -101,5 +101,5 @@ of_some e n m routes by_priority untagged unused =
     record {
       by_priority = by_priority;
       untagged = λ dscp six. untagged dscp six ∙ sym (same dscp);
-      foreseen = λ no dscp six. same dscp ∙ (by_default m dscp (unused no) ∙ sym (by_default m None (unused no))) ∙ sym (same None);
+      foreseen = λ no dscp. same dscp ∙ (by_default m dscp (unused no) ∙ sym (by_default m None (unused no))) ∙ sym (same None);
     }

@@ -2,3 +2,4 @@ pub mod Reason
 pub mod Meaning
 pub mod Size
 pub mod Plan
+pub mod Leaving

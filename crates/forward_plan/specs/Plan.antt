@@ -54,7 +54,7 @@ pub record AreRoutes (e : Entities) (mapper : Option Instance) (routes : Routes)
   pub by_priority : (priority : ℕ) → priority < 8 → slice_get routes.by_priority priority ≡ Some (route_of e mapper priority)
   pub untagged : (dscp : Option ℕ) → IsDscp dscp → slice_index routes.untagged (dscp_place dscp) ≡ untagged_priority mapper dscp
   -- where the DSCP isn't asked for, it makes no difference
-  pub foreseen : routes.uses_dscp ≡ false → (dscp : Option ℕ) → IsDscp dscp → untagged_priority mapper dscp ≡ untagged_priority mapper None
+  pub foreseen : routes.uses_dscp ≡ false → (dscp : Option ℕ) → untagged_priority mapper dscp ≡ untagged_priority mapper None
 
 -- ---- a port
 

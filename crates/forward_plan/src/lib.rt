@@ -15,9 +15,12 @@
 #![tactic(auto)]
 
 mod attached;
+mod compiled_table;
+mod dscp;
 mod gem_port;
 mod mapper_routes;
 mod out_frame;
+mod port_plan;
 mod ports;
 mod reason;
 mod routes;
@@ -27,6 +30,7 @@ mod verdict;
 mod walk;
 
 pub use out_frame::OutFrame;
+pub use port_plan::PortPlan;
 pub use reason::Reason;
 pub use spelling::NoMemory;
 pub use verdict::Verdict;
