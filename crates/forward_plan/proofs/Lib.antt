@@ -6,5 +6,6 @@ pub mod Attachments
 pub mod Routing
 pub mod Places
 pub mod Planned
+pub mod CompiledTables
 pub mod Transparent
 mod Examples

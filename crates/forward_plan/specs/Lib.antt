@@ -3,3 +3,4 @@ pub mod Meaning
 pub mod Size
 pub mod Plan
 pub mod Leaving
+pub mod CompiledTable

@@ -82,7 +82,7 @@ impl<'m> PortTable<'m> {
 }
 
 /// What a table's rules are applied with.
-fn settings_of(input_tpid: u16, output_tpid: u16, dscp_map: DscpMap) -> TableSettings
+pub(crate) fn settings_of(input_tpid: u16, output_tpid: u16, dscp_map: DscpMap) -> TableSettings
     ensures { result ≡ record { input_tpid = input_tpid; output_tpid = output_tpid; dscp_map = dscp_map } }
 {
     TableSettings {
