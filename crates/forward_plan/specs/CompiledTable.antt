@@ -1,5 +1,5 @@
 -- What is kept of a table, so that it gives a frame its tags without a look at each entry.
-use Rattle.std.specs.Prelude.{◌≡◌, ◌<◌, ◌≤◌, ℕ, false, List, Option, Some, length, slice_get, slice_index}
+use Rattle.std.specs.Prelude.{◌≡◌, ◌<◌, ◌≤◌, ℕ, true, false, List, Option, Some, length, slice_get, slice_index}
 use Rattle.vlan_rule.specs.declared.settings.TableSettings.{TableSettings}
 use Rattle.vlan_rule.specs.Choice.{entry_at}
 use Rattle.vlan_rule.specs.Meaning.{filter_of, treatment_of}
@@ -24,6 +24,10 @@ pub record AreTreats (settings : TableSettings) (entries : List (List ℕ)) (tre
 -- no tag gets the priority of a DSCP
 abbrev pub NoneAsks : List (Option Compiled) → Type 0
 NoneAsks treats = (place : ℕ) (treat : Compiled) → slice_get treats place ≡ Some (Some treat) → asks_dscp treat ≡ false
+
+-- some tag gets it
+abbrev pub SomeAsks : List (Option Compiled) → Type 0
+SomeAsks treats = (place : ℕ) × (treat : Compiled) × (slice_get treats place ≡ Some (Some treat)) × (asks_dscp treat ≡ true)
 
 -- the priorities that a mapping has for each DSCP and, behind them, without one
 pub record AreMarkings (map : List ℕ) (markings : List ℕ) : Type 0 where

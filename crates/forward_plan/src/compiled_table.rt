@@ -1,8 +1,8 @@
 //! The table of a port (ITU-T G.988, clause 9.3.13), compiled.
-ghost use Rattle.std.specs.Prelude.{◌≡◌, ◌≤◌, false, vec_capacity};
+ghost use Rattle.std.specs.Prelude.{◌≡◌, ◌≤◌, true, false, vec_capacity};
 ghost use Rattle.vlan_rule.specs.Table.{table_max_size};
 ghost use Rattle.rule_index.specs.Filters.{tags_in};
-ghost use Rattle.forward_plan.specs.CompiledTable.{AreMarkings, AreTreats, NoneAsks};
+ghost use Rattle.forward_plan.specs.CompiledTable.{AreMarkings, AreTreats, NoneAsks, SomeAsks};
 
 use crate::reason::Reason;
 use crate::table::settings_of;
@@ -199,7 +199,8 @@ fn markings_of(map: &DscpMap) -> [u8; 65]
 
 /// Whether some treatment asks for the DSCP of a frame.
 fn any_asks(treats: &[Option<Treat>]) -> bool
-    ensures { result ≡ false → NoneAsks treats.now }
+    ensures none { result ≡ false → NoneAsks treats.now }
+    ensures some { result ≡ true → SomeAsks treats.now }
 {
     for treat in treats {
         if let Some(treat) = treat
