@@ -37,6 +37,8 @@ pub use verdict::Verdict;
 pub use walk::plain_walk;
 
 #[cfg(test)]
+mod compiled_table_tests;
+#[cfg(test)]
 mod ports_tests;
 #[cfg(test)]
 mod tests;
