@@ -6,6 +6,7 @@ pub mod Attachments
 pub mod Routing
 pub mod Places
 pub mod Planned
+pub mod Meant
 pub mod CompiledTables
 pub mod Transparent
 mod Examples

@@ -1,7 +1,9 @@
 -- What the plan of a port decides of a frame.
 use Rattle.std.proofs.Common.{◌≡◌, ℕ, ◌<◌, ◌≤◌, Bool, true, false, List, [], ◌∷◌, map, take, length, Option, Some, None, Result, Ok, Err, All, refl, ap, sym, ◌∙◌, arith, ◌⊎◌, inl, inr, zero, suc, ◌-◌}
 use Rattle.std.specs.Prelude.{slice_index_or}
+use Rattle.std.proofs.lemmas.Bool.{true≢false}
 use Rattle.std.specs.Option.{unwrap_or}
+use Rattle.forward_plan.specs.declared.port_plan.PortPlan.{PortPlan}
 use Rattle.tag_view.specs.Tag.{TagFields, IsInRange}
 use Rattle.tag_view.specs.Word.{tag_of, word_of}
 use Rattle.tag_view.proofs.Words.{tag_back}
@@ -19,8 +21,8 @@ use Rattle.managed_entity.specs.Instance.{Instance}
 use Rattle.mib_state.specs.Entities.{Entities}
 use Rattle.forward_plan.specs.declared.reason.Reason.{Reason}
 use Rattle.forward_plan.specs.Meaning.{Table, entry_for, found_then, gem_port_at, gem_port_of, mapper_at, table_at, tags_at, tags_by, unmarked_at}
-use Rattle.forward_plan.specs.Plan.{route_of, transparent, untagged_priority}
-use Rattle.forward_plan.specs.Leaving.{leaves_by, priority_made}
+use Rattle.forward_plan.specs.Plan.{IsDscp, dscp_place, route_of, transparent, untagged_priority}
+use Rattle.forward_plan.specs.Leaving.{IsPlaceFor, leaves_by, priority_made}
 
 -- ---- the tags
 
@@ -53,11 +55,19 @@ sources compiled settings tags dscp first last marking two range is_first is_las
       marking = marks;
     }
 
+-- the priority of the DSCP is right where a treatment asks for it
+pub marked : (plan : PortPlan) (compiled : Compiled) (settings : TableSettings) (dscp : Option ℕ) (place marking : ℕ) → IsPlaceFor plan dscp place
+    → (IsDscp dscp → place ≡ dscp_place dscp → marking ≡ dscp_priority settings.dscp_map.0 dscp)
+    → (plan.table.now.uses_dscp ≡ false → asks_dscp compiled ≡ false) → asks_dscp compiled ≡ true
+    → marking ≡ dscp_priority settings.dscp_map.0 dscp
+marked plan compiled settings dscp place marking (inl there) value none asks = value there.six_bits there.there
+marked plan compiled settings dscp place marking (inr unasked) value none asks = absurd (true≢false (sym asks ∙ none unasked.table))
+
 -- a port without a table has a transparent one
 pub planned_tags : (table : Option Table) (frame : Reading) → length frame.tags ≤ 2 → All IsInRange frame.tags
     → tags_at table frame ≡ tags_by (unwrap_or table transparent) frame
 unfolding tags_at
-planned_tags None frame two range = sym (transparent_tags frame two range)
+planned_tags None frame two range = sym (transparent_tags frame two)
 planned_tags (Some table) frame two range = refl
 
 -- the tags that are made of a frame's words are those that the table of the port gives

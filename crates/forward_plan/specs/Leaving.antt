@@ -1,9 +1,9 @@
 -- The plan of a port, and what it decides of a frame that was read.
-use Rattle.std.specs.Prelude.{◌≡◌, ◌≤◌, ◌⊎◌, ℕ, zero, suc, List, All, false, length, map, Option, Result, Ok, slice_index, take}
+use Rattle.std.specs.Prelude.{◌≡◌, ◌≤◌, ◌⊎◌, ◌+◌, ◌*◌, ℕ, drop, zero, suc, List, All, false, length, map, Option, Result, Ok, slice_index, take}
 use Rattle.std.specs.Option.{unwrap_or}
 use Rattle.tag_view.specs.Tag.{TagFields, IsInRange}
 use Rattle.tag_view.specs.Word.{tag_of}
-use Rattle.tag_view.specs.Frame.{Reading}
+use Rattle.tag_view.specs.Frame.{Reading, frame_of, reading_of}
 use Rattle.tag_view.specs.Dscp.{dscp_of}
 use Rattle.rule_index.specs.Head.{FrameHead, head_of}
 use Rattle.treatment.specs.Compiled.{words_by}
@@ -68,3 +68,9 @@ pub record HasHead (head : FrameHead) (frame : Reading) : Type 0 where
 pub record IsFrameOf (head : FrameHead) (rest : List ℕ) (frame : Reading) : Type 0 where
   pub ahead : HasHead head frame
   pub behind : frame.rest ≡ rest
+
+-- the head of a frame that the port of a plan reads
+pub record IsHeadOf (plan : PortPlan) (bytes : List ℕ) (head : FrameHead) : Type 0 where
+  pub read : frame_of plan.table.now.table.settings.input_tpid bytes ≡ Ok (reading_of plan.table.now.table.settings.input_tpid bytes)
+  pub of : IsFrameOf head (drop (12 + 4 * length head.tags) bytes) (reading_of plan.table.now.table.settings.input_tpid bytes)
+  pub whole : 14 + 4 * length head.tags ≤ length bytes

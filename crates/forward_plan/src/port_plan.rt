@@ -1,14 +1,15 @@
 //! The plan of one port, and its frames.
-ghost use Rattle.std.specs.Prelude.{◌≡◌, ◌<◌, ◌≤◌, ◌+◌, ◌*◌, [], ◌∷◌, ◌++◌, ℕ, List, Option, map, take, IfOk, IfErr, Ok, Err, length, vec_len, vec_capacity};
+ghost use Rattle.std.specs.Prelude.{◌≡◌, ◌<◌, ◌≤◌, ◌+◌, ◌*◌, [], ◌∷◌, ◌++◌, ℕ, List, Option, map, take, drop, IfOk, IfErr, Ok, Err, length, vec_len, vec_capacity};
 ghost use Rattle.tag_view.specs.Tag.{TagFields};
 ghost use Rattle.tag_view.specs.Word.{tag_of};
 ghost use Rattle.tag_view.specs.Frame.{Reading, type_at};
 ghost use Rattle.tag_view.specs.Dscp.{dscp_of};
-ghost use Rattle.rule_index.specs.Head.{head_of, head_read};
+ghost use Rattle.rule_index.specs.Head.{head_of};
+ghost use Rattle.forward_plan.specs.declared.verdict.Verdict.TheVariants.{Drop, Forward};
 ghost use Rattle.mib_state.specs.Entities.{Entities};
 ghost use Rattle.forward_plan.specs.Meaning.{gem_port_at, mapper_at, meaning, table_at, tags_at};
 ghost use Rattle.forward_plan.specs.Plan.{untagged_priority};
-ghost use Rattle.forward_plan.specs.Leaving.{HasHead, IsFrameOf, IsPlaceFor, IsPlanOf, leaves_by, priority_made, tags_made, words_made};
+ghost use Rattle.forward_plan.specs.Leaving.{HasHead, IsFrameOf, IsHeadOf, IsPlaceFor, IsPlanOf, leaves_by, priority_made, tags_made, words_made};
 
 use crate::compiled_table::CompiledTable;
 use crate::dscp::place_of_dscp;
@@ -106,7 +107,11 @@ impl<'p> PortPlan<'p> {
     {
         let untagged = self.routes.untagged(place);
         let outermost = Tag::of_word(tagging.words()[0]).pcp;
-        if tagging.count() == 0 { untagged } else { outermost }
+        if tagging.count() == 0 {
+            untagged
+        } else {
+            outermost
+        }
     }
 
     /// The GEM port of a frame with these tags, or the reason that there is none.
@@ -138,4 +143,95 @@ impl<'p> PortPlan<'p> {
             Err(reason) => Err(reason),
         }
     }
+
+    /// The head of a frame, or why it is dropped unread.
+    #[inline(always)]
+    fn read(&self, bytes: &[u8]) -> Result<Head, Reason>
+        ensures head { IfOk result (λ head. IsHeadOf self.now bytes.now head) }
+        ensures dropped { IfErr result (λ reason. (e : Entities) (port : ℕ) → IsPlanOf e port self.now → Drop reason ≡ meaning e port bytes.now) }
+    {
+        match Head::read(bytes, self.table.input_tpid()) {
+            Ok(head) => Ok(head),
+            Err(fault) => Err(Reason::from(fault)),
+        }
+    }
+
+    /// Appends the verdict on a frame with this head.
+    #[inline(always)]
+    fn push_read<'a>(
+        &self,
+        head: &Head,
+        received: usize,
+        bytes: &'a [u8],
+        verdicts: &mut Vec<Verdict<'a>>,
+    )
+        requires head { IsHeadOf self.now bytes.now head.now }
+        requires received { received ≡ length head.now.tags }
+        requires free { vec_len verdicts.old < vec_capacity verdicts.old }
+        ensures verdict { (e : Entities) (port : ℕ) → IsPlanOf e port self.now → verdicts.new.items ≡ verdicts.old.items ++ meaning e port bytes.now ∷ [] }
+        ensures room { vec_capacity verdicts.new ≡ vec_capacity verdicts.old }
+    {
+        match self.decide(head, behind_tags(bytes, received)) {
+            Ok((gem, tagging)) if tagging.count() > 2 => {
+                push_many_tags(gem, &tagging, received, bytes, verdicts)
+            }
+            Ok((gem, tagging)) => verdicts.push_reserved(Verdict::Forward {
+                gem,
+                frame: OutFrame::of_two_words(bytes, received, tagging.words(), tagging.count()),
+            }),
+            Err(reason) => verdicts.push_reserved(Verdict::Drop(reason)),
+        }
+    }
+
+    /// Appends what becomes of a frame to verdicts that there is room for. It takes no memory, and the verdict borrows the
+    /// frame alone. For many frames this is faster than [`forward`](PortPlan::forward), since the verdict is written where it
+    /// is to lie.
+    #[inline(always)]
+    pub fn push<'a>(&self, bytes: &'a [u8], verdicts: &mut Vec<Verdict<'a>>)
+        requires { vec_len verdicts.old < vec_capacity verdicts.old }
+        ensures verdict { (e : Entities) (port : ℕ) → IsPlanOf e port self.now → verdicts.new.items ≡ verdicts.old.items ++ meaning e port bytes.now ∷ [] }
+        ensures room { vec_capacity verdicts.new ≡ vec_capacity verdicts.old }
+    {
+        match self.read(bytes) {
+            // Each number of tags is a path of its own.
+            Ok(head) => match head.tags() {
+                0 => self.push_read(&head, 0, bytes, verdicts),
+                1 => self.push_read(&head, 1, bytes, verdicts),
+                _ => self.push_read(&head, 2, bytes, verdicts),
+            },
+            Err(reason) => verdicts.push_reserved(Verdict::Drop(reason)),
+        }
+    }
+}
+
+/// What follows the addresses and so many tags.
+#[inline(always)]
+fn behind_tags(bytes: &[u8], received: usize) -> &[u8]
+    requires { 14 + 4 * received ≤ length bytes.now }
+    ensures { result.now ≡ drop (12 + 4 * received) bytes.now }
+{
+    &bytes[12 + 4 * received..]
+}
+
+/// Appends the verdict on a frame that leaves with three or four tags. It stands apart, so that the other frames don't wait
+/// for it.
+#[cold]
+#[inline(never)]
+fn push_many_tags<'a>(
+    gem: u16,
+    tagging: &Tagging<'_>,
+    received: usize,
+    bytes: &'a [u8],
+    verdicts: &mut Vec<Verdict<'a>>,
+)
+    requires whole { 14 + 4 * received ≤ length bytes.now }
+    requires free { vec_len verdicts.old < vec_capacity verdicts.old }
+    ensures verdict { verdicts.new.items ≡ verdicts.old.items
+        ++ Forward gem (record { addresses = take 12 bytes.now; tags = tags_made tagging.now; rest = drop (12 + 4 * received) bytes.now }) ∷ [] }
+    ensures room { vec_capacity verdicts.new ≡ vec_capacity verdicts.old }
+{
+    verdicts.push_reserved(Verdict::Forward {
+        gem,
+        frame: OutFrame::of_words(bytes, received, tagging.words(), tagging.count()),
+    });
 }
