@@ -44,7 +44,7 @@ held_last : {A : Type 0} (l : List A) (x : A) → slice_get (l ++ x ∷ []) (len
 held_last l x = slice_get-get_or (l ++ x ∷ []) (length l) x (omega (arith, length-append l (x ∷ []))) ∙ ap Some (get_or-append_seam l x [] x)
 
 -- what is held is before a place where nothing is
-before_past : {A : Type 0} (l : List A) (k n : ℕ) (x : A) → None ≡ slice_get l n → slice_get l k ≡ Some x → k < n
+pub before_past : {A : Type 0} (l : List A) (k n : ℕ) (x : A) → None ≡ slice_get l n → slice_get l k ≡ Some x → k < n
 before_past l k n x past held = elim (cases_lt k n) [
   | inl before ↦ before
   | inr after ↦

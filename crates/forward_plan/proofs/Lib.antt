@@ -7,6 +7,7 @@ pub mod Routing
 pub mod Places
 pub mod Planned
 pub mod Meant
+pub mod Kept
 pub mod CompiledTables
 pub mod Transparent
 mod Examples

@@ -1,9 +1,9 @@
 -- What the plan of a port makes of the bytes of a frame is what they mean.
-use Rattle.std.proofs.Common.{◌≡◌, ℕ, ◌+◌, ◌*◌, ◌^◌, ◌<◌, ◌≤◌, List, [], ◌∷◌, ◌++◌, drop, take, map, length, Option, Some, None, Result, Ok, Err, All, refl, ap, sym, ◌∙◌, arith}
+use Rattle.std.proofs.Common.{◌≡◌, ℕ, zero, suc, ◌+◌, ◌*◌, ◌^◌, ◌<◌, ◌≤◌, ◌-◌, List, [], ◌∷◌, ◌++◌, drop, take, map, length, Option, Some, None, Result, Ok, Err, All, refl, ap, sym, ◌∙◌, arith}
 use Rattle.std.specs.Option.{unwrap_or}
 use Rattle.tag_view.specs.declared.fault.FrameFault.{FrameFault}
 use Rattle.tag_view.specs.Tag.{TagFields, IsInRange}
-use Rattle.tag_view.specs.Frame.{AreFrameBytes, IsReadTag, Reading, fault_of, frame_of, reading_of}
+use Rattle.tag_view.specs.Frame.{IsReadTag, Reading, fault_of, frame_of, reading_of}
 use Rattle.tag_view.specs.Word.{tag_of}
 use Rattle.tag_view.specs.Dscp.{dscp_of}
 use Rattle.forward_plan.specs.declared.port_plan.Tagging.{Tagging}
@@ -14,9 +14,11 @@ use Rattle.forward_plan.specs.declared.reason.Reason.{Reason}
 use Rattle.forward_plan.specs.declared.verdict.Verdict.TheVariants.{Forward, Drop}
 use Rattle.forward_plan.specs.declared.port_plan.PortPlan.{PortPlan}
 use Rattle.forward_plan.specs.Reason.{reason_of_fault}
-use Rattle.forward_plan.specs.Meaning.{Table, forwarded_by, found_then, gem_port_at, input_tpid_of, meaning, read_at, table_at, tags_at}
+use Rattle.forward_plan.specs.Meaning.{Table, forwarded_by, found_then, gem_port_at, input_tpid_of, meaning, table_at, tags_at}
 use Rattle.forward_plan.specs.Plan.{transparent}
-use Rattle.forward_plan.specs.Leaving.{HasHead, IsFrameOf, IsHeadOf, IsPlanOf, leaves_by, tags_made, words_made}
+use Rattle.forward_plan.specs.Leaving.{IsFrameOf, IsHeadOf, IsPlanOf, leaves_by, tags_made, words_made}
+use Rattle.std.proofs.lemmas.List.{length-take-le, length-drop}
+use Rattle.forward_plan.specs.Size.{GrowsLittle}
 use Rattle.forward_plan.proofs.Spellings.{length-spelled}
 
 -- ---- from the frame to its verdict
@@ -183,3 +185,18 @@ received_forward e port plan bytes head received gem tags planned here count lea
 -- the verdicts with one more
 pub one_more : {V : Type 0} (old new : List V) (verdict meant : V) → new ≡ old ++ verdict ∷ [] → verdict ≡ meant → new ≡ old ++ meant ∷ []
 one_more old new verdict meant is same = is ∙ ap (λ (v : _). old ++ v ∷ []) same
+
+-- a frame that leaves with four tags at most came with a whole type, and grows little
+pub grows : (bytes : List ℕ) (received : ℕ) (tags : List TagFields) (frame : Reading) → 14 + 4 * received ≤ length bytes → length tags ≤ 4
+    → frame ≡ record { addresses = take 12 bytes; tags = tags; rest = drop (12 + 4 * received) bytes } → GrowsLittle bytes frame
+grows bytes received tags frame whole four is =
+    let leaves = length-spelled (take 12 bytes) tags (drop (12 + 4 * received) bytes) in
+    let ahead : length (take 12 bytes) ≡ 12 = length-take-le 12 bytes (omega arith) in
+    let behind : length (drop (12 + 4 * received) bytes) ≡ length bytes - (12 + 4 * received) = length-drop (12 + 4 * received) bytes in
+    rw is (record { whole = omega arith; little = omega arith })
+
+-- so many words make no more tags
+pub few_tags : (count : ℕ) (words : List ℕ) → length (map tag_of (take count words)) ≤ count
+few_tags zero words = omega arith
+few_tags (suc n) [] = omega arith
+few_tags (suc n) (word ∷ words) = omega (arith, few_tags n words)

@@ -1,5 +1,5 @@
 -- What the plan of a port decides of a frame.
-use Rattle.std.proofs.Common.{◌≡◌, ℕ, ◌<◌, ◌≤◌, Bool, true, false, List, [], ◌∷◌, map, take, length, Option, Some, None, Result, Ok, Err, All, refl, ap, sym, ◌∙◌, arith, ◌⊎◌, inl, inr, zero, suc, ◌-◌}
+use Rattle.std.proofs.Common.{◌≡◌, ℕ, ◌≤◌, true, false, List, [], ◌∷◌, map, take, length, Option, Some, None, Ok, Err, All, refl, ap, sym, ◌∙◌, arith, inl, inr, zero, suc, ◌-◌}
 use Rattle.std.specs.Prelude.{slice_index_or}
 use Rattle.std.proofs.lemmas.Bool.{true≢false}
 use Rattle.std.specs.Option.{unwrap_or}
@@ -20,7 +20,7 @@ use Rattle.pmapper.specs.Mapper.{priority_of}
 use Rattle.managed_entity.specs.Instance.{Instance}
 use Rattle.mib_state.specs.Entities.{Entities}
 use Rattle.forward_plan.specs.declared.reason.Reason.{Reason}
-use Rattle.forward_plan.specs.Meaning.{Table, entry_for, found_then, gem_port_at, gem_port_of, mapper_at, table_at, tags_at, tags_by, unmarked_at}
+use Rattle.forward_plan.specs.Meaning.{Table, entry_for, gem_port_at, mapper_at, table_at, tags_at, tags_by}
 use Rattle.forward_plan.specs.Plan.{IsDscp, dscp_place, route_of, transparent, untagged_priority}
 use Rattle.forward_plan.specs.Leaving.{IsPlaceFor, leaves_by, priority_made}
 

@@ -4,3 +4,4 @@ pub mod Size
 pub mod Plan
 pub mod Leaving
 pub mod CompiledTable
+pub mod Live

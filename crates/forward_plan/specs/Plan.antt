@@ -1,6 +1,6 @@
 -- What is compiled of managed entities for forwarding, part by part: each part is a function of the entities.
-use Rattle.std.specs.Prelude.{◌≡◌, ◌<◌, ◌⊎◌, ℕ, Bool, false, List, [], ◌∷◌, map, Option, Some, None, IfSome, Result, Ok, Err, slice_get, slice_index, replicate}
-use Rattle.std.specs.Option.{option_and_then, unwrap_or}
+use Rattle.std.specs.Prelude.{◌≡◌, ◌<◌, ◌⊎◌, ℕ, Bool, false, List, Option, Some, None, IfSome, Result, Err, slice_get, slice_index, replicate}
+use Rattle.std.specs.Option.{option_and_then}
 use Rattle.vlan_rule.specs.Table.{predefined}
 use Rattle.pmapper.specs.Mapper.{unmarked_priority_of}
 use Rattle.managed_entity.specs.Instance.{Instance}

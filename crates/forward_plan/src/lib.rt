@@ -18,6 +18,7 @@ mod attached;
 mod compiled_table;
 mod dscp;
 mod gem_port;
+mod live;
 mod mapper_routes;
 mod out_frame;
 mod port_plan;
@@ -29,6 +30,7 @@ mod table;
 mod verdict;
 mod walk;
 
+pub use live::Live;
 pub use out_frame::OutFrame;
 pub use port_plan::PortPlan;
 pub use reason::Reason;

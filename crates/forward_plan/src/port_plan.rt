@@ -9,6 +9,7 @@ ghost use Rattle.forward_plan.specs.declared.verdict.Verdict.TheVariants.{Drop, 
 ghost use Rattle.mib_state.specs.Entities.{Entities};
 ghost use Rattle.forward_plan.specs.Meaning.{gem_port_at, mapper_at, meaning, table_at, tags_at};
 ghost use Rattle.forward_plan.specs.Plan.{untagged_priority};
+ghost use Rattle.forward_plan.specs.Size.{LeavesLittleMore};
 ghost use Rattle.forward_plan.specs.Leaving.{HasHead, IsFrameOf, IsHeadOf, IsPlaceFor, IsPlanOf, leaves_by, priority_made, tags_made, words_made};
 
 use crate::compiled_table::CompiledTable;
@@ -180,6 +181,39 @@ impl<'p> PortPlan<'p> {
                 frame: OutFrame::of_two_words(bytes, received, tagging.words(), tagging.count()),
             }),
             Err(reason) => verdicts.push_reserved(Verdict::Drop(reason)),
+        }
+    }
+
+    /// The verdict on a frame with this head.
+    #[inline(always)]
+    fn verdict<'a>(&self, head: &Head, received: usize, bytes: &'a [u8]) -> Verdict<'a>
+        requires head { IsHeadOf self.now bytes.now head.now }
+        requires received { received ≡ length head.now.tags }
+        ensures verdict { (e : Entities) (port : ℕ) → IsPlanOf e port self.now → result ≡ meaning e port bytes.now }
+        ensures size { LeavesLittleMore bytes.now result }
+    {
+        match self.decide(head, behind_tags(bytes, received)) {
+            Ok((gem, tagging)) => Verdict::Forward {
+                gem,
+                frame: OutFrame::of_words(bytes, received, tagging.words(), tagging.count()),
+            },
+            Err(reason) => Verdict::Drop(reason),
+        }
+    }
+
+    /// What becomes of a frame. It takes no memory, and the verdict borrows the frame alone.
+    #[inline(always)]
+    pub fn forward<'a>(&self, bytes: &'a [u8]) -> Verdict<'a>
+        ensures verdict { (e : Entities) (port : ℕ) → IsPlanOf e port self.now → result ≡ meaning e port bytes.now }
+        ensures size { LeavesLittleMore bytes.now result }
+    {
+        match self.read(bytes) {
+            Ok(head) => match head.tags() {
+                0 => self.verdict(&head, 0, bytes),
+                1 => self.verdict(&head, 1, bytes),
+                _ => self.verdict(&head, 2, bytes),
+            },
+            Err(reason) => Verdict::Drop(reason),
         }
     }
 
