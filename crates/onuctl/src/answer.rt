@@ -10,10 +10,9 @@ ghost use Rattle.tag_view.specs.Frame.{spelled};
 ghost use Rattle.tag_view.specs.Tag.{tag_bytes};
 
 use crate::line::{Line, read_line};
-use forward_plan::{OutFrame, Reason, Verdict, plain_walk};
+use crate::onu::Onu;
+use forward_plan::{OutFrame, Reason, Verdict};
 use itoa::Buffer;
-use mib_state::Mib;
-use mib_upload::Desk;
 use omci_msg::{MsgFault, Reply, read, write};
 use tag_view::Tag;
 
@@ -110,13 +109,13 @@ fn put_dropped(answers: &mut Vec<u8>, reason: Reason)
 
 // Forwards a frame, and puts what became of it behind the answers so far. There is room for three
 // times the line that spells it.
-fn answer_frame(mib: &Mib, port: u16, bytes: &[u8], answers: &mut Vec<u8>)
+fn answer_frame(onu: &Onu, port: u16, bytes: &[u8], answers: &mut Vec<u8>)
     requires { vec_len answers.old + 6 * length bytes.now + 15 ≤ vec_capacity answers.old }
-    ensures items { answers.new.items ≡ answers.old.items ++ verdict_line (meaning mib.now.entities port bytes.now) }
+    ensures items { answers.new.items ≡ answers.old.items ++ verdict_line (meaning onu.now.mib.entities port bytes.now) }
     ensures len { vec_len answers.new ≤ vec_len answers.old + 6 * length bytes.now + 15 }
     ensures capacity { vec_capacity answers.old ≤ vec_capacity answers.new }
 {
-    match plain_walk(mib, port, bytes) {
+    match onu.forward(port, bytes) {
         Verdict::Forward { gem, frame } => put_forwarded(answers, gem, &frame),
         Verdict::Drop(reason) => put_dropped(answers, reason),
     }
@@ -124,16 +123,16 @@ fn answer_frame(mib: &Mib, port: u16, bytes: &[u8], answers: &mut Vec<u8>)
 
 // Carries a message out, and puts its answer behind those so far. There is room for twice the
 // line that spells it.
-fn answer_message(desk: &mut Desk, bytes: &[u8], answers: &mut Vec<u8>)
+fn answer_message(onu: &mut Onu, bytes: &[u8], answers: &mut Vec<u8>)
     requires { vec_len answers.old + 4 * length bytes.now + 6 ≤ vec_capacity answers.old }
-    ensures items { answers.new.items ≡ answers.old.items ++ (message_answer desk.old (request_of bytes.now)).0 }
-    ensures desk { desk.new ≡ (message_answer desk.old (request_of bytes.now)).1 }
+    ensures items { answers.new.items ≡ answers.old.items ++ (message_answer onu.old (request_of bytes.now)).0 }
+    ensures onu { onu.new ≡ (message_answer onu.old (request_of bytes.now)).1 }
     ensures len { vec_len answers.new ≤ vec_len answers.old + 4 * length bytes.now + 6 }
     ensures capacity { vec_capacity answers.old ≤ vec_capacity answers.new }
 {
     match read(bytes) {
         Ok(request) => {
-            let reply = desk.answer(&request);
+            let reply = onu.answer(&request);
             if request.wants_answer {
                 put_reply(answers, &reply);
             } else {
@@ -146,22 +145,22 @@ fn answer_message(desk: &mut Desk, bytes: &[u8], answers: &mut Vec<u8>)
 
 /// Carries out what a line asks for, and puts its answer behind those so far, for which there is
 /// room for three times the line. Whether the line is bad; a bad one changes nothing.
-pub fn answer_line(desk: &mut Desk, line: &[u8], buffer: &mut [u8], answers: &mut Vec<u8>) -> bool
+pub fn answer_line(onu: &mut Onu, line: &[u8], buffer: &mut [u8], answers: &mut Vec<u8>) -> bool
     requires buffer { length buffer.old ≡ 10000 }
     requires room { vec_len answers.old + 3 * length line.now + 3 ≤ vec_capacity answers.old }
     ensures bad { result ≡ is_none (asked_by line.now) }
-    ensures items { answers.new.items ≡ answers.old.items ++ (line_answer desk.old (asked_by line.now)).0 }
-    ensures desk { desk.new ≡ (line_answer desk.old (asked_by line.now)).1 }
+    ensures items { answers.new.items ≡ answers.old.items ++ (line_answer onu.old (asked_by line.now)).0 }
+    ensures onu { onu.new ≡ (line_answer onu.old (asked_by line.now)).1 }
     ensures len { vec_len answers.new ≤ vec_len answers.old + 3 * length line.now + 3 }
     ensures capacity { vec_capacity answers.old ≤ vec_capacity answers.new }
 {
     match read_line(line, buffer) {
         Some(Line::Message(bytes)) => {
-            answer_message(desk, bytes, answers);
+            answer_message(onu, bytes, answers);
             false
         }
         Some(Line::Frame(port, bytes)) => {
-            answer_frame(desk.mib(), port, bytes, answers);
+            answer_frame(onu, port, bytes, answers);
             false
         }
         Some(Line::Nothing) => false,

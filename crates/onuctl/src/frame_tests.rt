@@ -1,6 +1,6 @@
 //! What becomes of frames, by the table and the mapper of their port.
 
-use crate::dialogue::Step::{Ask, Put, Send, SendAt};
+use crate::dialogue::Step::{Ask, Put, Send, SendAt, Tell};
 use crate::dialogue::answered;
 use std::test::Fail;
 
@@ -264,6 +264,43 @@ fn of_tables_the_one_of_the_port_counts_and_of_two_of_its_mapper_the_least(
         Send(UNTAGGED, UNTAGGED),
         Ask("000f460a00ab0704", "000f260a00ab0704 00"),
         Send(UNTAGGED, "d 2"),
+    ];
+    let (written, answers) = answered(rt.alloc(), &steps)?;
+    assert_eq!(rt; written.as_slice(), answers.as_bytes());
+    Ok(())
+}
+
+#[test]
+fn what_becomes_of_frames_is_changed_by_accepted_requests_alone(
+    rt: HostRuntime,
+) -> Result<(), Fail> {
+    let tagged = "81000064 08004500";
+    let steps = [
+        Put(PUSH_VLAN_100),
+        Send(UNTAGGED, tagged),
+        // Refused: an instance that is there, one that isn't, and a reserved treatment VID.
+        Ask("0006440a00ab0701 020102", "0006240a00ab0701 07"),
+        Send(UNTAGGED, tagged),
+        Ask("0007460a00820699", "0007260a00820699 05"),
+        Send(UNTAGGED, tagged),
+        Ask(
+            "0008480a00ab0701 0400 f8000000f8000000 000f000000007ffc",
+            "0008280a00ab0701 03",
+        ),
+        Send(UNTAGGED, tagged),
+        // Carried out, with no change: an upload, its first row, and a Get.
+        Ask("00094d0a00020000", "00092d0a00020000 0007"),
+        Ask(
+            "000a4e0a00020000 0000",
+            "000a2e0a00020000 0002 0000 8000 05",
+        ),
+        Ask("000b490a010c0401 8000", "000b290a010c0401 00 8000 0400"),
+        Send(UNTAGGED, tagged),
+        // Accepted, with no answer wanted; and a MIB reset.
+        Tell("000c060a00ab0701"),
+        Send(UNTAGGED, UNTAGGED),
+        Ask("000d4f0a00020000", "000d2f0a00020000 00"),
+        Send(UNTAGGED, "d 5"),
     ];
     let (written, answers) = answered(rt.alloc(), &steps)?;
     assert_eq!(rt; written.as_slice(), answers.as_bytes());

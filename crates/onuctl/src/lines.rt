@@ -5,8 +5,8 @@ ghost use Rattle.onuctl.specs.Line.{asked_by};
 ghost use Rattle.onuctl.specs.Text.{cut};
 
 use crate::answer::answer_line;
+use crate::onu::Onu;
 use memchr::memchr;
-use mib_upload::Desk;
 
 /// How far the lines of a piece were answered.
 #[derive(Clone, Copy, Debug)]
@@ -22,7 +22,7 @@ pub struct Answered {
 /// Answers the lines that end in a piece, up to the first bad one. No line ends in the first
 /// `searched` bytes. There is room for three times the piece.
 pub fn answer_lines(
-    desk: &mut Desk,
+    onu: &mut Onu,
     piece: &[u8],
     searched: usize,
     buffer: &mut [u8],
@@ -37,8 +37,8 @@ pub fn answer_lines(
     ensures within { result.rest ≤ length piece.now }
     ensures rest { result.is_bad ≡ false → drop result.rest piece.now ≡ (cut piece.now).rest }
     ensures few { result.lines ≤ length piece.now }
-    ensures items { answers.new.items ≡ answers.old.items ++ answers_from desk.old (map asked_by (cut piece.now).ended) }
-    ensures desk { desk.new ≡ state_from desk.old (map asked_by (cut piece.now).ended) }
+    ensures items { answers.new.items ≡ answers.old.items ++ answers_from onu.old (map asked_by (cut piece.now).ended) }
+    ensures onu { onu.new ≡ state_from onu.old (map asked_by (cut piece.now).ended) }
     ensures capacity { vec_capacity answers.old ≤ vec_capacity answers.new }
 {
     let mut lines = 0;
@@ -46,7 +46,7 @@ pub fn answer_lines(
     let mut from = searched;
     while let Some(offset) = memchr(b'\n', piece.split_at(from).1) {
         let end = from + offset;
-        if answer_line(desk, &piece[start..end], buffer, answers) {
+        if answer_line(onu, &piece[start..end], buffer, answers) {
             return Answered {
                 lines,
                 rest: start,

@@ -5,6 +5,7 @@ mod answer;
 mod fault;
 mod line;
 mod lines;
+mod onu;
 mod output;
 mod pieces;
 mod replay;
@@ -45,5 +46,7 @@ mod frame_tests;
 mod get_next_tests;
 #[cfg(test)]
 mod message_tests;
+#[cfg(test)]
+mod onu_tests;
 #[cfg(test)]
 mod tests;

@@ -57,6 +57,45 @@ fn refusals_have_their_results(rt: HostRuntime) -> Result<(), Fail> {
 }
 
 #[test]
+fn a_set_that_is_refused_leaves_its_attributes_the_table_and_the_sync(
+    rt: HostRuntime,
+) -> Result<(), Fail> {
+    let steps = [
+        // A reserved treatment VID, a reserved filter priority, and filter priorities of no kind of entry.
+        Ask(
+            "0005480a00ab0701 0400 f8000000f8000000 000f000000007ffc",
+            "0005280a00ab0701 03",
+        ),
+        Ask(
+            "0006480a00ab0701 0400 f800000098000000 000f0000000f0000",
+            "0006280a00ab0701 03",
+        ),
+        Ask(
+            "0007480a00ab0701 0400 38000000e8000000 000f0000000f0000",
+            "0007280a00ab0701 03",
+        ),
+        // An output TPID beside a refused entry, an input TPID beside an attribute that can't be set,
+        // and an attribute that isn't there.
+        Ask(
+            "0008480a00ab0701 1400 9100 f8000000f8000000 000f000000007ffc",
+            "0008280a00ab0701 03",
+        ),
+        Ask(
+            "0009480a00ab0701 6000 00059100",
+            "0009280a00ab0701 09 0000 4000",
+        ),
+        Ask("000a480a00ab0701 0080", "000a280a00ab0701 09 0080 0000"),
+        // Three entries, both TPIDs, and the sync.
+        Ask("000b490a00ab0701 0400", "000b290a00ab0701 00 0400 00000030"),
+        Ask("000c490a00ab0701 3000", "000c290a00ab0701 00 3000 81008100"),
+        Ask("000d490a00020000 8000", "000d290a00020000 00 8000 04"),
+    ];
+    let (written, answers) = answered(rt.alloc(), &steps)?;
+    assert_eq!(rt; written.as_slice(), answers.as_bytes());
+    Ok(())
+}
+
+#[test]
 fn a_table_holds_128_entries_and_overwrites_a_held_key(rt: HostRuntime) -> Result<(), Fail> {
     let alloc = rt.alloc();
     let mut dialogue = Dialogue::new(alloc)?;

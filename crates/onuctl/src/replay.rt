@@ -9,9 +9,9 @@ use crate::answer::answer_line;
 use crate::fault::ReplayFault;
 use crate::line::{LINE_LIMIT, MESSAGE_LIMIT};
 use crate::lines::answer_lines;
+use crate::onu::Onu;
 use crate::output::write_whole;
 use crate::pieces::{move_to_front, read_piece};
-use mib_upload::Desk;
 use std::alloc::{AllocError, Global};
 use std::io::{Read, Write};
 
@@ -27,7 +27,7 @@ const MOST_READS: u32 = u32::MAX;
 /// Answers the last line of a script, which no line feed ends, if there is one.
 fn finish<W: Write>(
     writer: &mut W,
-    desk: &mut Desk,
+    onu: &mut Onu,
     line: &[u8],
     lines: u64,
     buffer: &mut [u8],
@@ -38,12 +38,12 @@ fn finish<W: Write>(
     requires none { answers.old.items ≡ [] }
     requires room { 3 * length line.now + 3 ≤ vec_capacity answers.old }
     requires lines { lines < 2 ^ 63 }
-    ensures { Finishes desk.old line.now lines result (W.contents writer.old) (W.contents writer.new) }
+    ensures { Finishes onu.old line.now lines result (W.contents writer.old) (W.contents writer.new) }
 {
     if line.is_empty() {
         return Ok(());
     }
-    if answer_line(desk, line, buffer, answers) {
+    if answer_line(onu, line, buffer, answers) {
         return Err(ReplayFault::BadLine(lines + 1));
     }
     write_whole(writer, answers)?;
@@ -54,13 +54,13 @@ fn finish<W: Write>(
 fn replay_through<R: Read, W: Write>(
     reader: &mut R,
     writer: &mut W,
-    desk: &mut Desk,
+    onu: &mut Onu,
     text: &mut [u8],
     spare: &mut [u8],
     buffer: &mut [u8],
     answers: &mut Vec<u8>,
 ) -> Result<(), ReplayFault>
-    requires begins { desk.old ≡ start }
+    requires begins { onu.old ≡ start }
     requires text { length text.old ≡ 85536 }
     requires spare { length spare.old ≡ 20000 }
     requires buffer { length buffer.old ≡ 10000 }
@@ -77,10 +77,10 @@ fn replay_through<R: Read, W: Write>(
             return Err(ReplayFault::Read(total));
         };
         if count == 0 {
-            return finish(writer, desk, &text[..begun], lines, buffer, answers);
+            return finish(writer, onu, &text[..begun], lines, buffer, answers);
         }
         let end = begun + count;
-        let answered = answer_lines(desk, &text[..end], begun, buffer, answers);
+        let answered = answer_lines(onu, &text[..end], begun, buffer, answers);
         write_whole(writer, answers)?;
         answers.clear();
         lines += answered.lines;
@@ -100,7 +100,7 @@ fn replay_through<R: Read, W: Write>(
 /// All that a replay takes from memory.
 #[derive(Drop)]
 struct Room {
-    desk: Desk,
+    onu: Onu,
     text: Vec<u8>,
     spare: Vec<u8>,
     buffer: Vec<u8>,
@@ -111,7 +111,7 @@ impl Room {
     ghost use Rattle.std.specs.Prelude.{◌≡◌, ◌*◌, ◌≤◌, [], IfOk, vec_len, vec_capacity};
 
     fn new(alloc: Global) -> Result<Room, AllocError>
-        ensures desk { IfOk result (λ room. room.desk ≡ start) }
+        ensures onu { IfOk result (λ room. room.onu ≡ start) }
         ensures text { IfOk result (λ room. vec_len room.text ≡ 85536) }
         ensures spare { IfOk result (λ room. vec_len room.spare ≡ 20000) }
         ensures buffer { IfOk result (λ room. vec_len room.buffer ≡ 10000) }
@@ -120,7 +120,7 @@ impl Room {
         ensures answers { IfOk result (λ room. 3 * 85536 ≤ vec_capacity room.answers) }
     {
         Ok(Room {
-            desk: Desk::new(alloc)?,
+            onu: Onu::new(alloc)?,
             text: vec![in alloc; 0; TEXT_ROOM]?,
             spare: vec![in alloc; 0; LINE_LIMIT]?,
             buffer: vec![in alloc; 0; MESSAGE_LIMIT]?,
@@ -152,7 +152,7 @@ pub fn replay<R: Read, W: Write>(
     replay_through(
         reader,
         writer,
-        &mut room.desk,
+        &mut room.onu,
         &mut room.text,
         &mut room.spare,
         &mut room.buffer,

@@ -14,7 +14,7 @@ returns-then-answer_line c =
       rest = λ e. absurd (cc);
       few = omega (arith, c.loop-offset.invariant.answering.few, c.loop-offset.invariant.answering.in_order, c.loop-offset.invariant.answering.within);
       items = c.answer_line.ensures.items ∙ bad.items_are;
-      desk = c.answer_line.ensures.desk ∙ bad.state_is;
+      onu = c.answer_line.ensures.onu ∙ bad.state_is;
       capacity = omega arith;
     }
 
@@ -23,7 +23,7 @@ loop-offset-preserved c =
     let found = subst (λ rest. IsFirstByte (is_byte 10) rest (Some c.in-Some.offset)) c.split_at.ensures.back c.in-Some.ensures in
     let now = answering_line _ _ _ _ _ _ _ _ c.loop-offset.invariant.answering c.in-Some.offset _ found refl (sym c.answer_line.ensures.bad ∙ c.if-answer_line.false) in
     record {
-      answering = rw (c.answer_line.ensures.items, c.answer_line.ensures.desk) now;
+      answering = rw (c.answer_line.ensures.items, c.answer_line.ensures.onu) now;
       room = omega (
         arith,
         c.answer_line.ensures.len,
@@ -46,6 +46,6 @@ returns c =
       rest = λ e. end.rest;
       few = omega (arith, c.loop-offset.invariant.answering.few, c.loop-offset.invariant.answering.in_order, c.loop-offset.invariant.answering.within);
       items = end.items_are;
-      desk = end.state_is;
+      onu = end.state_is;
       capacity = omega arith;
     }

@@ -4,7 +4,7 @@ use Rattle.onuctl.proofs.lines.answer_lines.Given as goal
 
 abbrev pub invariant-loop-offset : goal.invariant-loop-offset
 invariant-loop-offset l = record {
-  answering : IsAnswering l.fn.desk l.fn.answers.items l.piece l.desk l.answers.items l.lines l.start l.from;
+  answering : IsAnswering l.fn.onu l.fn.answers.items l.piece l.onu l.answers.items l.lines l.start l.from;
   room : vec_len l.answers + 3 * (length l.piece - l.start) ≤ vec_capacity l.answers;
   capacity : vec_capacity l.fn.answers ≤ vec_capacity l.answers;
 }

@@ -15,8 +15,8 @@ pub returns-then-count-eq0 : goal.returns-then-count-eq0
 returns-then-count-eq0 g c =
     let s = c.loop.invariant.so_far in
     let took = consumes_none _ _ _ s.0 _ c.in-Some.count c.if-count-eq0.true s.2 c.in-Some.ensures.given in
-    finished _ _ _ _ _ s.0 c.loop.desk (take c.loop.begun c.loop.text) c.loop.lines c.loop.total s.1 took (c.in-Some.ensures.end c.if-count-eq0.true) s.3 _
-    (subst (λ rest. Finishes c.loop.desk rest c.loop.lines c.finish.result (g.W.Write.contents c.loop.writer) (g.W.Write.contents c.finish.new.writer)) c.in-Some.ensures.kept c.finish.ensures)
+    finished _ _ _ _ _ s.0 c.loop.onu (take c.loop.begun c.loop.text) c.loop.lines c.loop.total s.1 took (c.in-Some.ensures.end c.if-count-eq0.true) s.3 _
+    (subst (λ rest. Finishes c.loop.onu rest c.loop.lines c.finish.result (g.W.Write.contents c.loop.writer) (g.W.Write.contents c.finish.new.writer)) c.in-Some.ensures.kept c.finish.ensures)
 
 pub returns-in_err-write_whole : goal.returns-in_err-write_whole
 returns-in_err-write_whole g c =
@@ -24,9 +24,9 @@ returns-in_err-write_whole g c =
     let piece : List ℕ = take c.in-Some.count (drop c.loop.begun c.read_piece.new.text) in
     let took = Consumes-trans _ _ _ s.0 piece s.2 c.in-Some.ensures.given in
     let holds = held c.loop.begun c.in-Some.count c.loop.text c.read_piece.new.text c.in-Some.ensures.kept in
-    let out = told c.loop.desk _ _ _ _ _ holds c.loop.invariant.none c.answer_lines-answered.ensures.items c.deref.ensures.value in
+    let out = told c.loop.onu _ _ _ _ _ holds c.loop.invariant.none c.answer_lines-answered.ensures.items c.deref.ensures.value in
     let part = subst (λ bytes. AppendsPart (g.W.Write.contents c.loop.writer) (g.W.Write.contents c.write_whole.new.writer) bytes) out c.in_err-write_whole.ensures.err in
-    let more = answers_more s.0 c.loop.desk (take c.loop.begun c.loop.text) c.loop.lines c.loop.total s.1 piece in
+    let more = answers_more s.0 c.loop.onu (take c.loop.begun c.loop.text) c.loop.lines c.loop.total s.1 piece in
     let p = err_from_is_err_and c.from_residual.result c.from_residual.ensures.1 in
     rw (p.1, p.2, c.in_err-write_whole.ensures.fault)
     (ends_write _ _ _ _ (s.0 ++ piece) took (part_of_ended _ _ (s.0 ++ piece) (rw more (part_behind _ _ _ _ _ s.3 part))))
@@ -35,7 +35,7 @@ pub answer_lines-answered-requires-clause-searched : goal.answer_lines-answered-
 answer_lines-answered-requires-clause-searched g c =
     let s = c.loop.invariant.so_far in
     held_no_feed c.loop.begun c.in-Some.count c.loop.text c.read_piece.new.text c.in-Some.ensures.kept (omega (arith, c.loop.invariant.begun, c.requires.text))
-    (rest_no_feed s.0 c.loop.desk (take c.loop.begun c.loop.text) c.loop.lines c.loop.total s.1)
+    (rest_no_feed s.0 c.loop.onu (take c.loop.begun c.loop.text) c.loop.lines c.loop.total s.1)
 
 pub returns-then-answered : goal.returns-then-answered
 returns-then-answered g c =
@@ -43,13 +43,13 @@ returns-then-answered g c =
     let piece : List ℕ = take c.in-Some.count (drop c.loop.begun c.read_piece.new.text) in
     let took = Consumes-trans _ _ _ s.0 piece s.2 c.in-Some.ensures.given in
     let holds = held c.loop.begun c.in-Some.count c.loop.text c.read_piece.new.text c.in-Some.ensures.kept in
-    let out = told c.loop.desk _ _ _ _ _ holds c.loop.invariant.none c.answer_lines-answered.ensures.items c.deref.ensures.value in
+    let out = told c.loop.onu _ _ _ _ _ holds c.loop.invariant.none c.answer_lines-answered.ensures.items c.deref.ensures.value in
     let written = subst (λ bytes. Appends (g.W.Write.contents c.loop.writer) (g.W.Write.contents c.write_whole.new.writer) bytes) out c.in_ok-write_whole.ensures.ok in
-    let more = answers_more s.0 c.loop.desk (take c.loop.begun c.loop.text) c.loop.lines c.loop.total s.1 piece in
+    let more = answers_more s.0 c.loop.onu (take c.loop.begun c.loop.text) c.loop.lines c.loop.total s.1 piece in
     let bad = rw (holds, c.if-answered.true) at c.answer_lines-answered.ensures.bad in
     let number : c.loop.lines + c.answer_lines-answered.result.lines + 1 ≡ suc (c.loop.lines + c.answer_lines-answered.result.lines) = omega arith in
     rw number (ends_bad _ _ _ _ (s.0 ++ piece) _ (c.loop.lines + c.answer_lines-answered.result.lines) took
-    (bad_in_piece s.0 c.loop.desk (take c.loop.begun c.loop.text) c.loop.lines c.loop.total s.1 piece c.answer_lines-answered.result.lines bad)
+    (bad_in_piece s.0 c.loop.onu (take c.loop.begun c.loop.text) c.loop.lines c.loop.total s.1 piece c.answer_lines-answered.result.lines bad)
     (rw more (Appends-trans _ _ _ _ _ s.3 written)))
 
 pub returns-then-begun-gt-LINE_LIMIT : goal.returns-then-begun-gt-LINE_LIMIT
@@ -58,11 +58,11 @@ returns-then-begun-gt-LINE_LIMIT g c =
     let piece : List ℕ = take c.in-Some.count (drop c.loop.begun c.read_piece.new.text) in
     let took = Consumes-trans _ _ _ s.0 piece s.2 c.in-Some.ensures.given in
     let holds = held c.loop.begun c.in-Some.count c.loop.text c.read_piece.new.text c.in-Some.ensures.kept in
-    let out = told c.loop.desk _ _ _ _ _ holds c.loop.invariant.none c.answer_lines-answered.ensures.items c.deref.ensures.value in
+    let out = told c.loop.onu _ _ _ _ _ holds c.loop.invariant.none c.answer_lines-answered.ensures.items c.deref.ensures.value in
     let written = subst (λ bytes. Appends (g.W.Write.contents c.loop.writer) (g.W.Write.contents c.write_whole.new.writer) bytes) out c.in_ok-write_whole.ensures.ok in
-    let more = answers_more s.0 c.loop.desk (take c.loop.begun c.loop.text) c.loop.lines c.loop.total s.1 piece in
+    let more = answers_more s.0 c.loop.onu (take c.loop.begun c.loop.text) c.loop.lines c.loop.total s.1 piece in
     let good = rw (holds, c.if-answered.false) at c.answer_lines-answered.ensures.bad in
-    let next = so_far_more s.0 c.loop.desk (take c.loop.begun c.loop.text) c.loop.lines c.loop.total s.1 piece good in
+    let next = so_far_more s.0 c.loop.onu (take c.loop.begun c.loop.text) c.loop.lines c.loop.total s.1 piece good in
     let long = long_rest c.answer_lines-answered.result.rest c.loop.begun c.in-Some.count c.read_piece.new.text _ holds (c.answer_lines-answered.ensures.rest c.if-answered.false) c.in-Some.ensures.within c.if-begun-gt-LINE_LIMIT.true in
     let counted = rw holds at (c.answer_lines-answered.ensures.lines c.if-answered.false) in
     let number : c.loop.lines + c.answer_lines-answered.result.lines + 1 ≡ suc (c.loop.lines + c.answer_lines-answered.result.lines) = omega arith in
@@ -74,11 +74,11 @@ loop-preserved g c =
     let piece : List ℕ = take c.in-Some.count (drop c.loop.begun c.read_piece.new.text) in
     let took = Consumes-trans _ _ _ s.0 piece s.2 c.in-Some.ensures.given in
     let holds = held c.loop.begun c.in-Some.count c.loop.text c.read_piece.new.text c.in-Some.ensures.kept in
-    let out = told c.loop.desk _ _ _ _ _ holds c.loop.invariant.none c.answer_lines-answered.ensures.items c.deref.ensures.value in
+    let out = told c.loop.onu _ _ _ _ _ holds c.loop.invariant.none c.answer_lines-answered.ensures.items c.deref.ensures.value in
     let written = subst (λ bytes. Appends (g.W.Write.contents c.loop.writer) (g.W.Write.contents c.write_whole.new.writer) bytes) out c.in_ok-write_whole.ensures.ok in
-    let more = answers_more s.0 c.loop.desk (take c.loop.begun c.loop.text) c.loop.lines c.loop.total s.1 piece in
+    let more = answers_more s.0 c.loop.onu (take c.loop.begun c.loop.text) c.loop.lines c.loop.total s.1 piece in
     let good = rw (holds, c.if-answered.false) at c.answer_lines-answered.ensures.bad in
-    let next = so_far_more s.0 c.loop.desk (take c.loop.begun c.loop.text) c.loop.lines c.loop.total s.1 piece good in
+    let next = so_far_more s.0 c.loop.onu (take c.loop.begun c.loop.text) c.loop.lines c.loop.total s.1 piece good in
     let counted = rw holds at (c.answer_lines-answered.ensures.lines c.if-answered.false) in
     let order : c.answer_lines-answered.result.rest ≤ c.loop.begun + c.in-Some.count =
     omega (arith, c.answer_lines-answered.ensures.within, length-take (c.loop.begun + c.in-Some.count) c.read_piece.new.text) in
@@ -87,7 +87,7 @@ loop-preserved g c =
     let size : c.loop.total + c.in-Some.count ≡ c.loop.total + length piece =
     omega (arith, length-take c.in-Some.count (drop c.loop.begun c.read_piece.new.text), length-drop c.loop.begun c.read_piece.new.text, c.in-Some.ensures.within) in
     record {
-      so_far = (s.0 ++ piece, so_far_as _ _ _ _ _ _ _ _ _ next (c.answer_lines-answered.ensures.desk ∙ rw holds refl) front (omega (arith, counted)) size, took, rw more (Appends-trans _ _ _ _ _ s.3 written));
+      so_far = (s.0 ++ piece, so_far_as _ _ _ _ _ _ _ _ _ next (c.answer_lines-answered.ensures.onu ∙ rw holds refl) front (omega (arith, counted)) size, took, rw more (Appends-trans _ _ _ _ _ s.3 written));
       begun = omega arith;
       empty = c.clear.ensures.len;
       none = c.clear.ensures.items;

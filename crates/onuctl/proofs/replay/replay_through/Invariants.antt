@@ -8,7 +8,7 @@ use Rattle.onuctl.proofs.replay.replay_through.Given as goal
 
 abbrev pub invariant-loop : goal.invariant-loop
 invariant-loop g l = record {
-  so_far : (read : List ℕ) × SoFar read l.desk (take l.begun l.text) l.lines l.total
+  so_far : (read : List ℕ) × SoFar read l.onu (take l.begun l.text) l.lines l.total
       × Consumes (g.R.Read.remaining l.fn.reader) (g.R.Read.remaining l.reader) read
       × Appends (g.W.Write.contents l.fn.writer) (g.W.Write.contents l.writer) (answers_from start (ended_script read));
   begun : l.begun ≤ 20000;
