@@ -7,11 +7,17 @@
 //! GEM interworking termination point, and this leads to a GEM port. The reasons to drop it come in this order, each where
 //! it is found.
 //!
+//! **The plan** is what is compiled of the entities, and [`Live`] keeps both: each table with its index and a compiled treatment
+//! for each of its entries, each mapper with a route for each priority, and for each port where its table and its mapper stand.
+//! The type says that all of it is that of the entities. [`Live::port`] lends the plan of one port, a [`PortPlan`], which
+//! forwards any number of frames: it reads the head of a frame as words, finds the number of the entry, makes the words of the
+//! outgoing tags by masks, and takes the route of their priority. Each number of received tags has a path of its own.
+//!
 //! **The plain walk** goes from entity to entity for each frame. It is slow and short, the reference for faster ways.
 //!
 //! **Frames are lent.** A [`Verdict`] borrows the bytes of the frame, and nothing of the entities. What leaves is an
 //! [`OutFrame`]: slices of the frame that came in, with the tags in place between them; it is written only when asked for.
-//! Nothing but [`OutFrame::append_to`] takes memory.
+//! Nothing but [`Live::new`] and [`OutFrame::append_to`] takes memory.
 #![tactic(auto)]
 
 mod attached;
