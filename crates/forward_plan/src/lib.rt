@@ -47,6 +47,8 @@ pub use walk::plain_walk;
 #[cfg(test)]
 mod compiled_table_tests;
 #[cfg(test)]
+mod live_tests;
+#[cfg(test)]
 mod ports_tests;
 #[cfg(test)]
 mod tests;

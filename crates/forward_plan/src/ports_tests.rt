@@ -1,26 +1,11 @@
 use crate::attached::{Attached, NONE};
 use crate::ports::Ports;
+use crate::tests::request;
 use mib_state::Mib;
 use omci_msg::{Action, Request};
 use std::alloc::{AllocError, Global};
 use std::process::Abort;
 use std::test::Fail;
-
-/// A request whose contents begin with these bytes.
-fn request(action: Action, class: u16, instance: u16, bytes: &[u8]) -> Request {
-    let mut contents = [0; 32];
-    for (to, from) in contents.iter_mut().zip(bytes) {
-        *to = *from;
-    }
-    Request {
-        tci: 1,
-        action,
-        wants_answer: true,
-        class,
-        instance,
-        contents,
-    }
-}
 
 /// The creation of a mapper with a TP type and a TP pointer.
 fn create_mapper(instance: u16, tp_type: u8, to: u16) -> Request {
@@ -33,7 +18,7 @@ fn create_mapper(instance: u16, tp_type: u8, to: u16) -> Request {
 }
 
 /// The creation of a table with an association type and an associated ME pointer.
-fn create_table(instance: u16, association: u8, to: u16) -> Request {
+pub(crate) fn create_table(instance: u16, association: u8, to: u16) -> Request {
     let [high, low] = to.to_be_bytes();
     request(Action::Create, 171, instance, &[association, high, low])
 }

@@ -6,16 +6,16 @@ use std::test::Fail;
 use tag_view::Tag;
 
 /// No tag, and the start of an IPv4 packet.
-const UNTAGGED: [u8; 16] = [2, 0, 0, 0, 0, 1, 2, 0, 0, 0, 0, 2, 0x08, 0x00, 0x45, 0x00];
+pub(crate) const UNTAGGED: [u8; 16] = [2, 0, 0, 0, 0, 1, 2, 0, 0, 0, 0, 2, 0x08, 0x00, 0x45, 0x00];
 
 /// A service tag of VLAN 100 and priority 5 round a customer's tag of VLAN 200 and priority 2.
-const DOUBLE: [u8; 24] = [
+pub(crate) const DOUBLE: [u8; 24] = [
     2, 0, 0, 0, 0, 1, 2, 0, 0, 0, 0, 2, 0x88, 0xa8, 0xa0, 0x64, 0x81, 0x00, 0x40, 0xc8, 0x08, 0x00,
     0x45, 0x00,
 ];
 
 /// A request whose contents begin with these bytes.
-fn request(action: Action, class: u16, instance: u16, bytes: &[u8]) -> Request {
+pub(crate) fn request(action: Action, class: u16, instance: u16, bytes: &[u8]) -> Request {
     let mut contents = [0; 32];
     for (to, from) in contents.iter_mut().zip(bytes) {
         *to = *from;
@@ -31,17 +31,17 @@ fn request(action: Action, class: u16, instance: u16, bytes: &[u8]) -> Request {
 }
 
 /// The creation of GEM port network CTP 0x0401 of port-ID 1024 with a direction.
-fn create_gem_port(direction: u8) -> Request {
+pub(crate) fn create_gem_port(direction: u8) -> Request {
     request(Action::Create, 268, 0x0401, &[4, 0, 0x80, 1, direction])
 }
 
 /// The creation of a GEM interworking termination point to it.
-fn create_interwork(instance: u16) -> Request {
+pub(crate) fn create_interwork(instance: u16) -> Request {
     request(Action::Create, 266, instance, &[4, 1, 5, 6, 1])
 }
 
 /// The creation of a mapper of a port: option 1 and a default priority.
-fn create_mapper(instance: u16, port: u16, pointers: [u16; 8], default: u8) -> Request {
+pub(crate) fn create_mapper(instance: u16, port: u16, pointers: [u16; 8], default: u8) -> Request {
     let [p0, p1, p2, p3, p4, p5, p6, p7] = pointers.map(|pointer| pointer.to_be_bytes());
     let tp = port.to_be_bytes();
     let bytes = [
