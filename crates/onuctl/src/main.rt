@@ -47,6 +47,4 @@ mod get_next_tests;
 #[cfg(test)]
 mod message_tests;
 #[cfg(test)]
-mod onu_tests;
-#[cfg(test)]
 mod tests;
