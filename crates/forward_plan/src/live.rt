@@ -70,7 +70,7 @@ impl Live {
     }
 
     /// Carries a request out, as a step of the entities does, and compiles them anew. A request that isn't accepted changes
-    /// nothing. It takes no memory.
+    /// no entity. It takes no memory.
     pub fn apply(&mut self, request: &Request)
         ensures { self.new ≡ left request.now.action self.old request.now }
     {
