@@ -8,4 +8,5 @@ pub mod Sync
 pub mod Answered
 pub mod Attached
 pub mod Accepted
+pub mod Touched
 mod Examples

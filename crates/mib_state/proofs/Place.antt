@@ -10,11 +10,11 @@ use Rattle.std.specs.declared.cmp.Ordering.{Ordering}
 use Rattle.std.proofs.lemmas.Cmp.{ranked}
 use Rattle.std.proofs.lemmas.List.Edits.{length-insert, get_or-insert_below, get_or-insert_at, get_or-insert_above, length-remove, get_or-remove_below, get_or-remove_above}
 use Rattle.std.proofs.lemmas.List.{get_or-map, length-map}
-use Rattle.std.proofs.lemmas.Option.{slice_get-get_or}
+use Rattle.std.proofs.lemmas.Option.{get_or_from_slice_get, slice_get-get_or, slice_get_within}
 use Rattle.std.proofs.lemmas.Bool.{lt-ltb, le-ltb, ne_eqb, eq-eqb}
 use Rattle.std.proofs.lemmas.Bool.Decides.{nat_tests}
 use Rattle.std.proofs.lemmas.Grind.{common_steps}
-use Rattle.mib_state.specs.Entities.{blank, find, insert, remove, replace, number_at, IsAscending, IsAt, IsGapFor}
+use Rattle.mib_state.specs.Entities.{blank, find, insert, place_in, remove, replace, number_at, IsAscending, IsAt, IsGapFor}
 use Rattle.managed_entity.specs.Instance.{Instance}
 
 -- ---- the tail, one place lower
@@ -44,6 +44,19 @@ find_at (x ∷ l) n (suc i) up at =
     let smaller = head_smaller x l n i up at in
     rw (ne_eqb x.number n (omega arith)) (find_at l n i (tail_ascending x l up) (tail_at x l n i at))
 
+pub place_at : (l : List Instance) (n i : ℕ) → IsAscending l → IsAt l n i → place_in n l ≡ Some i
+place_at [] n i up at = absurd (omega (arith, at.in_range))
+place_at (x ∷ l) n zero up at = rw (eq-eqb x.number n at.has_number) refl
+place_at (x ∷ l) n (suc i) up at =
+    let smaller = head_smaller x l n i up at in
+    rw (ne_eqb x.number n (omega arith), place_at l n i (tail_ascending x l up) (tail_at x l n i at)) (ap (λ (k : ℕ). Some k) (omega arith))
+
+-- what stands at a place is found by its number
+pub found_at : (l : List Instance) (i : ℕ) (it : Instance) → IsAscending l → slice_get l i ≡ Some it → find it.number l ≡ Some it
+found_at l i it up held =
+    let is : get_or l i blank ≡ it = get_or_from_slice_get l i it blank held in
+    find_at l it.number i up (record { in_range = slice_get_within l i it held; has_number = ap (λ (x : Instance). x.number) is }) ∙ ap Some is
+
 pub remove_at : (l : List Instance) (n i : ℕ) → IsAscending l → IsAt l n i → remove n l ≡ list.remove l i
 remove_at [] n i up at = absurd (omega (arith, at.in_range))
 remove_at (x ∷ l) n zero up at = rw (eq-eqb x.number n at.has_number) refl
@@ -69,6 +82,15 @@ find_gap (x ∷ l) n (suc i) gap =
     let smaller : x.number < n = gap.smaller_before zero (omega arith) in
     rw (ne_eqb x.number n (omega arith)) (find_gap l n i (tail_gap x l n i gap))
 
+pub place_gap : (l : List Instance) (n i : ℕ) → IsGapFor l n i → place_in n l ≡ None
+place_gap [] n i gap = refl
+place_gap (x ∷ l) n zero gap =
+    let greater : n < x.number = gap.greater_after zero (omega arith) (omega arith) in
+    rw (ne_eqb x.number n (omega arith), place_gap l n zero (record { in_range = omega arith; smaller_before = λ j lt. absurd (omega arith); greater_after = λ j le lt. gap.greater_after (suc j) (omega arith) (omega arith) })) refl
+place_gap (x ∷ l) n (suc i) gap =
+    let smaller : x.number < n = gap.smaller_before zero (omega arith) in
+    rw (ne_eqb x.number n (omega arith), place_gap l n i (tail_gap x l n i gap)) refl
+
 pub insert_gap : (l : List Instance) (i : ℕ) (new : Instance) → IsGapFor l new.number i → insert new l ≡ list.insert l i new
 insert_gap [] zero new gap = refl
 insert_gap [] (suc i) new gap = absurd (omega (arith, gap.in_range))
@@ -87,6 +109,10 @@ module _ (l : List Instance) (n : ℕ) where
   pub found_room : (room : ℕ) → length l ≤ room → (r : Result ℕ ℕ) → IfOk r (IsAt l n) → IfOk r (λ i. i < room)
   found_room room fits (Ok i) at = omega (arith, at.in_range)
   found_room room fits (Err i) at = tt
+
+  pub placed : IsAscending l → (r : Result ℕ ℕ) → IfOk r (IsAt l n) → IfErr r (IsGapFor l n) → result_ok r ≡ place_in n l
+  placed up (Ok i) at gap = sym (place_at l n i up at)
+  placed up (Err i) at gap = sym (place_gap l n i gap)
 
   -- the place of an instance, if there is one
   pub place_found : (r : Result ℕ ℕ) → IfOk r (IsAt l n) → IfErr r (IsGapFor l n) → IfOk r (λ i. slice_get l i ≡ find n l)

@@ -1,5 +1,6 @@
 -- The managed entities as one value, and the table that is latched beside them.
-use Rattle.std.specs.Prelude.{ℕ, ◌<◌, ◌≤◌, ◌≡◌, ◌==◌, nat_lt, nat_le, List, [], ◌∷◌, Option, Some, None, if◌then◌else◌, length, slice_index, slice_index_or}
+use Rattle.std.specs.Prelude.{ℕ, ◌+◌, ◌<◌, ◌≤◌, ◌≡◌, ◌==◌, nat_lt, nat_le, List, [], ◌∷◌, Option, Some, None, if◌then◌else◌, length, slice_index, slice_index_or}
+use Rattle.std.specs.Option.{option_map}
 use Rattle.managed_entity.specs.Instance.{Instance}
 
 -- the MIB data sync, and the instances of each class by ascending number; together they are the map from class and
@@ -63,6 +64,11 @@ with_instances e class instances =
 abbrev pub find : ℕ → List Instance → Option Instance
 find n [] = None
 find n (i ∷ rest) = if i.number == n then Some i else find n rest
+
+-- the place where the instance of a number stands
+abbrev pub place_in : ℕ → List Instance → Option ℕ
+place_in n [] = None
+place_in n (i ∷ rest) = if i.number == n then Some 0 else option_map (λ (place : ℕ). place + 1) (place_in n rest)
 
 -- the least number that isn't under another: the first, for the numbers rise
 abbrev pub next : ℕ → List Instance → Option ℕ

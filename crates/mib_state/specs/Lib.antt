@@ -3,3 +3,4 @@ pub mod Held
 pub mod Step
 pub mod After
 pub mod Attached
+pub mod Touch

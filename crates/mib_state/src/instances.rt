@@ -1,8 +1,9 @@
 //! The instances of a class, by ascending number, in room that is reserved.
 ghost use Rattle.std.specs.Prelude.{◌≡◌, ◌<◌, [], None, if◌then◌else◌, length, map, option_map, drop, slice_get, is_ok, is_some, true, IfOk, IfErr, IfSome, vec_len, vec_capacity, ◌≤◌};
 ghost use Rattle.std.specs.Option.{option_and_then};
+ghost use Rattle.std.specs.Result.{result_ok};
 ghost use Rattle.managed_entity.specs.Class.{table_at, width_at};
-ghost use Rattle.mib_state.specs.Entities.{find, next, IsAt, IsGapFor};
+ghost use Rattle.mib_state.specs.Entities.{find, next, place_in, IsAt, IsGapFor};
 ghost use Rattle.managed_entity.specs.Instance.{shown_as, value_at};
 ghost use Rattle.mib_state.specs.Attached.{least_instance};
 ghost use Rattle.managed_entity.specs.Answer.{outcome_of, left_by};
@@ -61,6 +62,7 @@ impl<E: ManagedEntity> Instances<E> {
         ensures found { IfOk result (IsAt self.now number) }
         ensures absent { IfErr result (IsGapFor self.now number) }
         ensures instance { IfOk result (λ place. slice_get self.now place ≡ find number self.now) }
+        ensures place { result_ok result ≡ place_in number self.now }
         ensures room { IfOk result (λ place. place < E.ROOM) }
     {
         self.rows.binary_search_by_key(&number, |row| row.number)
@@ -79,6 +81,7 @@ impl<E: ManagedEntity> Instances<E> {
     /// The number and the instance at a place, instances by ascending number.
     pub(crate) fn at(&self, place: usize) -> Option<(u16, &E)>
         ensures shown { option_map (λ (held : _). shown_as held.0 (E.values held.1.now) (E.entries held.1.now)) result ≡ slice_get self.now place }
+        ensures found { IfSome result (λ held. find held.0 self.now ≡ slice_get self.now place) }
         ensures room { IfSome result (λ held. place < E.ROOM) }
     {
         let row = self.rows.get(place)?;
@@ -87,6 +90,7 @@ impl<E: ManagedEntity> Instances<E> {
 
     /// The place of the instance of a number.
     pub(crate) fn place_of(&self, number: u16) -> Option<usize>
+        ensures place { result ≡ place_in number self.now }
         ensures instance { option_and_then (λ (place : _). slice_get self.now place) result ≡ find number self.now }
         ensures held { is_some result ≡ is_some (find number self.now) }
         ensures room { IfSome result (λ place. place < E.ROOM) }

@@ -7,7 +7,8 @@
 //! The definition `step` over that value says what every request is answered and leaves.
 //!
 //! **A check, then a change.** `Mib::decide` says what a request is answered, and whether it is refused; nothing changes.
-//! `result_of` asks it alone; `step` asks it and then makes the change, which can't be refused.
+//! `result_of` asks it alone; `step` asks it and then makes the change, which can't be refused. `step_touching` is that step,
+//! and says beside the reply which instance it touched ([`Touch`]).
 //!
 //! **The latched table.** A Get that names the table of an instance also latches it: the bytes of its entries are copied
 //! aside, and Get next reads them part by part, whatever happens to the instance. The latch is no entity.
@@ -26,10 +27,12 @@ mod latch;
 mod mib;
 mod onu_data;
 mod step;
+mod touch;
 
 pub use held::HeldInstance;
 pub use managed_entity::VlanConfig;
 pub use mib::Mib;
+pub use touch::Touch;
 
 /// The entities after a list of requests are those after its accepted requests alone, and neither they nor what is accepted
 /// depend on the latched table.

@@ -2,7 +2,7 @@
 ghost use Rattle.std.specs.Prelude.{◌≡◌, ◌<◌, ◌-◌, IfOk, IfSome, is_some, option_map, length, slice_get};
 ghost use Rattle.std.specs.Option.{option_and_then};
 ghost use Rattle.managed_entity.specs.Class.{attributes_of, room_of, width_at};
-ghost use Rattle.mib_state.specs.Entities.{nothing, unlatched, instances_of, find, next};
+ghost use Rattle.mib_state.specs.Entities.{nothing, unlatched, instances_of, find, next, place_in};
 ghost use Rattle.managed_entity.specs.Instance.{attribute_of};
 ghost use Rattle.mib_state.specs.Attached.{mapper_of_port, table_of_port};
 ghost use Rattle.managed_entity.specs.Shown.{mapper_instance, vlan_instance, interwork_instance, gem_port_instance};
@@ -138,6 +138,7 @@ impl Mib {
 
     /// The place of an instance among those of its class: the one at which `instance_at` lends it.
     pub fn place_of(&self, class: u16, instance: u16) -> Option<usize>
+        ensures place { result ≡ place_in instance (instances_of self.now.entities class) }
         ensures instance { option_and_then (λ (place : _). slice_get (instances_of self.now.entities class) place) result ≡ find instance (instances_of self.now.entities class) }
         ensures held { is_some result ≡ is_some (find instance (instances_of self.now.entities class)) }
         ensures room { IfSome result (λ place. place < room_of class) }
@@ -155,6 +156,7 @@ impl Mib {
     /// The number of the 802.1p mapper service profile at a place, and the mapper; places as in `instance_at`.
     pub fn mapper_at(&self, place: usize) -> Option<(u16, &Mapper)>
         ensures shown { option_map (λ (held : _). mapper_instance held.0 held.1.now) result ≡ slice_get self.now.entities.mappers place }
+        ensures found { IfSome result (λ held. find held.0 self.now.entities.mappers ≡ slice_get self.now.entities.mappers place) }
         ensures room { IfSome result (λ held. place < room_of 130) }
     {
         self.mappers.at(place)
@@ -164,6 +166,7 @@ impl Mib {
     /// `instance_at`.
     pub fn vlan_at(&self, place: usize) -> Option<(u16, &VlanConfig)>
         ensures shown { option_map (λ (held : _). vlan_instance held.0 held.1.now) result ≡ slice_get self.now.entities.vlans place }
+        ensures found { IfSome result (λ held. find held.0 self.now.entities.vlans ≡ slice_get self.now.entities.vlans place) }
         ensures room { IfSome result (λ held. place < room_of 171) }
     {
         self.vlans.at(place)

@@ -3,10 +3,12 @@ ghost use Rattle.std.specs.Prelude.{◌≡◌, is_ok, true};
 ghost use Rattle.managed_entity.specs.Answer.{left_by};
 ghost use Rattle.mib_state.specs.Entities.{nothing};
 ghost use Rattle.mib_state.specs.Step.{answered, create, delete, latched, set, state_left, step};
+ghost use Rattle.mib_state.specs.Touch.{touched, touched_by, IsTouch};
 
 use crate::check::told;
 use crate::latch::TABLE_PLACE;
 use crate::mib::Mib;
+use crate::touch::Touch;
 use managed_entity::class::{GEM_PORT, INTERWORK, MAPPER, ONU_DATA, VLAN};
 use managed_entity::{mask_of, names};
 use omci_msg::{Action, Reply, Request};
@@ -102,21 +104,50 @@ impl Mib {
 
     /// One step: carries a request out, and answers it. It takes no memory; a refusal changes nothing. The definition
     /// `step` gives the refusals of each action in their order, and what each answer holds (ITU-T G.988, annex A).
-    #[tactic(auto, using(crate::proofs::Answered::left_refused))]
     pub fn step(&mut self, request: &Request) -> Reply
         ensures reply { result ≡ (step self.old request.now).0 }
         ensures after { self.new ≡ (step self.old request.now).1 }
     {
+        self.step_touching(request).0
+    }
+
+    /// The same step, and beside its reply what it touched of the classes 130, 171, 266 and 268: one instance where a Create, a
+    /// Delete or a Set of another class than ONU data is accepted, all of them at MIB reset, and nothing otherwise. The definition
+    /// `IsTouch` says what each leaves as it was.
+    #[tactic(auto, using(crate::proofs::Answered::left_refused))]
+    pub fn step_touching(&mut self, request: &Request) -> (Reply, Touch)
+        ensures reply { result.0 ≡ (step self.old request.now).0 }
+        ensures after { self.new ≡ (step self.old request.now).1 }
+        ensures touch { result.1 ≡ touched self.old request.now }
+        ensures changes { IsTouch self.old.entities self.new.entities result.1 }
+    {
         let outcome = self.decide(request);
+        let mut touch = Touch::Nothing;
         if outcome.is_ok() {
             self.change(request);
+            touch = touched_by(request);
         }
-        Reply {
+        let reply = Reply {
             tci: request.tci,
             action: request.action,
             class: request.class,
             instance: request.instance,
             contents: told(outcome),
+        };
+        (reply, touch)
+    }
+}
+
+/// What a request touches that isn't refused.
+fn touched_by(request: &Request) -> Touch
+    ensures { result ≡ touched_by request.now.action request.now }
+{
+    match request.action {
+        Action::Set if request.class == ONU_DATA => Touch::Nothing,
+        Action::Create | Action::Delete | Action::Set => {
+            Touch::One(request.class, request.instance)
         }
+        Action::MibReset => Touch::All,
+        _ => Touch::Nothing,
     }
 }

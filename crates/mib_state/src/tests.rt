@@ -1,4 +1,4 @@
-use crate::Mib;
+use crate::{Mib, Touch};
 use omci_msg::{Action, OtherCode, Reply, Request};
 use pmapper::{GemPort, Interwork, Mapper};
 use std::alloc::{AllocError, Global};
@@ -655,4 +655,61 @@ fn each_class_is_written(rt: HostRuntime) -> Result<(), Fail> {
     );
     assert_eq!(rt; mib.vlan(0x0701).map(|vlan| vlan.table.len()), Some(4));
     Ok(())
+}
+
+/// Carries requests out, one after another, in two of the same: what each is answered by `step_touching` is what `step`
+/// answers, with this result, and it touches this.
+fn touch(rt: &impl Abort, alloc: Global, turns: &[(Request, u8, Touch)]) -> Result<(), Fail> {
+    let mut mib = set_up(alloc)?;
+    let mut same = set_up(alloc)?;
+    for (at, (sent, result, touched)) in turns.iter().enumerate() {
+        let (reply, touch) = mib.step_touching(sent);
+        assert_eq!(rt; touch, *touched, "what turn {at} touches");
+        assert_eq!(rt; reply.contents[0], *result, "the result of turn {at}");
+        assert_eq!(rt; reply, same.step(sent), "the reply of turn {at}");
+        assert_eq!(rt; mib.sync(), same.sync(), "the sync after turn {at}");
+    }
+    Ok(())
+}
+
+#[test]
+fn an_accepted_change_touches_its_instance(rt: HostRuntime) -> Result<(), Fail> {
+    let of_mapper = set(130, 0x0601, 0x0800, &[0xff, 0xfe]);
+    let of_no_attribute = set(171, 0x0701, 0, &[]);
+    let reset = request(Action::MibReset, 2, 0, &[]);
+    touch(
+        &rt,
+        rt.alloc(),
+        &[
+            (create_gem_port(0x0402), 0, Touch::One(268, 0x0402)),
+            (of_mapper, 0, Touch::One(130, 0x0601)),
+            (of_no_attribute, 0, Touch::One(171, 0x0701)),
+            (delete(266, 0x0501), 0, Touch::One(266, 0x0501)),
+            (reset, 0, Touch::All),
+            (delete(268, 0x0402), 5, Touch::Nothing),
+        ],
+    )
+}
+
+#[test]
+fn a_refusal_and_a_reading_touch_nothing(rt: HostRuntime) -> Result<(), Fail> {
+    let of_unknown_class = request(Action::Create, 45, 1, &[]);
+    let of_read_only = set(171, 0x0701, 0x4000, &[0, 5]);
+    let of_sync = set(2, 0, 0x8000, &[7]);
+    let next = request(Action::GetNext, 171, 0x0701, &[4, 0]);
+    let upload = request(Action::MibUpload, 2, 0, &[]);
+    touch(
+        &rt,
+        rt.alloc(),
+        &[
+            (create_gem_port(0x0401), 7, Touch::Nothing),
+            (of_unknown_class, 4, Touch::Nothing),
+            (of_read_only, 9, Touch::Nothing),
+            (of_sync, 0, Touch::Nothing),
+            (get(171, 0x0701, 0x0400), 0, Touch::Nothing),
+            (next, 0, Touch::Nothing),
+            (delete(266, 0x0502), 5, Touch::Nothing),
+            (upload, 2, Touch::Nothing),
+        ],
+    )
 }

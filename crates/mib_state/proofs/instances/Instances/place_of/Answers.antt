@@ -15,3 +15,6 @@ returns-clause-held g c =
     let l = c.args.self.now in
     let found = c.search.ensures in
     ap is_some c.ok.ensures.value ∙ (place_found l c.args.number c.search.result found.found found.absent found.instance).held
+
+pub returns-clause-place : goal.returns-clause-place
+returns-clause-place g c = c.ok.ensures.value ∙ c.search.ensures.place

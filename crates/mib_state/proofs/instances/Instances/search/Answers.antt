@@ -3,7 +3,7 @@ use Rattle.std.proofs.lemmas.List.{length-map}
 use Rattle.std.proofs.lemmas.List.Sorted.{answers_always}
 use Rattle.mib_state.specs.declared.instances.Row.{Row}
 use Rattle.managed_entity.specs.Instance.{Instance, shown_as}
-use Rattle.mib_state.proofs.Place.{found_instance, found_room, searched}
+use Rattle.mib_state.proofs.Place.{found_instance, found_room, placed, searched}
 use Rattle.mib_state.proofs.instances.Instances.search.Goals as goal
 
 pub returns : goal.returns
@@ -19,5 +19,6 @@ returns g c =
       found = at.found;
       absent = at.absent;
       instance = found_instance (map shown rows) n c.self.invariant.0 _ at.found;
+      place = placed (map shown rows) n c.self.invariant.0 _ at.found at.absent;
       room = found_room (map shown rows) n _ fits _ at.found;
     })
