@@ -61,6 +61,11 @@ code-mask priorities tpids filters code ten five of_priority of_tpid =
     (tpid-mask tpids filters (code / 32 == 1) (code / 16 % 2 == 1) (code % 2 == 1) five of_tpid)
     ∙ mask-and (λ f. admits_priority (code / 2 % 8) f.priority) (λ f. admits_tpid (code / 32 == 1) (code / 16 % 2 == 1) (code % 2 == 1) f.tpid) filters
 
+-- the TPID and the DEI of a code by bits 5, 4 and 0
+pub tpid-bits : (masks : List ℕ) (k code : ℕ) → k / 4 ≡ code / 32 → k / 2 % 2 ≡ code / 16 % 2 → k % 2 ≡ code % 2
+    → joined_tpid masks (k / 4 == 1) (k / 2 % 2 == 1) (k % 2 == 1) ≡ joined_tpid masks (code / 32 == 1) (code / 16 % 2 == 1) (code % 2 == 1)
+tpid-bits masks k code a b d = rw (a, b, d) refl
+
 -- ---- what a code says of its tag
 
 bit_of-test : (b : Bool) → (bit_of b == 1) ≡ b

@@ -1,6 +1,7 @@
 pub mod Alike
 pub mod Coding
 mod Examples
+pub mod Following
 pub mod Found
 pub mod Heads
 pub mod Joined

@@ -161,3 +161,45 @@ none-at {A} p (x ∷ xs) (suc k) none =
         → under (bit_of b) (count_trailing_zeros k (mask_of p xs)) ≡ suc k
     by_case rest true none = cc
     by_case rest false none = ap suc (rest none)
+
+-- ---- a list of masks that is filled
+
+-- one mask more
+pub set-next : (f : ℕ → ℕ) (xs : List ℕ) (n v : ℕ) → n < length xs → v ≡ f n → ((k : ℕ) → k < n → get_or xs k 0 ≡ f k)
+    → (k : ℕ) → k < n + 1 → get_or (set xs n v) k 0 ≡ f k
+set-next f xs n v inside value before k h = by_case (eqb_tells k n)
+  where
+    by_case : ((k == n) ≡ true × (k ≡ n)) ⊎ ((k == n) ≡ false × (k ≢ n)) → get_or (set xs n v) k 0 ≡ f k
+    by_case (inl a) = get_or-set_at xs n k v 0 a.1 inside ∙ value ∙ ap f (sym a.1)
+    by_case (inr a) = get_or-set_other xs n k v 0 a.1 ∙ before k (omega (arith, h, a.1))
+
+-- one mask more, where D tells which are there
+set-one : (D : ℕ → Type 0) (f : ℕ → ℕ) (xs : List ℕ) (n v : ℕ) → n < length xs → v ≡ f n → ((k : ℕ) → D k → get_or xs k 0 ≡ f k)
+    → (k : ℕ) → (k ≢ n → D k) → get_or (set xs n v) k 0 ≡ f k
+set-one D f xs n v inside value before k other = by_case (eqb_tells k n)
+  where
+    by_case : ((k == n) ≡ true × (k ≡ n)) ⊎ ((k == n) ≡ false × (k ≢ n)) → get_or (set xs n v) k 0 ≡ f k
+    by_case (inl a) = get_or-set_at xs n k v 0 a.1 inside ∙ value ∙ ap f (sym a.1)
+    by_case (inr a) = get_or-set_other xs n k v 0 a.1 ∙ before k (other a.1)
+
+-- four masks more of 64, each 16 behind the one before
+pub set-four : (f : ℕ → ℕ) (xs : List ℕ) (n a b c d : ℕ) → length xs ≡ 64 → n < 16
+    → a ≡ f n → b ≡ f (16 + n) → c ≡ f (32 + n) → d ≡ f (48 + n)
+    → ((k : ℕ) → (k < 64) × (k % 16 < n) → get_or xs k 0 ≡ f k)
+    → (k : ℕ) → (k < 64) × (k % 16 < n + 1) → get_or (set (set (set (set xs n a) (16 + n) b) (32 + n) c) (48 + n) d) k 0 ≡ f k
+set-four f xs n a b c d long few is_a is_b is_c is_d before k h =
+    let A : ℕ → Type 0 = λ k. (k < 64) × (k % 16 < n) in
+    let B : ℕ → Type 0 = λ k. k ≢ n → A k in
+    let C : ℕ → Type 0 = λ k. k ≢ 16 + n → B k in
+    let D : ℕ → Type 0 = λ k. k ≢ 32 + n → C k in
+    let one = set xs n a in
+    let two = set one (16 + n) b in
+    let three = set two (32 + n) c in
+    let long_1 : length one ≡ 64 = length-set xs n a ∙ long in
+    let long_2 : length two ≡ 64 = length-set one (16 + n) b ∙ long_1 in
+    let long_3 : length three ≡ 64 = length-set two (32 + n) c ∙ long_2 in
+    let is_1 = set-one A f xs n a (omega (arith, few, long)) is_a before in
+    let is_2 = set-one B f one (16 + n) b (omega (arith, few, long_1)) is_b is_1 in
+    let is_3 = set-one C f two (32 + n) c (omega (arith, few, long_2)) is_c is_2 in
+    set-one D f three (48 + n) d (omega (arith, few, long_3)) is_d is_3 k
+    (λ w x y z. (h.0, omega (arith, few, h.0, h.1, w, x, y, z)))

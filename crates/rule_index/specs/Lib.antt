@@ -2,6 +2,7 @@ pub mod Built
 pub mod CodeMasks
 pub mod Codes
 pub mod Filters
+pub mod Followed
 pub mod Head
 pub mod Kinds
 pub mod Masks

@@ -65,13 +65,16 @@ fn joined_tpid(masks: &[u128; 5], standard: bool, input: bool, dei: bool) -> u12
         | only_if(input && dei, masks[4])
 }
 
-// The mask of a code from those by key.
-fn joined_code(priorities: &[u128; 10], tpids: &[u128; 5], code: usize) -> u128
-    requires { code < 64 }
-    ensures { result ≡ joined_code priorities.now tpids.now code }
+// The masks of each TPID and DEI: those of a code from its bits 5, 4 and 0.
+fn joined_tpids(masks: &[u128; 5]) -> [u128; 8]
+    ensures { (k : ℕ) → k < 8
+        → slice_index_or result k 0 ≡ joined_tpid masks.now (k / 4 == 1) (k / 2 % 2 == 1) (k % 2 == 1) }
 {
-    let mask = priorities[8] | priorities[code / 2 % 8];
-    mask & joined_tpid(tpids, code / 32 == 1, code / 16 % 2 == 1, code % 2 == 1)
+    let mut joined = [0; 8];
+    for k in 0..8 {
+        joined[k] = joined_tpid(masks, k / 4 == 1, k / 2 % 2 == 1, k % 2 == 1);
+    }
+    joined
 }
 
 // A mask for each code of a tag, joined from masks by priority and by TPID and DEI.
@@ -113,8 +116,13 @@ impl CodeMasks {
     pub(crate) fn finish(&mut self)
         ensures { (filters : List TagFilter) → IsCodeGrouping self.old filters → AreCodes self.new.codes filters }
     {
-        for code in 0..64 {
-            self.codes[code] = joined_code(&self.priorities, &self.tpids, code);
+        let tpids = joined_tpids(&self.tpids);
+        for low in 0..16 {
+            let priority = self.priorities[8] | self.priorities[low / 2];
+            self.codes[low] = priority & tpids[low % 2];
+            self.codes[16 + low] = priority & tpids[2 + low % 2];
+            self.codes[32 + low] = priority & tpids[4 + low % 2];
+            self.codes[48 + low] = priority & tpids[6 + low % 2];
         }
     }
 

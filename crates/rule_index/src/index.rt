@@ -3,10 +3,11 @@ ghost use Rattle.std.specs.Prelude.{◌≡◌, ◌<◌, ◌≤◌, [], ℕ, None
 ghost use Rattle.rule_index.specs.Order.{order_of};
 ghost use Rattle.rule_index.specs.Readers.{has_inner_vid, has_tags, mask_in_order, IsMaskInOrder};
 
-use crate::entries::{copy_entries, has_keys};
+use crate::entries::{copy_entries, first_other, other_treatment};
+use crate::followed::Followed;
 use crate::head::Head;
 use crate::masks::Masks;
-use crate::ranking::{place_at, rank_entries};
+use crate::ranking::{number_at, number_places, place_at, rank_entries};
 use crate::row::Row;
 use std::alloc::{AllocError, Global};
 use std::marker::Model;
@@ -20,6 +21,8 @@ pub struct Index {
     entries: Vec<Entry>,
     // In the order of rank and place.
     rows: Vec<Row>,
+    // By place, the number of the entry there.
+    numbers: [u8; 128],
     masks: Masks,
 }
 
@@ -40,6 +43,7 @@ impl Model for Index {
 impl Index {
     ghost use Rattle.tag_view.specs.Frame.{type_at};
     ghost use Rattle.vlan_rule.specs.Choice.{choice, matches, IsChoice};
+    ghost use Rattle.rule_index.specs.Followed.{IsFollowed};
 
     /// An index of no entries, with room for those of any table.
     pub fn new(alloc: Global) -> Result<Self, AllocError>
@@ -50,22 +54,41 @@ impl Index {
         Ok(Index {
             entries: Vec::with_capacity(alloc, TABLE_MAX_SIZE as usize)?,
             rows: Vec::with_capacity(alloc, TABLE_MAX_SIZE as usize)?,
+            numbers: [0; 128],
             masks,
         })
     }
 
-    /// Becomes the index of a table. It takes no memory. Where the table has the keys that it had, as after
-    /// a treatment was set, order and masks stay, and only the entries are copied.
+    /// Becomes the index of a table. It takes no memory.
     pub fn rebuild(&mut self, table: &RuleTable)
         ensures { self.new ≡ table.now }
     {
-        let keys_stay = has_keys(&self.entries, table);
-        copy_entries(&mut self.entries, table);
-        if keys_stay {
-            return;
+        let _ = self.follow(table);
+    }
+
+    /// Becomes the index of a table, and says what it found: that nothing changed, that one treatment may
+    /// have, or anything else. It takes no memory. Where one treatment was set, order and masks stay, and the
+    /// entries are gone over once.
+    pub fn follow(&mut self, table: &RuleTable) -> Followed
+        ensures index { self.new ≡ table.now }
+        ensures followed { IsFollowed self.old self.new result }
+    {
+        let place = first_other(&self.entries, table, 0);
+        if place == self.entries.len() && place == table.len() {
+            return Followed::Unchanged;
         }
+        if let Some(entry) = other_treatment(&self.entries, table, place) {
+            self.entries[place] = entry;
+            return match number_at(&self.numbers, &self.rows, place) {
+                Some(number) => Followed::Treatment(number),
+                None => Followed::Rebuilt,
+            };
+        }
+        copy_entries(&mut self.entries, table, place);
         rank_entries(&mut self.rows, table);
+        number_places(&mut self.numbers, &self.rows);
         self.masks.rebuild(&self.rows);
+        Followed::Rebuilt
     }
 
     /// The place of the entry that is used for a frame, or None where none matches it: of those that match,

@@ -24,16 +24,18 @@
 //! entries as for 128: no turn per entry, and nothing to be searched, sorted or compared. It branches on the
 //! number of tags alone, which its caller mostly knows. Groups of entries by VID and priority would need a
 //! search for each combination of fields that some entry leaves open. `rebuild` sets some bits for each entry
-//! and then joins the masks that `find` needs; where no key changed it copies the entries alone. An index
-//! takes some 20 KB, all of it in `new`.
+//! and then joins the masks that `find` needs; where one treatment alone differs it goes over the entries
+//! once, and copies that one. An index takes some 20 KB, all of it in `new`.
 //!
 //! What a caller keeps for each entry can be kept by its number in the order: [`Index::number`] gives that,
-//! for a [`Head`], the words of a frame that filters look at.
+//! for a [`Head`], the words of a frame that filters look at. [`Index::follow`] is `rebuild` that says what
+//! it found ([`Followed`]): which of what is so kept stays as it is.
 #![tactic(auto)]
 
 mod bit;
 mod code_masks;
 mod entries;
+mod followed;
 mod head;
 mod index;
 mod kind_masks;
@@ -44,6 +46,7 @@ mod row;
 mod tag_masks;
 mod vid_masks;
 
+pub use followed::Followed;
 pub use head::Head;
 pub use index::Index;
 pub use laws::law_of_order;

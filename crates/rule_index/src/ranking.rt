@@ -1,5 +1,5 @@
 //! The rows of a table in the order of rank and place.
-ghost use Rattle.std.specs.Prelude.{◌≡◌, ◌≤◌, ◌+◌, ◌++◌, length, slice_get, vec_capacity, vec_len};
+ghost use Rattle.std.specs.Prelude.{◌≡◌, ◌≤◌, ◌+◌, ◌++◌, IfSome, Some, length, slice_get, vec_capacity, vec_len};
 ghost use Rattle.std.specs.Option.{option_map};
 ghost use Rattle.vlan_rule.specs.Table.{table_max_size};
 ghost use Rattle.rule_index.specs.Order.{rows_from, rows_of};
@@ -47,4 +47,26 @@ pub(crate) fn place_at(rows: &[Row], number: usize) -> Option<usize>
 {
     let row = rows.get(number)?;
     Some(row.place)
+}
+
+// Keeps the number of each row by its place.
+pub(crate) fn number_places(numbers: &mut [u8; 128], rows: &[Row]) {
+    for number in 0..rows.len().min(128) {
+        if let Some(kept) = numbers.get_mut(rows[number].place) {
+            *kept = number as u8;
+        }
+    }
+}
+
+// The number of the entry at a place, as it is kept. The row of the number is asked for its place, so that
+// nothing has to be known of what is kept.
+pub(crate) fn number_at(numbers: &[u8; 128], rows: &[Row], place: usize) -> Option<u8>
+    ensures { IfSome result (λ number. option_map (λ (row : _). row.place) (slice_get rows.now number) ≡ Some place) }
+{
+    let number = *numbers.get(place)?;
+    if place_at(rows, usize::from(number)) == Some(place) {
+        Some(number)
+    } else {
+        None
+    }
 }

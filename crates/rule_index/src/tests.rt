@@ -1,6 +1,6 @@
 ghost use Rattle.std.specs.Prelude.{◌<◌, length};
 
-use crate::{Head, Index, law_of_order};
+use crate::{Followed, Head, Index, law_of_order};
 use byteorder::{BigEndian, ByteOrder};
 use std::alloc::Global;
 use std::process::Abort;
@@ -130,6 +130,88 @@ fn a_rebuild_follows_the_table(rt: HostRuntime) -> Result<(), Fail> {
     assert_eq!(rt; found(&index, rt.alloc(), &two_tags, 0x0800)?, Some(2));
     assert_eq!(rt; found(&index, rt.alloc(), &[0x8100a064], 0x0800)?, Some(1));
     assert_eq!(rt; index.order(3), None);
+    Ok(())
+}
+
+#[test]
+fn follow_says_what_a_put_changed(rt: HostRuntime) -> Result<(), Fail> {
+    let mut index = Index::new(rt.alloc())?;
+    let mut table = one_tag_table(rt.alloc())?;
+    assert_eq!(rt; index.follow(&table), Followed::Rebuilt);
+    let vid_100 = 0xf8000000_80320000;
+    let default = 0xf8000000_e8000000;
+    let untagged = 0xf0000000_f0000000;
+    let rows = [
+        ("nothing", vid_100, 0x400f0000_00080644, Followed::Unchanged),
+        ("of rank 0", vid_100, UNCHANGED, Followed::Treatment(0)),
+        ("the same again", vid_100, UNCHANGED, Followed::Unchanged),
+        ("a default", default, UNCHANGED, Followed::Treatment(1)),
+        (
+            "a predefined one",
+            untagged,
+            DROPPED,
+            Followed::Treatment(2),
+        ),
+        (
+            "no such key",
+            0xf8000000_80500000,
+            DELETION,
+            Followed::Unchanged,
+        ),
+        ("a new key", 0xf8000000_80500000, DROPPED, Followed::Rebuilt),
+        (
+            "the new one",
+            0xf8000000_80500000,
+            UNCHANGED,
+            Followed::Treatment(1),
+        ),
+        (
+            "the last by rank",
+            0xe0000000_e0000000,
+            DROPPED,
+            Followed::Treatment(5),
+        ),
+        ("one is gone", default, DELETION, Followed::Rebuilt),
+        (
+            "the first by place",
+            untagged,
+            UNCHANGED,
+            Followed::Treatment(2),
+        ),
+        (
+            "the last is gone",
+            0xf8000000_80500000,
+            DELETION,
+            Followed::Rebuilt,
+        ),
+    ];
+    let mut draws = Draws {
+        state: 0x9e3779b97f4a7c15,
+    };
+    for (what, key, rest, followed) in rows {
+        let _ = table.put(entry(key, rest));
+        assert_eq!(rt; index.follow(&table), followed, "{what}");
+        compare(
+            &rt,
+            rt.alloc(),
+            &table,
+            &index,
+            &mut draws,
+            &mut Seen::default(),
+        )?;
+    }
+    Ok(())
+}
+
+#[test]
+fn two_treatments_are_no_single_one(rt: HostRuntime) -> Result<(), Fail> {
+    let mut index = Index::new(rt.alloc())?;
+    let mut table = one_tag_table(rt.alloc())?;
+    index.rebuild(&table);
+    table.put(entry(0xf8000000_80320000, UNCHANGED))?;
+    table.put(entry(0xf8000000_e8000000, UNCHANGED))?;
+    assert_eq!(rt; index.follow(&table), Followed::Rebuilt);
+    assert_eq!(rt; index.follow(&table), Followed::Unchanged);
     Ok(())
 }
 

@@ -1,8 +1,9 @@
-use Rattle.std.proofs.Common.{◌≡◌, ◌<◌, ◌+◌, ◌++◌, [], ◌∷◌, ℕ, List, Some, None, length, map, take, Vec, Global, ap, sym, ◌∙◌, arith}
+use Rattle.std.proofs.Common.{◌≡◌, ◌<◌, ◌+◌, ◌++◌, [], ◌∷◌, ℕ, List, Some, None, length, map, take, Vec, Global, ap, sym, ◌∙◌, arith, refl}
 use Rattle.std.specs.Prelude.{slice_get}
-use Rattle.std.proofs.lemmas.List.{take_more, map-append}
+use Rattle.std.proofs.lemmas.List.{length-map, take_more, map-append, take-map}
 use Rattle.std.proofs.lemmas.Option.{get_or_from_slice_get, slice_get-get_or}
 use Rattle.vlan_rule.specs.declared.entry.Entry.{Entry}
+use Rattle.rule_index.proofs.Following.{same-take}
 use Rattle.rule_index.proofs.entries.copy_entries.Goals as goal
 use Rattle.rule_index.proofs.entries.copy_entries.Goals.{in-Some, in_default}
 
@@ -16,6 +17,17 @@ grown entries entry table at within is before =
 
 past : (table : List (List ℕ)) (at : ℕ) → at < length table → None ≡ slice_get table at → ⊥
 past table at within none = let some = slice_get-get_or table at [] within in cc
+
+pub loop-place-init : goal.loop-place-init
+loop-place-init c =
+    let bytes : Entry → List ℕ = λ entry. entry.0 in
+    let old = c.args.entries.now.items in
+    record {
+      entries = ap (map bytes) c.truncate.ensures.items ∙ sym (take-map bytes c.args.from old)
+          ∙ same-take (map bytes old) c.args.table.now c.args.from (omega (arith, c.requires.within.0, length-map old bytes)) c.requires.within.1 c.requires.same;
+      room = refl;
+      len = omega (arith, c.truncate.ensures.len, c.requires.within.0);
+    }
 
 pub loop-place-preserved : goal.loop-place-preserved
 loop-place-preserved c = elim c.match-entry.branch [
