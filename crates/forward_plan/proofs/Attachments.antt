@@ -1,55 +1,42 @@
 -- What is attached to ports, as one after another is looked up.
-use Rattle.std.proofs.Common.{◌≡◌, ◌≢◌, ◌⊎◌, ℕ, zero, suc, ◌+◌, ◌^◌, ◌<◌, Bool, true, false, List, [], ◌∷◌, length, map, replicate, Some, None, refl, ap, sym, subst, ◌∙◌, arith, inl, inr}
+use Rattle.std.proofs.Common.{◌≡◌, ◌≢◌, ◌⊎◌, ℕ, zero, suc, ◌+◌, ◌<◌, Bool, true, false, ◌&&◌, List, [], ◌∷◌, length, map, replicate, set, Option, Some, None, refl, ap, sym, ◌∙◌, arith, inl, inr}
 use Rattle.std.specs.Prelude.{◌==◌, if◌then◌else◌, IsSome, is_some, slice_get, filter}
-use Rattle.std.proofs.lemmas.Bool.{and_parts, cases_eq, cases_lt, eqb-true}
-use Rattle.std.proofs.lemmas.List.{get_or-replicate, length-replicate}
-use Rattle.std.proofs.lemmas.Option.{none-some, same_Some, slice_get-get_or, slice_get_within}
+use Rattle.std.specs.Option.{option_and_then, option_map, option_or, unwrap_or}
+use Rattle.std.proofs.lemmas.Bool.{and_parts, cases_eq, eqb-true}
+use Rattle.std.proofs.lemmas.List.{get_or-replicate, get_or-set_same, length-replicate, length-set}
+use Rattle.std.proofs.lemmas.Option.{same_Some, slice_get-get_or, slice_get-map}
 use mathlib.Core.Bool.{false≢true}
-use Rattle.pmapper.specs.declared.mapper.Mapper.{Mapper}
-use Rattle.managed_entity.specs.declared.vlan.VlanConfig.{VlanConfig}
 use Rattle.managed_entity.specs.Instance.{Instance, attribute_number}
-use Rattle.managed_entity.specs.Shown.{mapper_instance, vlan_instance}
-use Rattle.mib_state.specs.Entities.{Entities, nothing}
-use Rattle.mib_state.specs.Attached.{is_mapper_of, is_table_of, least_instance, least_of, mapper_of_port, table_of_port}
+use Rattle.mib_state.specs.Entities.{Entities, nothing, place_in}
+use Rattle.mib_state.specs.Attached.{is_mapper_of, is_table_of, least_instance, least_of, mapper_of_port, table_of_mapper, table_of_port}
 use Rattle.forward_plan.specs.declared.attached.Attached.{Attached}
-use Rattle.forward_plan.specs.Meaning.{mapper_at}
-use Rattle.forward_plan.specs.Plan.{AreAttached, AreMapped, IsAttached, IsAttachedIn}
-use Rattle.forward_plan.proofs.Numbers.{one_byte, two_bytes}
+use Rattle.forward_plan.specs.declared.naming.Naming.{Naming}
+use Rattle.forward_plan.specs.Attachment.{AreAttached, AreAttachedOrKept, AreMapped, IsAttachedIn, attached_at, mapper_naming, place_or_none, table_naming}
 
 -- ---- one port
 
--- what is read at a port is what is attached to it
-pub read_right : (e : Entities) (ports : List Attached) (port : ℕ) (attached : Attached) → IsAttachedIn e ports port → slice_get ports port ≡ Some attached
-    → IsAttached e port attached
-read_right e ports port attached at held = subst (IsAttached e port) (same_Some _ _ (sym at.held ∙ held)) at.right
-
--- what is held at a port stays right where it stays
-pub kept_right : (e : Entities) (old new : List Attached) (port : ℕ) → slice_get new port ≡ slice_get old port → IsAttachedIn e old port → IsAttachedIn e new port
-kept_right e old new port same at = record { attached = at.attached; held = same ∙ at.held; right = at.right }
-
--- without entities nothing is attached
-pub none_right : (ports : List Attached) (port : ℕ) (attached : Attached) → slice_get ports port ≡ Some attached → attached.table ≡ 255 → attached.mapper ≡ 255
-    → IsAttachedIn nothing ports port
-unfolding mapper_at
-none_right ports port attached held table mapper =
-    record { attached = attached; held = held; right = record { table = table; mapper = mapper } }
-
--- nor is it where each port holds the same, which is neither a table nor a mapper
+-- without entities nothing is attached, where each port holds the same, which is neither a table nor a mapper
 pub all_none : (n : ℕ) (ports : List Attached) (attached : Attached) → ports ≡ replicate n attached → attached ≡ record { table = 255; mapper = 255 }
     → (port : ℕ) → port < n → IsAttachedIn nothing ports port
 all_none n ports attached same none port fits =
     let within : port < length (replicate n attached) = rw length-replicate fits in
-    let held : slice_get ports port ≡ Some attached =
-    ap (λ (l : List Attached). slice_get l port) same ∙ slice_get-get_or (replicate n attached) port attached within ∙ ap Some (get_or-replicate n port attached attached fits) in
-    none_right ports port attached held (ap (λ (a : Attached). a.table) none) (ap (λ (a : Attached). a.mapper) none)
+    ap (λ (l : List Attached). slice_get l port) same
+    ∙ slice_get-get_or (replicate n attached) port attached within
+    ∙ ap Some (get_or-replicate n port attached attached fits ∙ none)
 
 -- a port without a mapper and without a table of its own has nothing attached
-pub nothing_right : (e : Entities) (port : ℕ) (attached : Attached) → mapper_of_port e port ≡ None → least_instance (is_table_of 2 port) e.vlans ≡ None
-    → IsAttached nothing port attached → IsAttached e port attached
-unfolding mapper_at
-nothing_right e port attached no_mapper no_table is =
-    let none : table_of_port e port ≡ None = rw (no_table, no_mapper) refl in
-    record { table = rw none is.table; mapper = rw no_mapper is.mapper }
+pub unattached : (e : Entities) (port : ℕ) → mapper_of_port e port ≡ None → least_instance (is_table_of 2 port) e.vlans ≡ None
+    → attached_at e port ≡ attached_at nothing port
+unattached e port no_mapper no_table = rw (no_table, no_mapper) refl
+
+-- what is held at a port stays right where it stays
+kept_right : (e : Entities) (old new : List Attached) (port : ℕ) → slice_get new port ≡ slice_get old port → IsAttachedIn e old port → IsAttachedIn e new port
+kept_right e old new port same at = same ∙ at
+
+pub or_kept_right : (e : Entities) (old new : List Attached) (port : ℕ) → IsAttachedIn e new port ⊎ (slice_get new port ≡ slice_get old port)
+    → IsAttachedIn e old port → IsAttachedIn e new port
+or_kept_right e old new port (inl at) before = at
+or_kept_right e old new port (inr kept) before = kept ∙ before
 
 -- ---- a step
 
@@ -58,34 +45,76 @@ pub record Attaches (e : Entities) (old new : List Attached) (port : ℕ) : Type
   pub attached : IsAttachedIn e new port
   pub others : (other : ℕ) → other ≢ port → slice_get new other ≡ slice_get old other
 
-pub step_keeps : (e : Entities) (old new : List Attached) (port other : ℕ) → Attaches e old new port → IsAttachedIn e old other → IsAttachedIn e new other
+-- another place reads what it read
+other_place : (ports : List Attached) (port other : ℕ) (attached : Attached) → other ≢ port → slice_get (set ports port attached) other ≡ slice_get ports other
+other_place [] port other attached differs = refl
+other_place (x ∷ ports) zero zero attached differs = absurd (differs refl)
+other_place (x ∷ ports) zero (suc other) attached differs = refl
+other_place (x ∷ ports) (suc port) zero attached differs = refl
+other_place (x ∷ ports) (suc port) (suc other) attached differs = other_place ports port other attached (λ same. differs (ap suc same))
+
+-- what is written at a port's place
+pub attaches : (e : Entities) (ports : List Attached) (port : ℕ) (attached : Attached) → port < length ports → attached ≡ attached_at e port
+    → Attaches e ports (set ports port attached) port
+attaches e ports port attached within is =
+    let long : port < length (set ports port attached) = omega (arith, length-set ports port attached) in
+    record {
+      attached = slice_get-get_or (set ports port attached) port attached long ∙ ap Some (get_or-set_same ports port attached attached within ∙ is);
+      others = λ other differs. other_place ports port other attached differs;
+    }
+
+step_keeps : (e : Entities) (old new : List Attached) (port other : ℕ) → Attaches e old new port → IsAttachedIn e old other → IsAttachedIn e new other
 step_keeps e old new port other step at = elim (cases_eq other port) [
   | inl same ↦ rw same step.attached
-  | inr differs ↦ kept_right e old new other (step.others other differs) at
+  | inr differs ↦ step.others other differs ∙ at
 ]
 
--- each port has what is attached to it, or what it had
-abbrev pub AreAttachedOrKept : Entities → List Attached → List Attached → Type 0
-AreAttachedOrKept e old new = (port : ℕ) → IsAttachedIn e new port ⊎ (slice_get new port ≡ slice_get old port)
+pub none_kept : (e : Entities) (ports : List Attached) → AreAttachedOrKept e ports ports
+none_kept e ports port = inr refl
 
 pub step_or_kept : (e : Entities) (first old new : List Attached) (port : ℕ) → Attaches e old new port → AreAttachedOrKept e first old → AreAttachedOrKept e first new
 step_or_kept e first old new port step before other = elim (cases_eq other port) [
   | inl same ↦ inl (rw same step.attached)
   | inr differs ↦ elim (before other) [
-    | inl at ↦ inl (kept_right e old new other (step.others other differs) at)
+    | inl at ↦ inl (step.others other differs ∙ at)
     | inr kept ↦ inr (step.others other differs ∙ kept)
   ]
 ]
 
-pub or_kept_right : (e : Entities) (old new : List Attached) (port : ℕ) → IsAttachedIn e new port ⊎ (slice_get new port ≡ slice_get old port)
-    → IsAttachedIn e old port → IsAttachedIn e new port
-or_kept_right e old new port (inl at) before = at
-or_kept_right e old new port (inr kept) before = kept_right e old new port kept before
+-- ---- the ports that namings point to
 
--- ---- the ports that instances name
+module _ (e : Entities) (counts : Naming → Type 0) (names : List Naming) where
+  -- the ports that the first namings which count point to have what is attached to them
+  abbrev pub AreNamedAttached : List Attached → ℕ → Type 0
+  AreNamedAttached ports place = (k : ℕ) (naming : Naming) → k < place → slice_get names k ≡ Some naming → counts naming → IsAttachedIn e ports naming.to
+
+  pub named_none : (ports : List Attached) → AreNamedAttached ports zero
+  named_none ports k naming before = absurd (omega arith)
+
+  -- one more naming, to a port that is attached next
+  pub named_step : (old new : List Attached) (place : ℕ) (here : Naming) → slice_get names place ≡ Some here → Attaches e old new here.to
+      → AreNamedAttached old place → AreNamedAttached new (place + 1)
+  named_step old new place here is step before k naming earlier held count = elim (cases_eq k place) [
+    | inl same ↦
+        let it : naming ≡ here = same_Some naming here (sym held ∙ (ap (slice_get names) same ∙ is)) in
+        rw it step.attached
+    | inr differs ↦ step_keeps e old new here.to naming.to step (before k naming (omega arith) held count)
+  ]
+
+  -- one more naming, which doesn't count
+  pub named_skip : (ports : List Attached) (place : ℕ) (here : Naming) → slice_get names place ≡ Some here → (counts here → ⊥)
+      → AreNamedAttached ports place → AreNamedAttached ports (place + 1)
+  named_skip ports place here is none before k naming earlier held count = elim (cases_eq k place) [
+    | inl same ↦
+        let it : naming ≡ here = same_Some naming here (sym held ∙ (ap (slice_get names) same ∙ is)) in
+        absurd (none (rw (← it) count))
+    | inr differs ↦ before k naming (omega arith) held count
+  ]
+
+-- ---- the namings of entities
 
 -- an instance of the least number is one of them
-pub least_there : (test : Instance → Bool) (l : List Instance) → IsSome (least_instance test l)
+least_there : (test : Instance → Bool) (l : List Instance) → IsSome (least_instance test l)
     → (k : ℕ) × (i : Instance) × (slice_get l k ≡ Some i) × (test i ≡ true)
 least_there test [] some = absurd (false≢true some)
 least_there test (x ∷ l) some =
@@ -95,102 +124,148 @@ least_there test (x ∷ l) some =
       | false ↦ λ is some. let later = least_there test l some in (suc later.0, later.1, later.2, later.3)
     ] refl some
 
--- what is held is before a place where nothing is
-before_past : (l : List Instance) (k place : ℕ) (i : Instance) → None ≡ slice_get l place → slice_get l k ≡ Some i → k < place
-before_past l k place i past held = elim (cases_lt k place) [
-  | inl before ↦ before
-  | inr after ↦
-      let within : k < length l = slice_get_within l k i held in
-      absurd (none-some _ (past ∙ slice_get-get_or l place i (omega arith)))
-]
+-- a naming of a kind to a thing is among these
+pub record IsNamed (names : List Naming) (kind to : ℕ) : Type 0 where
+  pub place : ℕ
+  pub naming : Naming
+  pub held : slice_get names place ≡ Some naming
+  pub of_kind : naming.kind ≡ kind
+  pub points : naming.to ≡ to
 
--- which port an instance names, if it does
-module _ (e : Entities) (names : ℕ → Instance → Bool) (l : List Instance) where
-  -- the ports that the first instances name have what is attached to them
-  abbrev pub AreNamedAttached : List Attached → ℕ → Type 0
-  AreNamedAttached ports place = (k port : ℕ) (i : Instance) → k < place → slice_get l k ≡ Some i → names port i ≡ true → IsAttachedIn e ports port
+mapper_named : (l : List Instance) (port : ℕ) → IsSome (least_instance (is_mapper_of 1 port) l) → IsNamed (map mapper_naming l) 1 port
+mapper_named l port some =
+    let it = least_there (is_mapper_of 1 port) l some in
+    let both = and_parts (attribute_number 13 it.1 == 1) (attribute_number 1 it.1 == port) it.3 in
+    record {
+      place = it.0;
+      naming = mapper_naming it.1;
+      held = slice_get-map mapper_naming l it.0 ∙ ap (option_map mapper_naming) it.2;
+      of_kind = eqb-true _ _ both.0;
+      points = eqb-true _ _ both.1;
+    }
 
-  pub named_none : (ports : List Attached) → AreNamedAttached ports zero
-  named_none ports k port i before = absurd (omega arith)
-
-  -- one more instance, which names a port that is attached next
-  pub named_step : (old new : List Attached) (place to : ℕ) (here : Instance) → Some here ≡ slice_get l place → Attaches e old new to
-      → ((port : ℕ) → names port here ≡ true → port ≡ to) → AreNamedAttached old place → AreNamedAttached new (place + 1)
-  named_step old new place to here is step only before k port i earlier held named = elim (cases_eq k place) [
-    | inl same ↦
-        let found : slice_get l place ≡ Some i = rw same at held in
-        let it : i ≡ here = same_Some _ _ (sym found ∙ sym is) in
-        let to_it : port ≡ to = only port (rw it at named) in
-        rw to_it step.attached
-    | inr differs ↦ step_keeps e old new to port step (before k port i (omega arith) held named)
-  ]
-
-  -- one more instance, which names none
-  pub named_skip : (ports : List Attached) (place : ℕ) (here : Instance) → Some here ≡ slice_get l place
-      → ((port : ℕ) → names port here ≡ true → ⊥) → AreNamedAttached ports place → AreNamedAttached ports (place + 1)
-  named_skip ports place here is none before k port i earlier held named = elim (cases_eq k place) [
-    | inl same ↦
-        let found : slice_get l place ≡ Some i = rw same at held in
-        let it : i ≡ here = same_Some _ _ (sym found ∙ sym is) in
-        absurd (none port (rw it at named))
-    | inr differs ↦ before k port i (omega arith) held named
-  ]
-
-  -- all of them
-  pub named_all : (ports : List Attached) (place : ℕ) → None ≡ slice_get l place → AreNamedAttached ports place
-      → (port : ℕ) → IsSome (least_instance (names port) l) → IsAttachedIn e ports port
-  named_all ports place past all port some =
-      let it = least_there (names port) l some in
-      all it.0 port it.1 (before_past l it.0 place it.1 past it.2) it.2 it.3
-
--- a mapper that names a port is of its kind, and points to it
-pub mapper_kind : (n port : ℕ) (m : Mapper) → is_mapper_of 1 port (mapper_instance n m) ≡ true → m.tp_type ≡ 1
-mapper_kind n port m named =
-    let both = and_parts (attribute_number 13 (mapper_instance n m) == 1) (attribute_number 1 (mapper_instance n m) == port) named in
-    let is : attribute_number 13 (mapper_instance n m) ≡ 1 = eqb-true _ _ both.0 in
-    sym (one_byte m.tp_type) ∙ is
-
-pub mapper_port : (n port : ℕ) (m : Mapper) → m.tp_pointer < 2 ^ 16 → is_mapper_of 1 port (mapper_instance n m) ≡ true → port ≡ m.tp_pointer
-mapper_port n port m fits named =
-    let both = and_parts (attribute_number 13 (mapper_instance n m) == 1) (attribute_number 1 (mapper_instance n m) == port) named in
-    let is : attribute_number 1 (mapper_instance n m) ≡ port = eqb-true _ _ both.1 in
-    sym is ∙ two_bytes m.tp_pointer fits
-
--- a table that names a port is of its kind, and points to it
-pub table_kind : (n port : ℕ) (v : VlanConfig) → is_table_of 2 port (vlan_instance n v) ≡ true → v.association ≡ 2
-table_kind n port v named =
-    let both = and_parts (attribute_number 1 (vlan_instance n v) == 2) (attribute_number 7 (vlan_instance n v) == port) named in
-    let is : attribute_number 1 (vlan_instance n v) ≡ 2 = eqb-true _ _ both.0 in
-    sym (one_byte v.association) ∙ is
-
-pub table_port : (n port : ℕ) (v : VlanConfig) → v.pointer < 2 ^ 16 → is_table_of 2 port (vlan_instance n v) ≡ true → port ≡ v.pointer
-table_port n port v fits named =
-    let both = and_parts (attribute_number 1 (vlan_instance n v) == 2) (attribute_number 7 (vlan_instance n v) == port) named in
-    let is : attribute_number 7 (vlan_instance n v) ≡ port = eqb-true _ _ both.1 in
-    sym is ∙ two_bytes v.pointer fits
+table_named : (l : List Instance) (port : ℕ) → IsSome (least_instance (is_table_of 2 port) l) → IsNamed (map table_naming l) 2 port
+table_named l port some =
+    let it = least_there (is_table_of 2 port) l some in
+    let both = and_parts (attribute_number 1 it.1 == 2) (attribute_number 7 it.1 == port) it.3 in
+    record {
+      place = it.0;
+      naming = table_naming it.1;
+      held = slice_get-map table_naming l it.0 ∙ ap (option_map table_naming) it.2;
+      of_kind = eqb-true _ _ both.0;
+      points = eqb-true _ _ both.1;
+    }
 
 -- ---- all ports
 
-module _ (e : Entities) (old new : List Attached) (others : AreAttachedOrKept e old new) where
-  -- where nothing was attached, and each port with a mapper has now what is attached to it
-  pub all_mapped : AreAttached nothing old → ((port : ℕ) → IsSome (mapper_of_port e port) → IsAttachedIn e new port) → AreMapped e new
-  all_mapped empty mapped port fits =
-      elim (mapper_of_port e port) as (λ o. mapper_of_port e port ≡ o → IsAttachedIn e new port ⊎ (mapper_of_port e port ≡ None) × IsAttachedIn nothing new port) [
-        | Some n ↦ λ is. inl (mapped port (ap is_some is))
-        | None ↦ λ none. elim (others port) [
-          | inl at ↦ inl at
-          | inr kept ↦ inr (none, kept_right nothing old new port kept (empty port fits))
-        ]
-      ] refl
+-- each port to which a naming of a kind points has what is attached to it
+abbrev pub AreNamed : Entities → List Naming → ℕ → List Attached → Type 0
+AreNamed e names kind ports = (place : ℕ) (naming : Naming) → slice_get names place ≡ Some naming → naming.kind ≡ kind → IsAttachedIn e ports naming.to
 
-  -- where the ports with mappers had what is attached to them, and each port with a table of its own has it now
-  pub all_tabled : AreMapped e old → ((port : ℕ) → IsSome (least_instance (is_table_of 2 port) e.vlans) → IsAttachedIn e new port) → AreAttached e new
-  all_tabled mapped tabled port fits = elim (mapped port fits) [
-    | inl at ↦ or_kept_right e old new port (others port) at
-    | inr w ↦ elim (least_instance (is_table_of 2 port) e.vlans) as (λ o. least_instance (is_table_of 2 port) e.vlans ≡ o → IsAttachedIn e new port) [
-      | Some n ↦ λ is. tabled port (ap is_some is)
-      | None ↦ λ none.
-          let right = nothing_right e port w.1.attached w.0 none w.1.right in
-          or_kept_right e old new port (others port) (record { attached = w.1.attached; held = w.1.held; right = right })
+named_at : (e : Entities) (names : List Naming) (kind port : ℕ) (ports : List Attached) → AreNamed e names kind ports → IsNamed names kind port
+    → IsAttachedIn e ports port
+named_at e names kind port ports all it = rw (← it.points) (all it.place it.naming it.held it.of_kind)
+
+-- where nothing was attached, and each port with a mapper has now what is attached to it
+pub all_mapped : (e : Entities) (old new : List Attached) → AreAttachedOrKept e old new → AreAttached nothing old
+    → AreNamed e (map mapper_naming e.mappers) 1 new → AreMapped e new
+all_mapped e old new others empty named port fits =
+    elim (mapper_of_port e port) as (λ o. mapper_of_port e port ≡ o → IsAttachedIn e new port ⊎ (mapper_of_port e port ≡ None) × IsAttachedIn nothing new port) [
+      | Some n ↦ λ is. inl (named_at e _ 1 port new named (mapper_named e.mappers port (ap is_some is)))
+      | None ↦ λ none. elim (others port) [
+        | inl at ↦ inl at
+        | inr kept ↦ inr (none, kept ∙ empty port fits)
+      ]
     ] refl
-  ]
+
+-- where the ports with mappers had what is attached to them, and each port with a table of its own has it now
+pub all_tabled : (e : Entities) (old new : List Attached) → AreAttachedOrKept e old new → AreMapped e old
+    → AreNamed e (map table_naming e.vlans) 2 new → AreAttached e new
+all_tabled e old new others mapped named port fits = elim (mapped port fits) [
+  | inl at ↦ or_kept_right e old new port (others port) at
+  | inr w ↦ elim (least_instance (is_table_of 2 port) e.vlans) as (λ o. least_instance (is_table_of 2 port) e.vlans ≡ o → IsAttachedIn e new port) [
+    | Some n ↦ λ is. named_at e _ 2 port new named (table_named e.vlans port (ap is_some is))
+    | None ↦ λ none. or_kept_right e old new port (others port) (w.1 ∙ ap Some (sym (unattached e port w.0 none)))
+  ] refl
+]
+
+-- nothing is attached where nothing is to any port that a naming points to
+pub all_detached : (e : Entities) (old between new : List Attached) → AreAttached e old
+    → AreAttachedOrKept nothing old between → AreNamed nothing (map mapper_naming e.mappers) 1 between
+    → AreAttachedOrKept nothing between new → AreNamed nothing (map table_naming e.vlans) 2 new → AreAttached nothing new
+all_detached e old between new attached first mapped second tabled port fits =
+    elim (mapper_of_port e port) as (λ o. mapper_of_port e port ≡ o → IsAttachedIn nothing new port) [
+      | Some n ↦ λ is. or_kept_right nothing between new port (second port) (named_at nothing _ 1 port between mapped (mapper_named e.mappers port (ap is_some is)))
+      | None ↦ λ no_mapper. elim (least_instance (is_table_of 2 port) e.vlans) as (λ o. least_instance (is_table_of 2 port) e.vlans ≡ o → IsAttachedIn nothing new port) [
+        | Some n ↦ λ is. named_at nothing _ 2 port new tabled (table_named e.vlans port (ap is_some is))
+        | None ↦ λ no_table.
+            let was : IsAttachedIn nothing old port = attached port fits ∙ ap Some (unattached e port no_mapper no_table) in
+            or_kept_right nothing between new port (second port) (or_kept_right nothing old between port (first port) was)
+      ] refl
+    ] refl
+
+-- ---- what is attached to a port is a function of the namings
+
+abbrev least_named : ℕ → ℕ → List Naming → Option ℕ
+least_named kind to names = least_of (map (λ (n : Naming). n.number) (filter (λ (n : Naming). n.kind == kind && n.to == to) names))
+
+abbrev place_named : ℕ → List Naming → Option ℕ
+place_named number [] = None
+place_named number (n ∷ names) = if n.number == number then Some 0 else option_map (λ (place : ℕ). place + 1) (place_named number names)
+
+abbrev table_named_by : List Naming → Option ℕ → Option ℕ
+table_named_by tables None = None
+table_named_by tables (Some mapper) = least_named 1 mapper tables
+
+abbrev place_or_none_by : List Naming → Option ℕ → ℕ
+place_or_none_by names number = unwrap_or (option_and_then (λ n. place_named n names) number) 255
+
+abbrev attached_by : List Naming → List Naming → ℕ → Attached
+attached_by mappers tables port =
+    record {
+      table = place_or_none_by tables (option_or (least_named 2 port tables) (table_named_by tables (least_named 1 port mappers)));
+      mapper = place_or_none_by mappers (least_named 1 port mappers);
+    }
+
+-- numbers of those that pass, before and after they are made namings
+numbers_pass : (f : Instance → Naming) (test : Naming → Bool) (l : List Instance)
+    → map (λ (i : Instance). let n = f i in n.number) (filter (λ (i : Instance). test (f i)) l) ≡ map (λ (n : Naming). n.number) (filter test (map f l))
+numbers_pass f test [] = refl
+numbers_pass f test (x ∷ l) = by_case (test (f x)) refl (numbers_pass f test l)
+  where
+    by_case : (b : Bool) → test (f x) ≡ b
+        → map (λ (i : Instance). let n = f i in n.number) (filter (λ (i : Instance). test (f i)) l) ≡ map (λ (n : Naming). n.number) (filter test (map f l))
+        → map (λ (i : Instance). let n = f i in n.number) (filter (λ (i : Instance). test (f i)) (x ∷ l)) ≡ map (λ (n : Naming). n.number) (filter test (map f (x ∷ l)))
+    by_case true is rest = rw is (ap (λ (ns : List ℕ). (let n = f x in n.number) ∷ ns) rest)
+    by_case false is rest = rw is rest
+
+least_mapper : (kind to : ℕ) (l : List Instance) → least_instance (is_mapper_of kind to) l ≡ least_named kind to (map mapper_naming l)
+least_mapper kind to l = ap least_of (numbers_pass mapper_naming (λ (n : Naming). n.kind == kind && n.to == to) l)
+
+least_table : (kind to : ℕ) (l : List Instance) → least_instance (is_table_of kind to) l ≡ least_named kind to (map table_naming l)
+least_table kind to l = ap least_of (numbers_pass table_naming (λ (n : Naming). n.kind == kind && n.to == to) l)
+
+module _ (f : Instance → Naming) (same : (i : Instance) → let n = f i in n.number ≡ i.number) where
+  placed : (number : ℕ) (l : List Instance) → place_in number l ≡ place_named number (map f l)
+  placed number [] = refl
+  placed number (x ∷ l) = rw (same x, placed number l) refl
+
+  placed_or_none : (l : List Instance) (number : Option ℕ) → place_or_none l number ≡ place_or_none_by (map f l) number
+  placed_or_none l None = refl
+  placed_or_none l (Some number) = ap (λ o. unwrap_or o 255) (placed number l)
+
+mapped_table : (e : Entities) (mapper : Option ℕ) → table_of_mapper e mapper ≡ table_named_by (map table_naming e.vlans) mapper
+mapped_table e None = refl
+mapped_table e (Some mapper) = least_table 1 mapper e.vlans
+
+attached_named : (e : Entities) (port : ℕ) → attached_at e port ≡ attached_by (map mapper_naming e.mappers) (map table_naming e.vlans) port
+attached_named e port =
+    let mapper = least_mapper 1 port e.mappers in
+    let table : table_of_port e port ≡ option_or (least_named 2 port (map table_naming e.vlans)) (table_named_by (map table_naming e.vlans) (least_named 1 port (map mapper_naming e.mappers))) =
+    rw (least_table 2 port e.vlans, mapped_table e (mapper_of_port e port), mapper) refl in
+    rw (placed_or_none table_naming (λ i. refl) e.vlans (table_of_port e port), placed_or_none mapper_naming (λ i. refl) e.mappers (mapper_of_port e port), table, mapper) refl
+
+-- where the namings are the same, what is attached is
+pub attached_same : (e e' : Entities) (port : ℕ) → map mapper_naming e'.mappers ≡ map mapper_naming e.mappers → map table_naming e'.vlans ≡ map table_naming e.vlans
+    → attached_at e' port ≡ attached_at e port
+attached_same e e' port mappers tables = attached_named e' port ∙ rw (mappers, tables) (sym (attached_named e port))

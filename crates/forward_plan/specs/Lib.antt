@@ -1,7 +1,3 @@
-pub mod Reason
-pub mod Meaning
-pub mod Size
-pub mod Plan
-pub mod Leaving
-pub mod CompiledTable
-pub mod Live
+pub mod Attachment
+pub mod Parts
+pub mod Compiled

@@ -1,9 +1,8 @@
 //! What is attached to a port.
-ghost use Rattle.std.specs.Prelude.{◌≤◌};
-ghost use Rattle.std.specs.Option.{option_and_then};
+ghost use Rattle.std.specs.Prelude.{◌≡◌, ◌≤◌};
 ghost use Rattle.managed_entity.specs.Class.{room_of};
-ghost use Rattle.mib_state.specs.Entities.{find, instances_of};
-ghost use Rattle.forward_plan.specs.Plan.{IsPlaceOf};
+ghost use Rattle.mib_state.specs.Entities.{instances_of};
+ghost use Rattle.forward_plan.specs.Attachment.{place_or_none};
 
 use managed_entity::class::{MAPPER, VLAN};
 use mib_state::Mib;
@@ -19,7 +18,7 @@ pub(crate) struct Attached {
 }
 
 impl Attached {
-    ghost use Rattle.forward_plan.specs.Plan.{IsAttached};
+    ghost use Rattle.forward_plan.specs.Attachment.{attached_at};
 
     /// Neither a table nor a mapper.
     pub(crate) const NOTHING: Attached = Attached {
@@ -28,9 +27,8 @@ impl Attached {
     };
 
     /// What is attached to a port.
-    #[tactic(auto, unfolding(crate::specs::Meaning::mapper_at))]
     pub(crate) fn of(mib: &Mib, port: u16) -> Self
-        ensures { IsAttached mib.now.entities port result }
+        ensures { result ≡ attached_at mib.now.entities port }
     {
         Attached {
             table: place_of(mib, VLAN, mib.table_of_port(port)),
@@ -42,7 +40,7 @@ impl Attached {
 /// The place of an instance of a class, or `NONE`.
 fn place_of(mib: &Mib, class: u16, instance: Option<u16>) -> u8
     requires { room_of class ≤ 255 }
-    ensures { IsPlaceOf (instances_of mib.now.entities class) (option_and_then (λ n. find n (instances_of mib.now.entities class)) instance) result }
+    ensures { result ≡ place_or_none (instances_of mib.now.entities class) instance }
 {
     let Some(number) = instance else {
         return NONE;

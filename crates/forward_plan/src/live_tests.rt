@@ -1,418 +1,30 @@
-ghost use Rattle.std.specs.Prelude.{◌<◌, length};
-
+use crate::agree_tests::parts;
 use crate::ports_tests::create_table;
-use crate::tests::{DOUBLE, UNTAGGED, create_gem_port, create_interwork, create_mapper, request};
-use crate::{Live, NoMemory, Reason, Verdict, plain_walk};
+use crate::sample_tests::{
+    DOUBLE, UNTAGGED, create_gem_port, create_interwork, create_mapper, request, set,
+};
+use crate::{Live, NoMemory, Reason, Verdict};
 use omci_msg::{Action, Request};
-use std::alloc::{AllocError, Global};
+use std::alloc::Global;
 use std::process::Abort;
 use std::test::Fail;
-use tag_view::Tag;
-
-/// The ports that the drawn entities speak of, and one of which none speaks.
-const PORTS: [u16; 3] = [257, 65535, 0];
 
 /// The frame without a tag, when it leaves with one of VLAN 100 and priority 0.
 const TAGGED: [u8; 20] = [
     2, 0, 0, 0, 0, 1, 2, 0, 0, 0, 0, 2, 0x81, 0x00, 0x00, 0x64, 0x08, 0x00, 0x45, 0x00,
 ];
 
-/// How many messages change the entities.
-const MESSAGES: usize = 2000;
-
-/// How many frames come in at each port after a message.
-const FRAMES: usize = 10;
-
-/// The types that begin the drawn tags.
-const TPIDS: [u16; 4] = [0x8100, 0x8100, 0x88a8, 0x9100];
-
-/// What is asked of an instance, the frequent ones more than once.
-const ACTIONS: [Action; 10] = [
-    Action::Create,
-    Action::Create,
-    Action::Create,
-    Action::Create,
-    Action::Create,
-    Action::Set,
-    Action::Set,
-    Action::Set,
-    Action::Delete,
-    Action::Get,
-];
-
-/// A Set of the attributes of a mask.
-fn set(class: u16, instance: u16, mask: u16, values: &[u8]) -> Request {
-    let mut set = request(Action::Set, class, instance, &mask.to_be_bytes());
-    for (to, from) in set.contents[2..].iter_mut().zip(values) {
-        *to = *from;
-    }
-    set
-}
-
-/// Numbers without an evident order, the same in each run.
-#[derive(Drop)]
-struct Draws {
-    state: u64,
-}
-
-impl Draws {
-    fn next(&mut self) -> u64 {
-        self.state ^= self.state << 13;
-        self.state ^= self.state >> 7;
-        self.state ^= self.state << 17;
-        self.state
-    }
-
-    fn of<T: Copy>(&mut self, choices: &[T]) -> T
-        requires { 0 < length choices.now }
-    {
-        choices[(self.next() % choices.len() as u64) as usize]
-    }
-
-    /// A DSCP to P-bit mapping.
-    fn dscp_map(&mut self) -> [u8; 24] {
-        let mut map = [0; 24];
-        for byte in map.iter_mut() {
-            *byte = (self.next() % 256) as u8;
-        }
-        map
-    }
-
-    fn gem_port_request(&mut self) -> Request {
-        let instance = self.of(&[0x0401, 0x0402, 0x0403]);
-        let [high, low] = self.of(&[1024u16, 1025, 4094]).to_be_bytes();
-        let direction = self.of(&[1, 2, 3]);
-        match self.of(&ACTIONS) {
-            Action::Create => {
-                let values = [high, low, 0x80, 1, direction];
-                request(Action::Create, 268, instance, &values)
-            }
-            Action::Set => set(268, instance, 0xa000, &[high, low, direction]),
-            action => request(action, 268, instance, &[0xff, 0xc0]),
-        }
-    }
-
-    fn interwork_request(&mut self) -> Request {
-        let instance = self.of(&[0x0501, 0x0502, 0x0503]);
-        let [high, low] = self
-            .of(&[0x0401u16, 0x0401, 0x0402, 0x0402, 0x0403, 0x0404])
-            .to_be_bytes();
-        match self.of(&ACTIONS) {
-            Action::Create => request(Action::Create, 266, instance, &[high, low, 5, 6, 1]),
-            Action::Set => set(266, instance, 0x8000, &[high, low]),
-            action => request(action, 266, instance, &[0xff, 0x00]),
-        }
-    }
-
-    /// A pointer to a GEM interworking termination point.
-    fn pointer(&mut self) -> u16 {
-        self.of(&[
-            0x0501, 0x0501, 0x0502, 0x0502, 0x0503, 0x0503, 0x0504, 0xffff,
-        ])
-    }
-
-    /// The pointers of a mapper.
-    fn pointers(&mut self) -> [u16; 8] {
-        let mut pointers = [0; 8];
-        for pointer in pointers.iter_mut() {
-            *pointer = self.pointer();
-        }
-        pointers
-    }
-
-    fn set_mapper(&mut self, instance: u16) -> Request {
-        match self.of(&[0, 1, 2, 3]) {
-            0 => {
-                let [high, low] = self.of(&PORTS[..2]).to_be_bytes();
-                let tp_type = self.of(&[1, 1, 1, 1, 2]);
-                set(130, instance, 0x8008, &[high, low, tp_type])
-            }
-            1 => {
-                let option = self.of(&[0, 0, 1, 2]);
-                let default = self.of(&[0, 3, 7, 13]);
-                set(130, instance, 0x0050, &[option, default])
-            }
-            2 => {
-                let [high, low] = self.pointer().to_be_bytes();
-                let mask = self.of(&[
-                    0x4000, 0x2000, 0x1000, 0x0800, 0x0400, 0x0200, 0x0100, 0x0080,
-                ]);
-                set(130, instance, mask, &[high, low])
-            }
-            _ => {
-                let map = self.dscp_map();
-                set(130, instance, 0x0020, &map)
-            }
-        }
-    }
-
-    fn mapper_request(&mut self) -> Request {
-        let instance = self.of(&[0x0601, 0x0602, 0x0603, 0x0604]);
-        match self.of(&ACTIONS) {
-            Action::Create => {
-                let port = self.of(&PORTS[..2]);
-                let default = self.of(&[0, 5, 10]);
-                create_mapper(instance, port, self.pointers(), default)
-            }
-            Action::Set => self.set_mapper(instance),
-            action => request(action, 130, instance, &[0xff, 0x80]),
-        }
-    }
-
-    /// A filter of a tag, seldom one that is refused.
-    fn tag_filter(&mut self) -> u32 {
-        let priority = self.of(&[8, 8, 3, 5]);
-        let vid = self.of(&[4096, 4096, 1, 100, 101, 4095]);
-        let tpid = self.of(&[0, 0, 0, 4, 4, 5, 5, 6, 7, 3]);
-        priority << 28 | vid << 15 | tpid << 12
-    }
-
-    /// The first eight bytes of an entry.
-    fn key(&mut self) -> u64 {
-        let filter = self.tag_filter();
-        let padding = self.of(&[0, 0, 0, 0x0800_0000]);
-        let (outer, inner) = match self.of(&[0, 1, 2, 2, 3, 3, 4, 4]) {
-            0 => (0xf000_0000, 0xf000_0000),
-            1 => (0xf000_0000, 0xe000_0000),
-            2 => (0xf000_0000, filter),
-            3 => (0xe000_0000, 0xe000_0000),
-            _ => (self.tag_filter(), filter),
-        };
-        let ethertype = self.of(&[0, 0, 0, 1, 2, 3, 4, 5]);
-        u64::from(outer | padding) << 32 | u64::from(inner | ethertype)
-    }
-
-    /// A tag that is added, by its place in the entry's words, or none.
-    fn added_tag(&mut self) -> u32 {
-        let priority = self.of(&[15, 0, 6, 8, 9, 10]);
-        let vid = self.of(&[0, 100, 4094, 4096, 4097]);
-        let tpid = self.of(&[0, 1, 2, 3, 4, 6, 7]);
-        priority << 16 | vid << 3 | tpid
-    }
-
-    /// The last eight bytes of an entry: the tags that it removes and adds, or its deletion.
-    fn rest(&mut self) -> u64 {
-        if self.of(&[true, false, false, false, false]) {
-            return u64::MAX;
-        }
-        let remove = self.of(&[0, 0, 0, 0, 0, 1, 1, 2, 3]);
-        let outer = remove << 30 | self.added_tag();
-        u64::from(outer) << 32 | u64::from(self.added_tag())
-    }
-
-    /// A Set of an entry of a table.
-    fn set_entry(&mut self, instance: u16) -> Request {
-        let mut entry = [0; 16];
-        entry[..8].copy_from_slice(&self.key().to_be_bytes());
-        entry[8..].copy_from_slice(&self.rest().to_be_bytes());
-        set(171, instance, 0x0400, &entry)
-    }
-
-    /// A Set of other attributes of a table.
-    fn set_table(&mut self, instance: u16) -> Request {
-        match self.of(&[0, 1, 2]) {
-            0 => {
-                let [i0, i1] = self.of(&TPIDS).to_be_bytes();
-                let [o0, o1] = self.of(&TPIDS).to_be_bytes();
-                set(171, instance, 0x3000, &[i0, i1, o0, o1])
-            }
-            1 => {
-                let (association, to) = self.attachment();
-                let [high, low] = to.to_be_bytes();
-                set(171, instance, 0x8200, &[association, high, low])
-            }
-            _ => {
-                let map = self.dscp_map();
-                set(171, instance, 0x0100, &map)
-            }
-        }
-    }
-
-    /// An association type and a pointer that most often belongs to it.
-    fn attachment(&mut self) -> (u8, u16) {
-        match self.of(&[0, 1, 1, 2]) {
-            0 => (1, self.of(&[0x0601, 0x0602, 0x0603])),
-            1 => (2, self.of(&PORTS[..2])),
-            _ => (self.of(&[0, 1, 2, 3]), self.of(&[257, 65535, 0x0601])),
-        }
-    }
-
-    fn table_request(&mut self) -> Request {
-        let instance = self.of(&[0x0701, 0x0702, 0x0703]);
-        match self.of(&[0, 0, 1, 1, 1, 1, 1, 1, 1, 1, 1, 1, 2, 2, 2, 3, 4]) {
-            0 => {
-                let (association, to) = self.attachment();
-                create_table(instance, association, to)
-            }
-            1 => self.set_entry(instance),
-            2 => self.set_table(instance),
-            3 => request(Action::Delete, 171, instance, &[]),
-            _ => request(Action::Get, 171, instance, &[0xff, 0x00]),
-        }
-    }
-
-    /// A message to the entities.
-    fn request(&mut self) -> Request {
-        if self.next() % 300 == 0 {
-            return request(Action::MibReset, 2, 0, &[]);
-        }
-        match self.of(&[130, 130, 171, 171, 171, 266, 268]) {
-            130 => self.mapper_request(),
-            171 => self.table_request(),
-            266 => self.interwork_request(),
-            _ => self.gem_port_request(),
-        }
-    }
-
-    /// The four bytes of a tag.
-    fn tag(&mut self) -> [u8; 4] {
-        let [t0, t1] = self.of(&TPIDS).to_be_bytes();
-        let priority = self.of(&[0u16, 3, 5, 6, 7]);
-        let dei = self.of(&[0, 1]);
-        let vid = self.of(&[1, 100, 101, 4095, 7]);
-        let [b0, b1] = (priority << 13 | dei << 12 | vid).to_be_bytes();
-        [t0, t1, b0, b1]
-    }
-
-    /// The bytes of a frame with so many tags.
-    fn frame_of(&mut self, alloc: Global, tags: usize) -> Result<Vec<u8>, AllocError> {
-        let mut bytes = UNTAGGED[..12].to_vec(alloc)?;
-        for _ in 0..tags {
-            bytes.extend_from_slice(&self.tag())?;
-        }
-        let ethertype = self.of(&[
-            0x0800u16, 0x0800, 0x86dd, 0x86dd, 0x0806, 0x8863, 0x8864, 0x888e, 0x1234,
-        ]);
-        bytes.extend_from_slice(&ethertype.to_be_bytes())?;
-        bytes.push(self.of(&[0x45, 0x60, 0x6b, 0x6f]))?;
-        bytes.push(self.of(&[0x00, 0x28, 0x80, 0xb8, 0xfc]))?;
-        bytes.push(0xee)?;
-        Ok(bytes)
-    }
-
-    /// The bytes of some frames.
-    fn frames(&mut self, alloc: Global) -> Result<Vec<Vec<u8>>, AllocError> {
-        let mut frames = Vec::with_capacity(alloc, FRAMES)?;
-        for _ in 1..FRAMES {
-            let tags = self.of(&[0, 1, 1, 2, 2, 2, 2, 3]);
-            frames.push(self.frame_of(alloc, tags)?)?;
-        }
-        Ok(frames)
-    }
-}
-
-/// The GEM port of a frame that leaves, its addresses, its tags and what follows them, or the reason to drop it.
-type Parts<'v> = Result<(u16, &'v [u8], &'v [Tag], &'v [u8]), Reason>;
-
-/// The parts of a verdict.
-fn parts<'v>(verdict: &'v Verdict<'_>) -> Parts<'v> {
-    match verdict {
-        Verdict::Forward { gem, frame } => {
-            Ok((*gem, frame.addresses(), frame.tags(), frame.rest()))
-        }
-        Verdict::Drop(reason) => Err(*reason),
-    }
-}
-
-/// How many frames left with each number of tags, and how many were dropped for each reason, by its number.
-#[derive(Default, Drop)]
-struct Seen {
-    tags: [u32; 5],
-    reasons: [u32; 10],
-}
-
-impl Seen {
-    fn count(&mut self, verdict: &Verdict) {
-        match verdict {
-            Verdict::Forward { frame, .. } => count_at(&mut self.tags, frame.tags().len()),
-            Verdict::Drop(reason) => count_at(&mut self.reasons, usize::from(reason.code())),
-        }
-    }
-}
-
-/// Counts one more at a place.
-fn count_at(counts: &mut [u32], place: usize) {
-    if let Some(count) = counts.get_mut(place) {
-        *count = count.saturating_add(1);
-    }
-}
-
-/// Compares the verdicts on some frames at a port: one by one, appended all together, and walked for.
-fn compare(
-    rt: &impl Abort,
-    alloc: Global,
-    live: &Live,
-    port: u16,
-    frames: &[Vec<u8>],
-    seen: &mut Seen,
-) -> Result<(), AllocError> {
-    let plan = live.port(port);
-    let mut verdicts = Vec::with_capacity(alloc, frames.len())?;
-    for frame in frames {
-        if verdicts.len() < verdicts.capacity() {
-            plan.push(frame, &mut verdicts);
-        }
-    }
-    assert_eq!(rt; verdicts.len(), frames.len());
-    for (frame, pushed) in frames.iter().zip(&verdicts) {
-        let walked = plain_walk(live.mib(), port, frame);
-        let forwarded = live.forward(port, frame);
-        assert_eq!(rt; parts(&forwarded), parts(&walked), "{frame:?} at {port}");
-        assert_eq!(rt; parts(pushed), parts(&walked), "{frame:?} pushed at {port}");
-        seen.count(&walked);
-    }
-    Ok(())
-}
-
-#[test]
-fn verdicts_are_those_of_the_plain_walk_after_each_message(rt: HostRuntime) -> Result<(), Fail> {
-    let alloc = rt.alloc();
-    let mut draws = Draws {
-        state: 0x2545f4914f6cdd1d,
-    };
-    let mut live = Live::new(alloc)?;
-    let mut seen = Seen::default();
-    for message in 0..MESSAGES {
-        live.apply(&draws.request());
-        let mut frames = draws.frames(alloc)?;
-        let mut cut = draws.frame_of(alloc, 3)?;
-        cut.truncate(message % 27);
-        frames.push(cut)?;
-        for port in PORTS {
-            compare(&rt, alloc, &live, port, &frames, &mut seen)?;
-        }
-    }
-    for (tags, count) in seen.tags.iter().enumerate() {
-        assert!(rt;
-            *count >= 100,
-            "{tags} tags: {:?} {:?}",
-            seen.tags,
-            seen.reasons
-        );
-    }
-    for (reason, count) in seen.reasons.iter().enumerate().skip(1) {
-        assert!(rt;
-            *count >= 100,
-            "reason {reason}: {:?} {:?}",
-            seen.tags,
-            seen.reasons
-        );
-    }
-    Ok(())
-}
-
-/// Entities that lead port 257 to port-ID 1024, with a table that keeps tags.
-fn led(alloc: Global) -> Result<Live, AllocError> {
-    let mut live = Live::new(alloc)?;
-    for request in [
+/// Leaves the entities that lead port 257 to port-ID 1024, with a table that keeps tags, and no other.
+fn lead(live: &mut Live) {
+    for sent in [
+        request(Action::MibReset, 2, 0, &[]),
         create_gem_port(3),
         create_interwork(0x0501),
         create_mapper(0x0601, 257, [0x0501; 8], 0),
         create_table(0x0701, 2, 257),
     ] {
-        live.apply(&request);
+        live.apply(&sent);
     }
-    Ok(live)
 }
 
 /// A Set of an entry by which frames without a tag get one of VLAN 100.
@@ -452,15 +64,19 @@ fn check_left(
     Ok(())
 }
 
-#[test]
-fn a_frame_leaves_with_the_tag_of_its_table(rt: HostRuntime) -> Result<(), Fail> {
-    let mut live = led(rt.alloc())?;
+/// A frame leaves with the tag of its table.
+fn check_tagging(rt: &impl Abort, alloc: Global, live: &mut Live) -> Result<(), NoMemory> {
+    lead(live);
     assert_eq!(rt; live.mib().mapper_of_port(257), Some(0x0601));
     assert_eq!(rt; live.mib().table_of_port(257), Some(0x0701));
-    check_left(&rt, rt.alloc(), &live, &UNTAGGED, &UNTAGGED)?;
+    check_left(rt, alloc, live, &UNTAGGED, &UNTAGGED)?;
     live.apply(&tagging());
-    check_left(&rt, rt.alloc(), &live, &UNTAGGED, &TAGGED)?;
-    check_left(&rt, rt.alloc(), &live, &DOUBLE, &DOUBLE)?;
+    check_left(rt, alloc, live, &UNTAGGED, &TAGGED)?;
+    check_left(rt, alloc, live, &DOUBLE, &DOUBLE)
+}
+
+/// Frames are dropped for their reasons.
+fn check_drops(rt: &impl Abort, live: &Live) {
     for (port, frame, reason) in [
         (258, &UNTAGGED[..], Reason::NoMapper),
         (257, &UNTAGGED[..13], Reason::Runt),
@@ -469,5 +85,119 @@ fn a_frame_leaves_with_the_tag_of_its_table(rt: HostRuntime) -> Result<(), Fail>
         let verdict = live.forward(port, frame);
         assert_eq!(rt; parts(&verdict), Err(reason), "{} bytes", frame.len());
     }
+}
+
+/// With which word of a tag the frame without one leaves port 257, if it leaves with one.
+fn word_left(live: &Live) -> Left {
+    let verdict = live.forward(257, &UNTAGGED);
+    let (_, _, tags, _) = parts(&verdict)?;
+    Ok(tags.first().map(|tag| tag.word()))
+}
+
+/// What becomes of the frame without a tag at port 257: the word of the tag that it leaves with, if it leaves with one.
+type Left = Result<Option<u32>, Reason>;
+
+/// It leaves with the tag that `tagging` gives.
+const TAG: Left = Ok(Some(0x8100_0064));
+
+/// It leaves as it came.
+const PLAIN: Left = Ok(None);
+
+/// A request, how many tables and how many mappers it compiles, and what becomes of the frame then.
+type Step = (Request, (u16, u16), Left);
+
+/// Follows requests one by one. Compiling everything anew after each changes nothing of what leaves then.
+fn follow(rt: &impl Abort, live: &mut Live, steps: &[Step]) {
+    lead(live);
+    for (sent, rebuilt, left) in steps {
+        live.apply(sent);
+        assert_eq!(rt; live.rebuilt(), *rebuilt, "{sent:?}");
+        assert_eq!(rt; word_left(live), *left, "{sent:?}");
+        live.recompile();
+        assert_eq!(rt; word_left(live), *left, "{sent:?}, compiled anew");
+    }
+}
+
+/// A deletion.
+fn delete(class: u16, instance: u16) -> Request {
+    request(Action::Delete, class, instance, &[])
+}
+
+/// A table is compiled where it was set or comes, and moves where another comes before it.
+fn table_steps() -> [Step; 9] {
+    [
+        (tagging(), (1, 0), TAG),
+        (create_table(0x0700, 2, 257), (1, 0), PLAIN),
+        (delete(171, 0x0700), (0, 0), TAG),
+        (
+            create_mapper(0x0600, 257, [0xffff; 8], 0),
+            (0, 1),
+            Err(Reason::NullPointer),
+        ),
+        (delete(130, 0x0600), (0, 0), TAG),
+        (request(Action::Get, 171, 0x0701, &[0xff, 0]), (0, 0), TAG),
+        (create_table(0x0701, 2, 258), (0, 0), TAG),
+        (delete(171, 0x0701), (0, 0), PLAIN),
+        (create_table(0x0701, 2, 257), (1, 0), PLAIN),
+    ]
+}
+
+/// The routes of a mapper are compiled where they lead by the instance.
+fn route_steps() -> [Step; 11] {
+    [
+        (
+            set(266, 0x0501, 0x8000, &[4, 0x99]),
+            (0, 1),
+            Err(Reason::NoGem),
+        ),
+        (set(266, 0x0501, 0x8000, &[4, 1]), (0, 1), PLAIN),
+        (
+            set(268, 0x0401, 0x2000, &[2]),
+            (0, 1),
+            Err(Reason::Direction),
+        ),
+        (set(268, 0x0401, 0x2000, &[3]), (0, 1), PLAIN),
+        (
+            request(Action::Create, 268, 0x0402, &[4, 1, 0x80, 1, 3]),
+            (0, 0),
+            PLAIN,
+        ),
+        (create_interwork(0x0502), (0, 0), PLAIN),
+        (create_mapper(0x0602, 258, [0x0502; 8], 0), (0, 1), PLAIN),
+        (delete(266, 0x0501), (0, 1), Err(Reason::NoInterwork)),
+        (create_interwork(0x0501), (0, 1), PLAIN),
+        (delete(268, 0x0401), (0, 2), Err(Reason::NoGem)),
+        (
+            request(Action::MibReset, 2, 0, &[]),
+            (0, 0),
+            Err(Reason::NoMapper),
+        ),
+    ]
+}
+
+/// A table that points to a mapper is that of the mapper's port.
+fn steps_of_a_table_of_a_mapper() -> [Step; 8] {
+    [
+        (tagging(), (1, 0), TAG),
+        (set(171, 0x0701, 0x8200, &[1, 6, 1]), (1, 0), TAG),
+        (create_mapper(0x0600, 257, [0x0501; 8], 0), (0, 1), PLAIN),
+        (set(171, 0x0701, 0x0200, &[6, 0]), (1, 0), TAG),
+        (set(130, 0x0600, 0x8000, &[1, 2]), (0, 1), PLAIN),
+        (set(130, 0x0600, 0x8000, &[1, 1]), (0, 1), TAG),
+        (delete(130, 0x0600), (0, 0), PLAIN),
+        (delete(130, 0x0601), (0, 0), Err(Reason::NoMapper)),
+    ]
+}
+
+#[test]
+fn a_plan_follows_its_entities_where_they_change(rt: HostRuntime) -> Result<(), Fail> {
+    let mut live = Live::new(rt.alloc())?;
+    check_tagging(&rt, rt.alloc(), &mut live)?;
+    check_drops(&rt, &live);
+    live.recompile();
+    assert_eq!(rt; live.rebuilt(), (1, 1));
+    follow(&rt, &mut live, &table_steps());
+    follow(&rt, &mut live, &route_steps());
+    follow(&rt, &mut live, &steps_of_a_table_of_a_mapper());
     Ok(())
 }

@@ -1,11 +1,29 @@
+ghost use Rattle.mib_state.specs.Entities.{Entities};
+ghost use Rattle.forward_plan.specs.Attachment.{ArePorts};
+
 use crate::attached::{Attached, NONE};
 use crate::ports::Ports;
-use crate::tests::request;
 use mib_state::Mib;
 use omci_msg::{Action, Request};
 use std::alloc::{AllocError, Global};
 use std::process::Abort;
 use std::test::Fail;
+
+/// A request whose contents begin with these bytes.
+fn request(action: Action, class: u16, instance: u16, bytes: &[u8]) -> Request {
+    let mut contents = [0; 32];
+    for (to, from) in contents.iter_mut().zip(bytes) {
+        *to = *from;
+    }
+    Request {
+        tci: 1,
+        action,
+        wants_answer: true,
+        class,
+        instance,
+        contents,
+    }
+}
 
 /// The creation of a mapper with a TP type and a TP pointer.
 fn create_mapper(instance: u16, tp_type: u8, to: u16) -> Request {
@@ -86,18 +104,49 @@ fn tables_and_mappers_are_attached_by_their_places(rt: HostRuntime) -> Result<()
     Ok(())
 }
 
+/// Sends a request that is accepted, and compares what is attached then.
+fn follow(rt: &impl Abort, ports: &mut Ports, mib: &mut Mib, sent: &Request)
+    requires { (e : Entities) × ArePorts e ports.old }
+    ensures { ArePorts mib.new.entities ports.new }
+{
+    assert_eq!(rt; mib.step(sent).contents[0], 0);
+    ports.follow(mib);
+    compare(rt, ports, mib, "followed");
+}
+
 #[test]
 fn what_is_attached_follows_the_entities(rt: HostRuntime) -> Result<(), Fail> {
     let mut mib = set_up(rt.alloc())?;
     let mut ports = Ports::new(rt.alloc())?;
     compare(&rt, &ports, &Mib::new(rt.alloc())?, "new");
     ports.compile(&mib);
-    let _ = mib.step(&request(Action::Delete, 130, 0x0601, &[]));
-    let _ = mib.step(&request(Action::Delete, 171, 0x0703, &[]));
+    follow(
+        &rt,
+        &mut ports,
+        &mut mib,
+        &request(Action::Delete, 130, 0x0601, &[]),
+    );
+    follow(
+        &rt,
+        &mut ports,
+        &mut mib,
+        &request(Action::Delete, 171, 0x0703, &[]),
+    );
+    follow(&rt, &mut ports, &mut mib, &create_mapper(0x0606, 1, 262));
+    follow(&rt, &mut ports, &mut mib, &create_table(0x0700, 2, 0));
+    follow(
+        &rt,
+        &mut ports,
+        &mut mib,
+        &request(Action::Set, 130, 0x0603, &[0x80, 0, 1, 3]),
+    );
+    follow(
+        &rt,
+        &mut ports,
+        &mut mib,
+        &request(Action::Set, 171, 0x0702, &[0x82, 0, 2, 1, 4]),
+    );
     ports.compile(&mib);
     compare(&rt, &ports, &mib, "compiled again");
-    let _ = mib.step(&create_mapper(0x0606, 1, 262));
-    ports.attach(&mib, 262);
-    compare(&rt, &ports, &mib, "attached");
     Ok(())
 }

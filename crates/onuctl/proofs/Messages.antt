@@ -8,9 +8,9 @@ use Rattle.tag_view.specs.Tag.{TagFields, tag_bytes}
 use Rattle.std.proofs.lemmas.Bool.Decides.{nat_tests}
 use Rattle.std.proofs.lemmas.Fmt.{decimal_digit}
 use Rattle.std.specs.Fmt.{decimal}
-use Rattle.forward_plan.specs.Reason.{number_of_reason}
-use Rattle.forward_plan.specs.declared.reason.Reason.{Reason}
-use Rattle.forward_plan.specs.declared.reason.Reason.TheVariants as reasons
+use Rattle.frame_meaning.specs.Reason.{number_of_reason}
+use Rattle.frame_meaning.specs.declared.reason.Reason.{Reason}
+use Rattle.frame_meaning.specs.declared.reason.Reason.TheVariants as reasons
 use Rattle.hex.specs.Hex.{encode_lower, encode_with, lower_digits}
 use Rattle.omci_msg.specs.Fault.{number_of_fault}
 use Rattle.omci_msg.specs.Message.{is_message_length, request_of}

@@ -7,11 +7,11 @@ use Rattle.omci_msg.specs.Message.{request_of, reply_spelling}
 use Rattle.omci_msg.specs.declared.fault.MsgFault.{MsgFault}
 use Rattle.omci_msg.specs.declared.request.Request.{Request}
 use Rattle.omci_msg.specs.declared.reply.Reply.{Reply}
-use Rattle.forward_plan.specs.Meaning.{meaning}
-use Rattle.forward_plan.specs.Reason.{number_of_reason}
-use Rattle.forward_plan.specs.declared.reason.Reason.{Reason}
-use Rattle.forward_plan.specs.declared.verdict.Verdict.{Verdict}
-use Rattle.forward_plan.specs.declared.verdict.Verdict.TheVariants.{Forward, Drop}
+use Rattle.frame_meaning.specs.Meaning.{meaning}
+use Rattle.frame_meaning.specs.Reason.{number_of_reason}
+use Rattle.frame_meaning.specs.declared.reason.Reason.{Reason}
+use Rattle.frame_meaning.specs.declared.verdict.Verdict.{Verdict}
+use Rattle.frame_meaning.specs.declared.verdict.Verdict.TheVariants.{Forward, Drop}
 use Rattle.tag_view.specs.Frame.{Reading, spelled}
 use Rattle.mib_upload.specs.Upload.{DeskState, answered, start}
 use Rattle.onuctl.specs.Line.{Asked, asked_by}

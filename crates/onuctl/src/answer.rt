@@ -1,6 +1,6 @@
 //! The answers to the lines of a script.
 ghost use Rattle.std.specs.Prelude.{◌≡◌, ◌+◌, ◌*◌, ◌≤◌, ◌<◌, ◌++◌, is_none, length, vec_len, vec_capacity};
-ghost use Rattle.forward_plan.specs.Meaning.{meaning};
+ghost use Rattle.frame_meaning.specs.Meaning.{meaning};
 ghost use Rattle.hex.specs.Hex.{encode_lower};
 ghost use Rattle.omci_msg.specs.Message.{request_of};
 ghost use Rattle.onuctl.specs.Answers.{dropped_line, fault_line, forwarded_line, line_answer, message_answer, reply_line, verdict_line};

@@ -98,21 +98,6 @@ fn frames_leave_with_what_the_treatment_copies_and_removes(rt: HostRuntime) -> R
             ][..],
         ),
         (
-            "the priority is that of the DSCP, or 0",
-            &[
-                Ask(
-                    "0005480a00ab0701 0100 0000000000000000000000000000000000 28 000000000000",
-                    "0005280a00ab0701 00",
-                ),
-                Put("f8000000f8000000 000f0000000a0324"),
-                Send("0800 45b8", "8100a064 080045b8"),
-                Send("86dd 6b80", "8100a064 86dd6b80"),
-                Send("0806 0001", "81000064 08060001"),
-                Put("f8000000f8000000 ffffffffffffffff"),
-                Send("0800 45b8", "0800 45b8"),
-            ][..],
-        ),
-        (
             "copies of a missing tag, more removed than there is, the outer one removed, the input TPID",
             &[
                 Put("f8000000f8000000 000f000000088000"),
@@ -132,47 +117,57 @@ fn frames_leave_with_what_the_treatment_copies_and_removes(rt: HostRuntime) -> R
     Ok(())
 }
 
-/// A DSCP to P-bit mapping that gives DSCP 46 priority 5, and every other 0.
-const DSCP_46_TO_5: &str = "0000000000000000000000000000000000 28 000000000000";
+/// A Set of the table's DSCP to P-bit mapping: DSCP 46 has priority 5, and every other 0.
+const MAP_OF_TABLE: &str =
+    "0005480a00ab0701 0100 0000000000000000000000000000000000 28 000000000000";
+
+/// The same of the mapper.
+const MAP_OF_MAPPER: &str =
+    "0006480a00820601 0020 0000000000000000000000000000000000 28 000000000000";
 
 #[test]
-fn frames_leave_by_the_pointer_of_their_priority(rt: HostRuntime) -> Result<(), Fail> {
-    let alloc = rt.alloc();
-    let map_dscp = format!(in alloc; "0006480a00820601 0020 {DSCP_46_TO_5}")?;
-    for (what, steps) in [
-        (
-            "option 0: the priority of the DSCP, or the default one",
-            &[
-                Ask(map_dscp.as_str(), "0006280a00820601 00"),
-                // no pointer of priority 3, option 0, default priority 3
-                Ask("0007480a00820601 0850 ffff0003", "0007280a00820601 00"),
-                Send("0800 45b8", "0800 45b8"),
-                Send("0806 0001", "d 6"),
-            ][..],
-        ),
-        (
-            "each entity on the way has its reason",
-            &[
-                Send(UNTAGGED, UNTAGGED),
-                Ask("0006480a00820601 4000 ffff", "0006280a00820601 00"),
-                Send(UNTAGGED, "d 6"),
-                Ask("0007480a00820601 4000 0599", "0007280a00820601 00"),
-                Send(UNTAGGED, "d 7"),
-                Ask("0008480a00820601 4000 0501", "0008280a00820601 00"),
-                Ask("0009480a010a0501 8000 0499", "0009280a010a0501 00"),
-                Send(UNTAGGED, "d 8"),
-                Ask("000a480a010a0501 8000 0401", "000a280a010a0501 00"),
-                Ask("000b480a010c0401 2000 02", "000b280a010c0401 00"),
-                Send(UNTAGGED, "d 9"),
-                SendAt(258, UNTAGGED, "d 5"),
-                Ask("000c460a00820601", "000c260a00820601 00"),
-                Send(UNTAGGED, "d 5"),
-            ][..],
-        ),
-    ] {
-        let (written, answers) = answered(alloc, steps)?;
-        assert_eq!(rt; written.as_slice(), answers.as_bytes(), "{what}");
-    }
+fn the_priority_of_the_dscp_is_that_of_the_tag_or_else_of_the_frame(
+    rt: HostRuntime,
+) -> Result<(), Fail> {
+    let steps = [
+        // The tag that is pushed has the priority of the DSCP, or 0 where there is none.
+        Ask(MAP_OF_TABLE, "0005280a00ab0701 00"),
+        Put("f8000000f8000000 000f0000000a0324"),
+        Send("0800 45b8", "8100a064 080045b8"),
+        Send("86dd 6b80", "8100a064 86dd6b80"),
+        Send("0806 0001", "81000064 08060001"),
+        Put("f8000000f8000000 ffffffffffffffff"),
+        // No tag is pushed, and the mapper asks: no pointer of priority 3, option 0, default priority 3.
+        Ask(MAP_OF_MAPPER, "0006280a00820601 00"),
+        Ask("0007480a00820601 0850 ffff 00 03", "0007280a00820601 00"),
+        Send("0800 45b8", "0800 45b8"),
+        Send("0806 0001", "d 6"),
+    ];
+    let (written, answers) = answered(rt.alloc(), &steps)?;
+    assert_eq!(rt; written.as_slice(), answers.as_bytes());
+    Ok(())
+}
+
+#[test]
+fn each_entity_on_the_way_to_the_gem_port_has_its_reason(rt: HostRuntime) -> Result<(), Fail> {
+    let steps = [
+        Send(UNTAGGED, UNTAGGED),
+        Ask("0006480a00820601 4000 ffff", "0006280a00820601 00"),
+        Send(UNTAGGED, "d 6"),
+        Ask("0007480a00820601 4000 0599", "0007280a00820601 00"),
+        Send(UNTAGGED, "d 7"),
+        Ask("0008480a00820601 4000 0501", "0008280a00820601 00"),
+        Ask("0009480a010a0501 8000 0499", "0009280a010a0501 00"),
+        Send(UNTAGGED, "d 8"),
+        Ask("000a480a010a0501 8000 0401", "000a280a010a0501 00"),
+        Ask("000b480a010c0401 2000 02", "000b280a010c0401 00"),
+        Send(UNTAGGED, "d 9"),
+        SendAt(258, UNTAGGED, "d 5"),
+        Ask("000c460a00820601", "000c260a00820601 00"),
+        Send(UNTAGGED, "d 5"),
+    ];
+    let (written, answers) = answered(rt.alloc(), &steps)?;
+    assert_eq!(rt; written.as_slice(), answers.as_bytes());
     Ok(())
 }
 

@@ -1,7 +1,7 @@
 //! The optical network unit that a script talks to.
 ghost use Rattle.std.specs.Prelude.{◌≡◌, ◌&&◌, ◌==◌, IfOk};
-ghost use Rattle.forward_plan.specs.Meaning.{meaning};
-ghost use Rattle.forward_plan.specs.Size.{LeavesLittleMore};
+ghost use Rattle.frame_meaning.specs.Meaning.{meaning};
+ghost use Rattle.frame_meaning.specs.Size.{LeavesLittleMore};
 ghost use Rattle.managed_entity.specs.Answer.{success_code};
 ghost use Rattle.mib_state.specs.After.{may_change};
 ghost use Rattle.mib_state.specs.Step.{result_of};

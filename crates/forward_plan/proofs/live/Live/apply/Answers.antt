@@ -1,22 +1,17 @@
-use Rattle.std.proofs.Common.{◌≡◌, ap, arith, length, List}
-use Rattle.forward_plan.specs.declared.routes.Routes.{Routes}
-use Rattle.forward_plan.specs.Plan.{TablePlan}
-use Rattle.forward_plan.proofs.Kept.{written_whole}
+use Rattle.mib_state.specs.Touch.{AreSame}
+use Rattle.forward_plan.proofs.Kept.{same_plan}
 use Rattle.forward_plan.proofs.live.Live.apply.Goals as goal
+use Rattle.forward_plan.proofs.live.Live.apply.Goals.{in-Nothing, in-One, in-All}
 
 pub invariant_of-self : goal.invariant_of-self
 invariant_of-self c =
-    let live = c.self.inside in
-    let (compiled, rooms, none) = c.self.invariant in
-    let tables : live.tables.len ≡ 16 =
-    omega (arith, c.deref_mut.ensures.len, ap (λ (l : List TablePlan). length l) c.deref_mut.ensures.value, rooms.for_tables) in
-    let mappers : live.mappers.len ≡ 32 =
-    omega (arith, c.deref_mut-2.ensures.len, ap (λ (l : List Routes). length l) c.deref_mut-2.ensures.value, rooms.for_mappers) in
-    rw (
-      written_whole c.compile_tables.new.tables live.tables.items live.tables.len 16 tables c.compile_tables.ensures.len,
-      written_whole c.compile_mappers.new.mappers live.mappers.items live.mappers.len 32 mappers c.compile_mappers.ensures.len,
-    ) (
-      record { of_ports = c.compile.ensures; of_tables = c.compile_tables.ensures.tables; of_mappers = c.compile_mappers.ensures.mappers },
-      record { for_tables = c.compile_tables.ensures.len; for_mappers = c.compile_mappers.ensures.len },
-      none,
-    )
+    let old = c.self.inside.mib.entities in
+    let new = c.step_touching-touch.new.self.entities in
+    let changes = c.step_touching-touch.ensures.changes in
+    elim c.match-touch.branch [
+      | in-Nothing w ↦
+          let same : AreSame old new = rw w.in-Nothing.is at changes in
+          rw w.self-inside-is (same_plan old new c.self.inside.plan same c.self.invariant)
+      | in-One w ↦ rw w.self-inside-is w.follow-self-inside.ensures
+      | in-All w ↦ rw w.self-inside-is w.compile-self-inside.ensures
+    ]

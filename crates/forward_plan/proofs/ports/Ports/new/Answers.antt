@@ -3,4 +3,7 @@ use Rattle.forward_plan.proofs.Attachments.{all_none}
 use Rattle.forward_plan.proofs.ports.Ports.new.Goals as goal
 
 pub returns : goal.returns
-returns c = all_none 65536 c.in_ok-vec.field-0.items _ (c.in_ok-vec.ensures.items_if_clones_equal (λ y is. is)) refl
+returns c = record {
+  attached = all_none 65536 c.in_ok-vec.field-0.items _ (c.in_ok-vec.ensures.items_if_clones_equal (λ y is. is)) refl;
+  names = c.in_ok-new.ensures;
+}

@@ -1,6 +1,0 @@
-use Rattle.std.proofs.Common.{arith}
-use Rattle.forward_plan.proofs.GemPorts.{id_upstream}
-use Rattle.forward_plan.proofs.gem_port.port_id_of.Goals as goal
-
-pub returns : goal.returns
-returns c = λ n. rw (c.ok_or.ensures.value, c.then_some-port_id.ensures) (id_upstream n c.args.gem.now _ (omega arith) (c.carries_upstream.ensures n))

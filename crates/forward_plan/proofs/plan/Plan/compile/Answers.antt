@@ -1,0 +1,13 @@
+use Rattle.std.proofs.Common.{◌≡◌, arith, length}
+use Rattle.forward_plan.specs.Parts.{IsMapper}
+use Rattle.forward_plan.proofs.Kept.{none_right, written_whole}
+use Rattle.forward_plan.proofs.plan.Plan.compile.Goals as goal
+
+pub follow_mappers-mappers-requires-clause-right : goal.follow_mappers-mappers-requires-clause-right
+follow_mappers-mappers-requires-clause-right c =
+    let e = c.args.mib.now.entities in
+    let mappers = c.args.self.now.mappers in
+    let new = c.forget_all-2.new.parts in
+    let len : length new ≡ 32 = omega (arith, c.forget_all-2.ensures.len, c.deref_mut-2.ensures.len, c.args.self.now.for_mappers) in
+    rw (c.deref_mut-4.ensures.value, written_whole new mappers.items mappers.len 32 c.args.self.now.for_mappers len)
+    (none_right (IsMapper e) e.mappers c.deref_mut-2.result.now new c.forget_all-2.ensures)

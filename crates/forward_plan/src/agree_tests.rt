@@ -1,0 +1,111 @@
+//! The verdicts of the plan beside those of the plain walk, after each of many drawn messages.
+
+use crate::draws_tests::{Draws, PORTS};
+use crate::{Live, Reason, Verdict, plain_walk};
+use std::alloc::{AllocError, Global};
+use std::process::Abort;
+use std::test::Fail;
+use tag_view::Tag;
+
+/// How many messages change the entities.
+const MESSAGES: usize = 2000;
+
+/// The GEM port of a frame that leaves, its addresses, its tags and what follows them, or the reason to drop it.
+pub(crate) type Parts<'v> = Result<(u16, &'v [u8], &'v [Tag], &'v [u8]), Reason>;
+
+/// The parts of a verdict.
+pub(crate) fn parts<'v>(verdict: &'v Verdict<'_>) -> Parts<'v> {
+    match verdict {
+        Verdict::Forward { gem, frame } => {
+            Ok((*gem, frame.addresses(), frame.tags(), frame.rest()))
+        }
+        Verdict::Drop(reason) => Err(*reason),
+    }
+}
+
+/// How many frames left with each number of tags, and how many were dropped for each reason, by its number.
+#[derive(Default, Drop)]
+struct Seen {
+    tags: [u32; 5],
+    reasons: [u32; 10],
+}
+
+impl Seen {
+    fn count(&mut self, verdict: &Verdict) {
+        match verdict {
+            Verdict::Forward { frame, .. } => count_at(&mut self.tags, frame.tags().len()),
+            Verdict::Drop(reason) => count_at(&mut self.reasons, usize::from(reason.code())),
+        }
+    }
+}
+
+/// Counts one more at a place.
+fn count_at(counts: &mut [u32], place: usize) {
+    if let Some(count) = counts.get_mut(place) {
+        *count = count.saturating_add(1);
+    }
+}
+
+/// Entities with their plan, one that follows each message and one that is compiled anew after each.
+#[derive(Drop)]
+struct Plans {
+    live: Live,
+    anew: Live,
+}
+
+/// Compares the verdicts on some frames at a port: one by one, by a plan that was compiled anew, and walked for.
+fn compare(rt: &impl Abort, plans: &Plans, port: u16, frames: &[Vec<u8>], seen: &mut Seen) {
+    for frame in frames {
+        let walked = plain_walk(plans.live.mib(), port, frame);
+        let forwarded = plans.live.forward(port, frame);
+        let recompiled = plans.anew.forward(port, frame);
+        assert_eq!(rt; parts(&forwarded), parts(&walked), "{frame:?} at {port}");
+        assert_eq!(rt;
+            parts(&recompiled),
+            parts(&walked),
+            "{frame:?} recompiled at {port}"
+        );
+        seen.count(&walked);
+    }
+}
+
+/// Sends drawn messages, and compares the verdicts on drawn frames after each.
+fn agree(
+    rt: &impl Abort,
+    alloc: Global,
+    plans: &mut Plans,
+    seen: &mut Seen,
+) -> Result<(), AllocError> {
+    let mut draws = Draws::new();
+    for message in 0..MESSAGES {
+        let request = draws.request();
+        plans.live.apply(&request);
+        plans.anew.apply(&request);
+        plans.anew.recompile();
+        let frames = draws.frames(alloc, message % 27)?;
+        for port in PORTS {
+            compare(rt, plans, port, &frames, seen);
+        }
+    }
+    Ok(())
+}
+
+/// Checks that something was seen often.
+fn are_frequent(rt: &impl Abort, counts: &[u32], what: &str) {
+    for (at, count) in counts.iter().enumerate() {
+        assert!(rt; *count >= 100, "{what} {at}: {counts:?}");
+    }
+}
+
+#[test]
+fn verdicts_are_those_of_the_plain_walk_after_each_message(rt: HostRuntime) -> Result<(), Fail> {
+    let mut plans = Plans {
+        live: Live::new(rt.alloc())?,
+        anew: Live::new(rt.alloc())?,
+    };
+    let mut seen = Seen::default();
+    agree(&rt, rt.alloc(), &mut plans, &mut seen)?;
+    are_frequent(&rt, &seen.tags, "number of tags");
+    are_frequent(&rt, &seen.reasons[1..], "reason but one");
+    Ok(())
+}

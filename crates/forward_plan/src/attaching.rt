@@ -1,0 +1,105 @@
+//! How tables and mappers are attached to ports.
+ghost use Rattle.std.specs.Prelude.{◌≡◌, ◌⊎◌, ℕ, Some, length, slice_get};
+ghost use Rattle.mib_state.specs.Entities.{nothing};
+ghost use Rattle.forward_plan.specs.declared.naming.Naming.{Naming};
+ghost use Rattle.forward_plan.specs.Attachment.{AreAttachedOrKept, IsAttachedIn};
+
+use crate::attached::Attached;
+use crate::naming::{Naming, Namings};
+use crate::ports::{PORTS, Ports};
+use mib_state::Mib;
+use std::alloc::{AllocError, Global};
+
+/// The TP type of a mapper whose TP pointer is to a PPTP Ethernet UNI (ITU-T G.988, clause 9.3.10).
+const TP_TYPE_UNI: u8 = 1;
+
+/// The association type of a table whose pointer is to a PPTP Ethernet UNI (ITU-T G.988, clause 9.3.13).
+const ASSOCIATION_UNI: u8 = 2;
+
+impl Ports {
+    ghost use Rattle.std.specs.Prelude.{◌≡◌, IfOk};
+    ghost use Rattle.mib_state.specs.Entities.{Entities, nothing};
+    ghost use Rattle.forward_plan.specs.Attachment.{AreAttached, AreNamings, ArePorts, attached_at};
+
+    /// The ports when there is no entity, with room for what there may be.
+    pub(crate) fn new(alloc: Global) -> Result<Self, AllocError>
+        ensures { IfOk result (ArePorts nothing) }
+    {
+        Ok(Ports {
+            attached: vec![in alloc; Attached::NOTHING; PORTS]?,
+            names: Namings::new(alloc)?,
+            next: Namings::new(alloc)?,
+        })
+    }
+
+    /// What is attached to a port.
+    #[inline(always)]
+    pub(crate) fn at(&self, port: u16) -> Attached
+        ensures { (e : Entities) → AreAttached e self.now.attached.items → result ≡ attached_at e port }
+    {
+        self.attached[port as usize]
+    }
+
+    /// Attaches to each port what the entities say. It takes no memory.
+    ///
+    /// A port that no mapper and no table points to has neither, so only those that are pointed to are looked up: 48 at most.
+    pub(crate) fn compile(&mut self, mib: &Mib)
+        ensures { ArePorts mib.now.entities self.new }
+    {
+        self.attached.fill(Attached::NOTHING);
+        self.names.read(mib);
+        self.attach_named(mib);
+    }
+
+    /// Attaches what the entities say to the ports that they say it of now, or said it of before: where no mapper and no table
+    /// came, went or points elsewhere, all stays. It takes no memory.
+    pub(crate) fn follow(&mut self, mib: &Mib)
+        requires { (e : Entities) × ArePorts e self.old }
+        ensures { ArePorts mib.now.entities self.new }
+    {
+        self.next.read(mib);
+        if self.next.is_same(&self.names) {
+            return;
+        }
+        detach(&mut self.attached, &self.names.mappers);
+        detach(&mut self.attached, &self.names.tables);
+        self.names.read(mib);
+        self.attach_named(mib);
+    }
+
+    /// Attaches to each port that a mapper or a table points to what the entities say.
+    fn attach_named(&mut self, mib: &Mib)
+        requires ports { AreAttached nothing self.old.attached.items }
+        requires names { AreNamings mib.now.entities self.old.names }
+        ensures { ArePorts mib.now.entities self.new }
+    {
+        attach(&mut self.attached, &self.names.mappers, TP_TYPE_UNI, mib);
+        attach(&mut self.attached, &self.names.tables, ASSOCIATION_UNI, mib);
+    }
+}
+
+/// Attaches to each port that a naming of a kind points to what the entities say.
+fn attach(ports: &mut [Attached], names: &[Naming], kind: u8, mib: &Mib)
+    requires { length ports.old ≡ 65536 }
+    ensures len { length ports.new ≡ 65536 }
+    ensures named { (place : ℕ) (naming : Naming) → slice_get names.now place ≡ Some naming → naming.kind ≡ kind → IsAttachedIn mib.now.entities ports.new naming.to }
+    ensures others { AreAttachedOrKept mib.now.entities ports.old ports.new }
+{
+    for naming in names {
+        if naming.kind == kind {
+            ports[usize::from(naming.to)] = Attached::of(mib, naming.to);
+        }
+    }
+}
+
+/// Attaches nothing to each port that a naming points to.
+fn detach(ports: &mut [Attached], names: &[Naming])
+    requires { length ports.old ≡ 65536 }
+    ensures len { length ports.new ≡ 65536 }
+    ensures named { (place : ℕ) (naming : Naming) → slice_get names.now place ≡ Some naming → IsAttachedIn nothing ports.new naming.to }
+    ensures others { AreAttachedOrKept nothing ports.old ports.new }
+{
+    for naming in names {
+        ports[usize::from(naming.to)] = Attached::NOTHING;
+    }
+}

@@ -1,0 +1,209 @@
+//! How the managed entities are compiled, and what of it is compiled again.
+ghost use Rattle.std.specs.Prelude.{◌≡◌, ◌≢◌, ◌≤◌, ℕ, None, Some, IfOk, length, slice_get, vec_len};
+ghost use Rattle.std.specs.Option.{option_map, unwrap_or};
+ghost use Rattle.managed_entity.specs.Class.{room_of};
+ghost use Rattle.managed_entity.specs.Shown.{mapper_instance, vlan_instance};
+ghost use Rattle.port_plan.specs.Plan.{DoesNotRead};
+ghost use Rattle.forward_plan.specs.Parts.{AreForgotten, AreParts, AreRight, IsMapper, IsTable};
+
+use crate::part::{Part, bring, forget, forget_all};
+use crate::plan::Plan;
+use crate::ports::Ports;
+use managed_entity::ManagedEntity;
+use managed_entity::class::{MAPPER, VLAN};
+use mib_state::{Mib, VlanConfig};
+use pmapper::Mapper;
+use port_plan::{CompiledTable, PortPlan, Routes};
+use std::alloc::{AllocError, Global};
+
+impl Plan {
+    ghost use Rattle.std.specs.Prelude.{◌≡◌, IfOk};
+    ghost use Rattle.mib_state.specs.Entities.{Entities, nothing};
+    ghost use Rattle.mib_state.specs.Touch.{AreSameButOne};
+    ghost use Rattle.port_plan.specs.Leaving.{IsPlanOf};
+    ghost use Rattle.forward_plan.specs.Compiled.{IsCompiled};
+
+    /// The plan of no entities, with room for all that there may be.
+    pub(crate) fn new(alloc: Global) -> Result<Self, AllocError>
+        ensures { IfOk result (IsCompiled nothing) }
+    {
+        Ok(Plan {
+            ports: Ports::new(alloc)?,
+            tables: spare_tables(alloc)?,
+            mappers: spare_mappers(alloc)?,
+            bare: CompiledTable::new(alloc)?,
+            unmapped: Routes::none(),
+        })
+    }
+
+    /// The plan of a port.
+    #[inline(always)]
+    pub(crate) fn port(&self, port: u16) -> PortPlan<'_>
+        ensures { (e : Entities) → IsCompiled e self.now → IsPlanOf e port result }
+    {
+        let attached = self.ports.at(port);
+        PortPlan::new(
+            at_or(&self.tables, attached.table, &self.bare),
+            at_or(&self.mappers, attached.mapper, &self.unmapped),
+        )
+    }
+
+    /// Becomes the plan of entities, every part of it taken anew, and says how many tables and mappers those were. It takes no
+    /// memory.
+    pub(crate) fn compile(&mut self, mib: &Mib) -> (u16, u16)
+        ensures { IsCompiled mib.now.entities self.new }
+    {
+        forget_all(&mut self.tables);
+        forget_all(&mut self.mappers);
+        self.ports.compile(mib);
+        let tables = follow_tables(&mut self.tables, mib);
+        let mappers = follow_mappers(&mut self.mappers, mib);
+        (tables, mappers)
+    }
+
+    /// Becomes the plan of entities that have changed in one instance, and says how many tables and mappers were compiled. Only
+    /// what read the instance is compiled again. It takes no memory.
+    pub(crate) fn follow(&mut self, mib: &Mib, class: u16, instance: u16) -> (u16, u16)
+        requires { (e : Entities) × AreSameButOne class instance e mib.now.entities × IsCompiled e self.old }
+        ensures { IsCompiled mib.now.entities self.new }
+    {
+        match class {
+            VLAN => {
+                forget(&mut self.tables, instance);
+                self.ports.follow(mib);
+                (follow_tables(&mut self.tables, mib), 0)
+            }
+            MAPPER => {
+                forget(&mut self.mappers, instance);
+                self.ports.follow(mib);
+                (0, follow_mappers(&mut self.mappers, mib))
+            }
+            _ => {
+                forget_readers(&mut self.mappers, class, instance);
+                (0, follow_mappers(&mut self.mappers, mib))
+            }
+        }
+    }
+}
+
+impl Part<CompiledTable> {
+    ghost use Rattle.std.specs.Prelude.{◌≡◌, ℕ, Some};
+    ghost use Rattle.managed_entity.specs.Shown.{vlan_instance};
+    ghost use Rattle.forward_plan.specs.Parts.{IsTable};
+
+    /// Becomes the part of a table.
+    fn compile(&mut self, number: u16, vlan: &VlanConfig)
+        ensures number { self.new.of ≡ Some number }
+        ensures table { (n : ℕ) → IsTable (vlan_instance n vlan.now) self.new.compiled }
+    {
+        self.of = Some(number);
+        self.compiled.compile(vlan);
+    }
+}
+
+impl Part<Routes> {
+    ghost use Rattle.std.specs.Prelude.{◌≡◌, ℕ, Some};
+    ghost use Rattle.managed_entity.specs.Shown.{mapper_instance};
+    ghost use Rattle.forward_plan.specs.Parts.{IsMapper};
+
+    /// Becomes the part of a mapper.
+    fn compile(&mut self, number: u16, mib: &Mib, mapper: &Mapper)
+        ensures number { self.new.of ≡ Some number }
+        ensures routes { (n : ℕ) → IsMapper mib.now.entities (mapper_instance n mapper.now) self.new.compiled }
+    {
+        self.of = Some(number);
+        self.compiled = Routes::of(mib, mapper);
+    }
+}
+
+/// What stands at a place, or else what stands for none.
+#[inline(always)]
+fn at_or<'p, T>(parts: &'p [Part<T>], place: u8, none: &'p T) -> &'p T
+    ensures { result.now ≡ unwrap_or (option_map (λ part. part.compiled) (slice_get parts.now place)) none.now }
+{
+    match parts.get(usize::from(place)) {
+        Some(part) => &part.compiled,
+        None => none,
+    }
+}
+
+/// Room for as many tables as there may be.
+fn spare_tables(alloc: Global) -> Result<Vec<Part<CompiledTable>>, AllocError>
+    ensures { IfOk result (λ tables. (vec_len tables ≡ room_of 171) × AreForgotten (λ part. ⊥) tables.items tables.items) }
+{
+    let mut tables = Vec::with_capacity(alloc, VlanConfig::ROOM)?;
+    for made in 0..VlanConfig::ROOM {
+        tables.push_reserved(Part {
+            of: None,
+            compiled: CompiledTable::new(alloc)?,
+        });
+    }
+    Ok(tables)
+}
+
+/// Room for as many mappers as there may be.
+fn spare_mappers(alloc: Global) -> Result<Vec<Part<Routes>>, AllocError>
+    ensures { IfOk result (λ mappers. (vec_len mappers ≡ room_of 130) × AreForgotten (λ part. ⊥) mappers.items mappers.items) }
+{
+    let mut mappers = Vec::with_capacity(alloc, Mapper::ROOM)?;
+    for made in 0..Mapper::ROOM {
+        mappers.push_reserved(Part {
+            of: None,
+            compiled: Routes::none(),
+        });
+    }
+    Ok(mappers)
+}
+
+/// Forgets of which mapper those routes are that were read from an instance of a class.
+fn forget_readers(mappers: &mut [Part<Routes>], class: u16, instance: u16)
+    ensures { AreForgotten (λ part. DoesNotRead class instance part.compiled) mappers.old mappers.new }
+{
+    for place in 0..mappers.len() {
+        if mappers[place].of.is_some() && mappers[place].compiled.reads(class, instance) {
+            mappers[place].of = None;
+        }
+    }
+}
+
+/// Brings each table to its place, compiles those that aren't compiled, and says how many those were.
+fn follow_tables(tables: &mut [Part<CompiledTable>], mib: &Mib) -> u16
+    requires room { length tables.old ≡ room_of 171 }
+    requires right { AreRight IsTable mib.now.entities.vlans tables.old }
+    ensures room { length tables.new ≡ room_of 171 }
+    ensures tables { AreParts IsTable mib.now.entities.vlans tables.new }
+{
+    let mut compiled = 0;
+    // Behind the last place there is no table, so this ends there at the latest.
+    for place in 0..=VlanConfig::ROOM {
+        let Some((number, vlan)) = mib.vlan_at(place) else {
+            return compiled;
+        };
+        if !bring(tables, place, number) {
+            tables[place].compile(number, vlan);
+            compiled += 1;
+        }
+    }
+    compiled
+}
+
+/// Brings each mapper to its place, compiles those that aren't compiled, and says how many those were.
+fn follow_mappers(mappers: &mut [Part<Routes>], mib: &Mib) -> u16
+    requires room { length mappers.old ≡ room_of 130 }
+    requires right { AreRight (IsMapper mib.now.entities) mib.now.entities.mappers mappers.old }
+    ensures room { length mappers.new ≡ room_of 130 }
+    ensures mappers { AreParts (IsMapper mib.now.entities) mib.now.entities.mappers mappers.new }
+{
+    let mut compiled = 0;
+    // Behind the last place there is no mapper, so this ends there at the latest.
+    for place in 0..=Mapper::ROOM {
+        let Some((number, mapper)) = mib.mapper_at(place) else {
+            return compiled;
+        };
+        if !bring(mappers, place, number) {
+            mappers[place].compile(number, mib, mapper);
+            compiled += 1;
+        }
+    }
+    compiled
+}

@@ -1,0 +1,25 @@
+//! What is compiled of the managed entities.
+ghost use Rattle.std.specs.Prelude.{◌≡◌, vec_len};
+ghost use Rattle.managed_entity.specs.Class.{room_of};
+ghost use Rattle.forward_plan.specs.Parts.{AreNone};
+
+use crate::part::Part;
+use crate::ports::Ports;
+use port_plan::{CompiledTable, Routes};
+
+/// What is compiled of the managed entities: for each table its index and treatments, for each mapper its routes, and for each
+/// port what is attached to it.
+#[derive(Drop)]
+pub(crate) struct Plan {
+    pub(crate) ports: Ports,
+    // By the place of a table among the held ones; those behind them stand ready.
+    pub(crate) tables: Vec<Part<CompiledTable>>,
+    // By the place of a mapper, as well.
+    pub(crate) mappers: Vec<Part<Routes>>,
+    // Of ports without a table, and without a mapper.
+    pub(crate) bare: CompiledTable,
+    pub(crate) unmapped: Routes,
+    ghost for_tables: { vec_len tables ≡ room_of 171 },
+    ghost for_mappers: { vec_len mappers ≡ room_of 130 },
+    ghost none: { AreNone bare unmapped },
+}

@@ -1,0 +1,137 @@
+//! A frame as it leaves.
+ghost use Rattle.std.specs.Prelude.{◌≡◌, ◌≤◌, length, map, take};
+ghost use Rattle.tag_view.specs.Word.{tag_of};
+
+use arrayvec::ArrayVec;
+use std::marker::Model;
+use tag_view::{FrameView, Tag};
+
+/// A frame as it leaves: the addresses and the rest of the frame that came in, lent by its bytes, and the tags that stand
+/// between them now. The frame is nowhere as a whole until it is asked for.
+#[derive(Debug, Drop)]
+pub struct OutFrame<'a> {
+    addresses: &'a [u8],
+    rest: &'a [u8],
+    // The tags, and behind them what makes them four.
+    tags: [Tag; 4],
+    // How many tags there are.
+    count: u8,
+}
+
+impl<'a> Model for OutFrame<'a> {
+    ghost use Rattle.std.specs.Prelude.{◌≤◌, take};
+    ghost use Rattle.tag_view.specs.Frame.{Reading};
+
+    ghost Value = { Reading };
+
+    ghost view = { λ f. record { addresses = f.addresses.now; tags = take f.count f.tags; rest = f.rest.now } };
+
+    ghost invariant = { λ f. f.count ≤ 4 };
+}
+
+impl<'a> OutFrame<'a> {
+    ghost use Rattle.std.specs.Prelude.{◌≡◌, ◌≤◌, ◌+◌, ◌*◌, length, take, drop, map};
+    ghost use Rattle.tag_view.specs.Word.{tag_of};
+
+    /// A frame that was read, with other tags.
+    pub(crate) fn new(frame: &FrameView<'a>, tags: ArrayVec<Tag, 4>) -> Self
+        ensures { result ≡ record frame.now { tags = tags.items } }
+    {
+        OutFrame {
+            addresses: frame.addresses(),
+            rest: frame.rest(),
+            count: tags.len() as u8,
+            tags: four_of(tags.as_slice()),
+        }
+    }
+
+    /// A frame whose tags are the first `count` of these words, in place of the `received` tags that it came with.
+    #[inline(always)]
+    pub fn of_words(bytes: &'a [u8], received: usize, words: [u32; 4], count: usize) -> Self
+        requires whole { 14 + 4 * received ≤ length bytes.now }
+        requires four { count ≤ 4 }
+        ensures { result ≡ record { addresses = take 12 bytes.now; tags = map tag_of (take count words); rest = drop (12 + 4 * received) bytes.now } }
+    {
+        OutFrame {
+            addresses: &bytes[..12],
+            rest: &bytes[12 + 4 * received..],
+            tags: tags_of(&words),
+            count: count as u8,
+        }
+    }
+
+    /// The same for at most two tags: the other words are not looked at.
+    #[inline(always)]
+    pub fn of_two_words(bytes: &'a [u8], received: usize, words: [u32; 4], count: usize) -> Self
+        requires whole { 14 + 4 * received ≤ length bytes.now }
+        requires two { count ≤ 2 }
+        ensures { result ≡ record { addresses = take 12 bytes.now; tags = map tag_of (take count words); rest = drop (12 + 4 * received) bytes.now } }
+    {
+        OutFrame {
+            addresses: &bytes[..12],
+            rest: &bytes[12 + 4 * received..],
+            tags: two_tags_of(&words),
+            count: count as u8,
+        }
+    }
+
+    /// The destination's and the source's address.
+    pub fn addresses(&self) -> &'a [u8]
+        ensures { result.now ≡ self.now.addresses }
+    {
+        self.addresses
+    }
+
+    /// The tags, outermost first.
+    pub fn tags(&self) -> &[Tag]
+        ensures value { result.now ≡ self.now.tags }
+        ensures four { length result.now ≤ 4 }
+    {
+        &self.tags[..usize::from(self.count)]
+    }
+
+    /// What follows the tags, from the type on.
+    pub fn rest(&self) -> &'a [u8]
+        ensures { result.now ≡ self.now.rest }
+    {
+        self.rest
+    }
+}
+
+/// At most four tags, and behind them what makes them four.
+fn four_of(tags: &[Tag]) -> [Tag; 4]
+    requires { length tags.now ≤ 4 }
+    ensures { take (length tags.now) result ≡ tags.now }
+{
+    let mut four = [Tag::default(); 4];
+    four[..tags.len()].copy_from_slice(tags);
+    four
+}
+
+/// The tags of four words.
+#[inline(always)]
+fn tags_of(words: &[u32]) -> [Tag; 4]
+    requires { length words.now ≡ 4 }
+    ensures { result ≡ map tag_of words.now }
+{
+    [
+        Tag::of_word(words[0]),
+        Tag::of_word(words[1]),
+        Tag::of_word(words[2]),
+        Tag::of_word(words[3]),
+    ]
+}
+
+/// The tags of the first two words, and behind them what makes them four.
+#[inline(always)]
+fn two_tags_of(words: &[u32]) -> [Tag; 4]
+    requires { 2 ≤ length words.now }
+    ensures { take 2 result ≡ map tag_of (take 2 words.now) }
+{
+    [
+        Tag::of_word(words[0]),
+        Tag::of_word(words[1]),
+        Tag::of_word(0),
+        Tag::of_word(0),
+    ]
+}

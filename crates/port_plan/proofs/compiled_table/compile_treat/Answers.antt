@@ -1,0 +1,39 @@
+use Rattle.std.proofs.Common.{◌≡◌, ◌<◌, ℕ, Bool, List, length, Option, ap, arith, subst, ◌∙◌}
+use Rattle.std.specs.Prelude.{IfSome, false, slice_get, slice_set}
+use Rattle.rule_index.specs.Filters.{tags_in}
+use Rattle.rule_index.specs.Order.{order_of}
+use Rattle.treatment.specs.Compiled.{Compiled, Treats, asks_dscp}
+use Rattle.port_plan.specs.CompiledTable.{NoneAsks}
+use Rattle.port_plan.proofs.CompiledTables.{none_asks_set, order_within, treated_within, treats_set}
+use Rattle.port_plan.proofs.compiled_table.compile_treat.Goals as goal
+
+pub returns-in_default-rule-clause-treats : goal.returns-in_default-rule-clause-treats
+returns-in_default-rule-clause-treats c = λ entries treated are.
+    let here = c.in-Some.ensures ∙ ap (λ (l : List (List ℕ)). slice_get (order_of l) c.args.number) c.requires.index in
+    absurd (omega (arith, order_within c.args.rules.now c.args.number c.in-Some.place here, c.in_default-rule.ensures))
+
+pub returns-in_default-get_mut-clause-treats : goal.returns-in_default-get_mut-clause-treats
+returns-in_default-get_mut-clause-treats c = λ entries treated are.
+    absurd (omega (arith, treated_within c.args.settings.now entries c.args.rules.now c.args.treats.now.items c.args.number treated are, c.in_default-get_mut.ensures))
+
+pub returns-clause-treats : goal.returns-clause-treats
+returns-clause-treats c = λ entries treated are.
+    let settings = c.args.settings.now in
+    let rule = c.in-Some-rule.rule.now in
+    let treat = c.of-treat.result in
+    let here = c.in-Some.ensures ∙ ap (λ (l : List (List ℕ)). slice_get (order_of l) c.args.number) c.requires.index in
+    let right : Treats rule.treatment settings (tags_in rule.filter) treat =
+    subst (λ (k : ℕ). Treats rule.treatment settings k treat) c.tags_in.ensures.value c.of-treat.ensures.treats in
+    rw c.from.ensures (treats_set settings entries c.args.rules.now c.args.treats.now.items c.args.number c.in-Some.place rule treat here
+    c.in-Some-rule.ensures.1 right treated are)
+
+pub returns-clause-dscp : goal.returns-clause-dscp
+returns-clause-dscp c = λ before.
+    let treats = c.args.treats.now.items in
+    let number = c.from.result in
+    let treat = c.of-treat.result in
+    let within : number < length treats = omega (arith, c.in-Some-get_mut.ensures.item) in
+    let unasked : c.asks-asks.result ≡ false → c.args.asked ≡ false → NoneAsks (slice_set treats number treat) = λ no asked.
+    none_asks_set treats number treat within (subst (λ (b : Bool). IfSome treat (λ t. asks_dscp t ≡ b)) no c.asks-asks.ensures) (before asked) in
+    subst (λ (l : List (Option Compiled)). (c.asks-asks.result ≡ false → c.args.asked ≡ false → NoneAsks l) → c.still_asks.result ≡ false → NoneAsks l)
+    c.deref.ensures.value c.still_asks.ensures unasked

@@ -1,0 +1,49 @@
+use Rattle.std.proofs.Common.{◌+◌, ℕ, List, [], ◌∷◌, Option, length, ap, arith, sym, subst, ◌∙◌, length-append}
+use Rattle.std.specs.Prelude.{slice_get}
+use Rattle.rule_index.specs.Filters.{tags_in}
+use Rattle.rule_index.specs.Order.{order_of}
+use Rattle.treatment.specs.Compiled.{Compiled, Treats}
+use Rattle.port_plan.proofs.CompiledTables.{AreFirstTreats, all_to_end, all_to_none, order_within, treats_all, treats_more}
+use Rattle.port_plan.proofs.compiled_table.compile_treats.Goals as goal
+
+pub returns-in_default-clause-treats : goal.returns-in_default-clause-treats
+returns-in_default-clause-treats c =
+    let entries = c.args.rules.now in
+    let n = c.loop-number.number in
+    let kept = c.loop-number.invariant in
+    let none = c.in_default.ensures ∙ ap (λ (l : List (List ℕ)). slice_get (order_of l) n) c.requires.index in
+    treats_all c.args.settings.now entries c.loop-number.treats.items n kept.count (omega arith) (omega arith) (all_to_none entries n none) kept.treats
+
+pub returns-in_default-rule-clause-treats : goal.returns-in_default-rule-clause-treats
+returns-in_default-rule-clause-treats c =
+    let entries = c.args.rules.now in
+    let here = c.in-Some.ensures ∙ ap (λ (l : List (List ℕ)). slice_get (order_of l) c.loop-number.number) c.requires.index in
+    absurd (omega (arith, order_within entries c.loop-number.number c.in-Some.place here, c.in_default-rule.ensures))
+
+pub loop-number-preserved : goal.loop-number-preserved
+loop-number-preserved c =
+    let settings = c.args.settings.now in
+    let entries = c.args.rules.now in
+    let n = c.loop-number.number in
+    let old = c.loop-number.treats.items in
+    let kept = c.loop-number.invariant in
+    let rule = c.in-Some-rule.rule.now in
+    let treat = c.of.result in
+    let here = c.in-Some.ensures ∙ ap (λ (l : List (List ℕ)). slice_get (order_of l) n) c.requires.index in
+    let right : Treats rule.treatment settings (tags_in rule.filter) treat =
+    subst (λ (k : ℕ). Treats rule.treatment settings k treat) c.tags_in.ensures.value c.of.ensures.treats in
+    let is = c.push_reserved.ensures.items in
+    record {
+      treats = subst (λ (l : List (Option Compiled)). AreFirstTreats settings entries l (n + 1)) (sym is)
+          (treats_more settings entries old n c.in-Some.place rule treat kept.count here c.in-Some-rule.ensures.1 right kept.treats);
+      count = omega (arith, ap (λ (l : List (Option Compiled)). length l) is, length-append old (treat ∷ []));
+      len = omega (arith, c.push_reserved.ensures.len);
+      room = c.push_reserved.ensures.capacity ∙ kept.room;
+    }
+
+pub returns-clause-treats : goal.returns-clause-treats
+returns-clause-treats c =
+    let entries = c.args.rules.now in
+    let n = c.loop-number.number in
+    let kept = c.loop-number.invariant in
+    treats_all c.args.settings.now entries c.loop-number.treats.items n kept.count (omega arith) (omega arith) (all_to_end entries n (omega arith)) kept.treats

@@ -1,0 +1,11 @@
+use Rattle.std.proofs.Common.{◌≡◌, length, vec_capacity, vec_len}
+use Rattle.port_plan.proofs.CompiledTables.{AreFirstTreats}
+use Rattle.port_plan.proofs.compiled_table.compile_treats.Given as goal
+
+abbrev pub invariant-loop-number : goal.invariant-loop-number
+invariant-loop-number l = record {
+  treats : AreFirstTreats l.settings l.rules l.treats.items l.number;
+  count : length l.treats.items ≡ l.number;
+  len : vec_len l.treats ≡ l.number;
+  room : vec_capacity l.treats ≡ vec_capacity l.initial.treats;
+}
