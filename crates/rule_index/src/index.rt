@@ -1,5 +1,5 @@
 //! The index of a table.
-ghost use Rattle.std.specs.Prelude.{◌≡◌, ◌<◌, ◌≤◌, [], ℕ, None, IfOk, List, slice_get};
+ghost use Rattle.std.specs.Prelude.{◌≡◌, ◌<◌, ◌≤◌, [], ℕ, None, IfOk, List, length, slice_get};
 ghost use Rattle.rule_index.specs.Order.{order_of};
 ghost use Rattle.rule_index.specs.Readers.{has_inner_vid, has_tags, mask_in_order, IsMaskInOrder};
 
@@ -42,7 +42,7 @@ impl Model for Index {
 
 impl Index {
     ghost use Rattle.tag_view.specs.Frame.{type_at};
-    ghost use Rattle.vlan_rule.specs.Choice.{choice, matches, IsChoice};
+    ghost use Rattle.vlan_rule.specs.Choice.{choice, entry_at, matches, IsChoice};
     ghost use Rattle.rule_index.specs.Followed.{IsFollowed};
 
     /// An index of no entries, with room for those of any table.
@@ -59,11 +59,12 @@ impl Index {
         })
     }
 
-    /// Becomes the index of a table. It takes no memory.
+    /// Becomes the index of a table. Entries, order and masks are all made anew, whatever stood before. It
+    /// takes no memory.
     pub fn rebuild(&mut self, table: &RuleTable)
         ensures { self.new ≡ table.now }
     {
-        let _ = self.follow(table);
+        self.compile_from(table, 0);
     }
 
     /// Becomes the index of a table, and says what it found: that nothing changed, that one treatment may
@@ -84,11 +85,21 @@ impl Index {
                 None => Followed::Rebuilt,
             };
         }
-        copy_entries(&mut self.entries, table, place);
+        self.compile_from(table, place);
+        Followed::Rebuilt
+    }
+
+    // Takes the entries of a table from a place on, before which they are the same, and makes order and masks
+    // of all of them.
+    fn compile_from(&mut self, table: &RuleTable, from: usize)
+        requires within { (from ≤ length self.old) × (from ≤ length table.now) }
+        requires same { (k : ℕ) → k < from → entry_at self.old k ≡ entry_at table.now k }
+        ensures { self.new ≡ table.now }
+    {
+        copy_entries(&mut self.entries, table, from);
         rank_entries(&mut self.rows, table);
         number_places(&mut self.numbers, &self.rows);
         self.masks.rebuild(&self.rows);
-        Followed::Rebuilt
     }
 
     /// The place of the entry that is used for a frame, or None where none matches it: of those that match,

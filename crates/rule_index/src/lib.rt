@@ -24,12 +24,14 @@
 //! entries as for 128: no turn per entry, and nothing to be searched, sorted or compared. It branches on the
 //! number of tags alone, which its caller mostly knows. Groups of entries by VID and priority would need a
 //! search for each combination of fields that some entry leaves open. `rebuild` sets some bits for each entry
-//! and then joins the masks that `find` needs; where one treatment alone differs it goes over the entries
-//! once, and copies that one. An index takes some 20 KB, all of it in `new`.
+//! and then joins the masks that `find` needs, whatever table the index was of. An index takes some 20 KB, all
+//! of it in `new`.
 //!
 //! What a caller keeps for each entry can be kept by its number in the order: [`Index::number`] gives that,
-//! for a [`Head`], the words of a frame that filters look at. [`Index::follow`] is `rebuild` that says what
-//! it found ([`Followed`]): which of what is so kept stays as it is.
+//! for a [`Head`], the words of a frame that filters look at. [`Index::follow`] becomes the index of a table
+//! as `rebuild` does, and spares what it can: a table that stayed is gone over once, where one treatment alone
+//! differs order and masks stay as well, and otherwise all of them are made anew. It says what it found
+//! ([`Followed`]), and so which of what is kept for each entry stays as it is.
 #![tactic(auto)]
 
 mod bit;
