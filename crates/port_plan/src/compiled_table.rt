@@ -4,6 +4,8 @@ ghost use Rattle.vlan_rule.specs.Table.{table_max_size};
 ghost use Rattle.rule_index.specs.Filters.{tags_in};
 ghost use Rattle.rule_index.specs.Followed.{IsTreated};
 ghost use Rattle.treatment.specs.Compiled.{asks_dscp};
+ghost use Rattle.managed_entity.specs.Shown.{vlan_instance};
+ghost use Rattle.frame_meaning.specs.Meaning.{Table, table_of};
 ghost use Rattle.port_plan.specs.CompiledTable.{AreMarkings, AreTreats, NoneAsks, SomeAsks};
 
 use frame_meaning::{Reason, settings_of};
@@ -81,21 +83,36 @@ impl CompiledTable {
         Ok(table)
     }
 
-    /// Becomes the table of an extended VLAN tagging operation configuration data. It takes no memory. What was the same before is
-    /// gone over and not compiled again: where the keys and the settings stayed and one treatment was set, that treatment alone is
-    /// compiled.
+    /// Becomes the table of an extended VLAN tagging operation configuration data, all of it compiled anew, whatever stood before.
+    /// It takes no memory.
     pub fn compile(&mut self, vlan: &VlanConfig)
         ensures { (n : ℕ) → self.new.table ≡ table_of (vlan_instance n vlan.now) }
     {
-        let settings = &vlan.settings;
-        self.compile_table(
-            settings_of(settings.input_tpid, settings.output_tpid, settings.dscp_map),
-            &vlan.table,
-        );
+        self.compile_table(settings_in(vlan), &vlan.table);
+    }
+
+    /// Becomes the table of an extended VLAN tagging operation configuration data, as [`compile`](CompiledTable::compile) does, and
+    /// compiles what changed. It takes no memory. What was the same before is gone over and not compiled again: where the keys and
+    /// the settings stayed and one treatment was set, that treatment alone is compiled.
+    pub fn follow(&mut self, vlan: &VlanConfig)
+        ensures { (n : ℕ) → self.new.table ≡ table_of (vlan_instance n vlan.now) }
+    {
+        self.follow_table(settings_in(vlan), &vlan.table);
+    }
+
+    /// Becomes the table of these rules and settings, compiled anew.
+    fn compile_table(&mut self, settings: TableSettings, rules: &RuleTable)
+        ensures { self.new.table ≡ record { settings = settings; entries = rules.now } }
+    {
+        self.settings = settings;
+        self.index.rebuild(rules);
+        self.markings = markings_of(&settings.dscp_map);
+        compile_treats(&mut self.treats, &self.index, &settings, rules);
+        self.uses_dscp = any_asks(&self.treats);
     }
 
     /// Becomes the table of these rules and settings. What these have in common with those before isn't compiled again.
-    fn compile_table(&mut self, settings: TableSettings, rules: &RuleTable)
+    fn follow_table(&mut self, settings: TableSettings, rules: &RuleTable)
         ensures { self.new.table ≡ record { settings = settings; entries = rules.now } }
     {
         let same = are_equal(&self.settings, &settings);
@@ -170,6 +187,14 @@ impl CompiledTable {
     {
         self.markings[place]
     }
+}
+
+/// What the entries of a configuration are applied with.
+fn settings_in(vlan: &VlanConfig) -> TableSettings
+    ensures { (n : ℕ) → record { settings = result; entries = vlan.now.table } ≡ table_of (vlan_instance n vlan.now) }
+{
+    let settings = &vlan.settings;
+    settings_of(settings.input_tpid, settings.output_tpid, settings.dscp_map)
 }
 
 /// Compiles the treatment of each entry, in the order of rank and place.

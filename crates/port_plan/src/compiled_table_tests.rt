@@ -222,7 +222,7 @@ fn a_table_follows_its_entries(rt: HostRuntime) -> Result<(), Fail> {
     )?;
     for (key, rest, expected) in PUTS {
         vlan.table.put(entry(key, rest))?;
-        table.compile(&vlan);
+        table.follow(&vlan);
         assert_eq!(rt; words(&table, rt.alloc())?, expected, "{key:x} {rest:x}");
         assert_eq!(rt;
             words_anew(&vlan, rt.alloc())?,
@@ -248,7 +248,7 @@ fn a_table_follows_its_settings(rt: HostRuntime) -> Result<(), Fail> {
         vlan.settings.input_tpid = input_tpid;
         vlan.settings.output_tpid = output_tpid;
         vlan.settings.dscp_map.0[17] = byte;
-        table.compile(&vlan);
+        table.follow(&vlan);
         let expected = [Ok(untagged), Ok(vid_100), Ok(0x8100_0005)];
         assert_eq!(rt; words(&table, rt.alloc())?, expected);
         assert_eq!(rt; words_anew(&vlan, rt.alloc())?, expected);

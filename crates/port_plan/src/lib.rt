@@ -4,7 +4,7 @@
 //! a compiled treatment for each of its entries; [`Routes`] are those of an 802.1p mapper service profile (clause 9.3.10), a GEM
 //! port or a reason for each priority. Each is one definition over the managed entities, and one function that compiles it.
 //!
-//! A change costs what it touches: a table compiles again what differs from the one that it was ([`CompiledTable::compile`]), and
+//! A change costs what it touches: a table compiles again what differs from the one that it was ([`CompiledTable::follow`]), and
 //! routes say whether they were read from an instance ([`Routes::reads`]), so that those of other mappers stay as they are.
 //!
 //! A [`PortPlan`] is lent, and forwards any number of frames: it reads the head of a frame as words, finds the number of the
