@@ -1,7 +1,8 @@
 -- What is kept of a table, as it is made and as it is used.
 use Rattle.std.proofs.Common.{◌≡◌, ◌≢◌, ◌==◌, ℕ, ◌+◌, ◌<◌, ◌≤◌, Bool, true, false, List, [], ◌∷◌, ◌++◌, length, Option, Some, None, Err, refl, ap, sym, subst, ◌∙◌, arith, inl, inr, length-append, get_or-set_other, get_or-set_same}
-use Rattle.std.specs.Prelude.{All, IfSome, slice_get, slice_set}
-use Rattle.std.proofs.lemmas.Bool.{and_parts, cases_eq, cases_lt, eqb-true}
+use Rattle.std.specs.Prelude.{All, slice_get, slice_set}
+use Rattle.std.specs.Option.{option_map_or}
+use Rattle.std.proofs.lemmas.Bool.{and_parts, cases_eq, cases_lt, eqb-true, true≢false}
 use Rattle.std.proofs.lemmas.List.{length-map, length-set}
 use Rattle.std.proofs.lemmas.Option.{get_or_from_slice_get, none-some, same_Some, slice_get-get_or, slice_get_within}
 use Rattle.std.proofs.Math.ListN.{get_or, get_or-append}
@@ -29,7 +30,7 @@ use Rattle.treatment.specs.Compiled.{Compiled, Treats, asks_dscp}
 use Rattle.treatment.specs.Treatment.{treated}
 use Rattle.frame_meaning.specs.declared.reason.Reason.TheVariants.{NoRule, RuleDiscard}
 use Rattle.frame_meaning.specs.Meaning.{Table, entry_for, tags_by}
-use Rattle.port_plan.specs.CompiledTable.{AreTreats, IsTreatIn, NoneAsks}
+use Rattle.port_plan.specs.CompiledTable.{AreTreats, IsTreatIn, NoneAsks, SomeAsks}
 use Rattle.frame_meaning.proofs.Tables.{discarded, no_rule}
 
 -- ---- lists
@@ -137,15 +138,21 @@ treats_set settings old new treats number place rule treat here is right treated
     ]
 
 -- where neither the others nor this one ask for the DSCP, none does
-pub none_asks_set : (treats : List (Option Compiled)) (number : ℕ) (treat : Option Compiled) → number < length treats → IfSome treat (λ t. asks_dscp t ≡ false)
+pub none_asks_set : (treats : List (Option Compiled)) (number : ℕ) (treat : Option Compiled) → number < length treats → option_map_or asks_dscp treat false ≡ false
     → NoneAsks treats → NoneAsks (slice_set treats number treat)
 none_asks_set treats number treat within unasked before place compiled held = elim (cases_eq place number) [
   | inl same ↦
       let it : Some compiled ≡ treat = same_Some _ _ (sym (rw same at held) ∙ set_held treats treat number within) in
-      let said : IfSome (Some compiled) (λ t. asks_dscp t ≡ false) = rw (← it) at unasked in
+      let said : option_map_or asks_dscp (Some compiled) false ≡ false = rw (← it) at unasked in
       said
   | inr differs ↦ before place compiled (set_before treats treat (Some compiled) number place differs held)
 ]
+
+-- where this one asks for it, some does
+pub some_asks_set : (treats : List (Option Compiled)) (number : ℕ) (treat : Option Compiled) → number < length treats → option_map_or asks_dscp treat false ≡ true
+    → SomeAsks (slice_set treats number treat)
+some_asks_set treats number None within asks = absurd (true≢false (sym asks))
+some_asks_set treats number (Some treat) within asks = (number, treat, set_held treats (Some treat) number within, asks)
 
 -- the order has no more places than there are entries, and each place is that of an entry
 order_few : (entries : List (List ℕ)) → length (order_of entries) ≤ length entries

@@ -1,5 +1,6 @@
 //! The table of a port (ITU-T G.988, clause 9.3.13), compiled.
-ghost use Rattle.std.specs.Prelude.{◌≡◌, ◌≤◌, ℕ, List, IfSome, IsTrue, true, false, vec_capacity};
+ghost use Rattle.std.specs.Prelude.{◌≡◌, ◌≤◌, ◌↔◌, ℕ, List, IsTrue, true, false, vec_capacity};
+ghost use Rattle.std.specs.Option.{option_map_or};
 ghost use Rattle.vlan_rule.specs.Table.{table_max_size};
 ghost use Rattle.rule_index.specs.Filters.{tags_in};
 ghost use Rattle.rule_index.specs.Followed.{IsTreated};
@@ -39,10 +40,10 @@ pub struct CompiledTable {
 }
 
 impl Model for CompiledTable {
-    ghost use Rattle.std.specs.Prelude.{◌≡◌, ◌≤◌, false, vec_capacity};
+    ghost use Rattle.std.specs.Prelude.{◌≡◌, ◌≤◌, true, false, vec_capacity};
     ghost use Rattle.vlan_rule.specs.Table.{table_max_size};
     ghost use Rattle.port_plan.specs.Plan.{TablePlan};
-    ghost use Rattle.port_plan.specs.CompiledTable.{AreMarkings, AreTreats, NoneAsks};
+    ghost use Rattle.port_plan.specs.CompiledTable.{AreMarkings, AreTreats, NoneAsks, SomeAsks};
 
     ghost Value = { TablePlan };
 
@@ -52,7 +53,8 @@ impl Model for CompiledTable {
         (table_max_size ≤ vec_capacity t.treats)
         × AreTreats t.settings t.index t.treats.items
         × AreMarkings t.settings.dscp_map.0 t.markings
-        × (t.uses_dscp ≡ false → NoneAsks t.treats.items) };
+        × (t.uses_dscp ≡ false → NoneAsks t.treats.items)
+        × (t.uses_dscp ≡ true → SomeAsks t.treats.items) };
 }
 
 impl CompiledTable {
@@ -235,7 +237,8 @@ fn compile_treat(
     ensures treats { (entries : List (List ℕ)) → IsTreated entries rules.now number → AreTreats settings.now entries treats.old.items
         → AreTreats settings.now rules.now treats.new.items }
     ensures room { vec_capacity treats.new ≡ vec_capacity treats.old }
-    ensures dscp { (asked ≡ false → NoneAsks treats.old.items) → result ≡ false → NoneAsks treats.new.items }
+    ensures none { (asked ≡ false → NoneAsks treats.old.items) → result ≡ false → NoneAsks treats.new.items }
+    ensures some { (asked ≡ true → SomeAsks treats.old.items) → result ≡ true → SomeAsks treats.new.items }
 {
     let Some(place) = index.order(number) else {
         return asked;
@@ -255,14 +258,15 @@ fn compile_treat(
 /// Whether some treatment asks for the DSCP of a frame, where one that was compiled again does or doesn't, and some treatment did
 /// before or none.
 fn still_asks(asks: bool, asked: bool, treats: &[Option<Treat>]) -> bool
-    ensures { (asks ≡ false → asked ≡ false → NoneAsks treats.now) → result ≡ false → NoneAsks treats.now }
+    ensures none { (asks ≡ false → asked ≡ false → NoneAsks treats.now) → result ≡ false → NoneAsks treats.now }
+    ensures some { (asks ≡ true → SomeAsks treats.now) → result ≡ true → SomeAsks treats.now }
 {
     asks || asked && any_asks(treats)
 }
 
 /// Whether a treatment asks for the DSCP of a frame.
 fn asks(treat: &Option<Treat>) -> bool
-    ensures { IfSome treat.now (λ treat. asks_dscp treat ≡ result) }
+    ensures { result ≡ option_map_or asks_dscp treat.now false }
 {
     match treat {
         Some(treat) => treat.uses_dscp(),
@@ -272,7 +276,7 @@ fn asks(treat: &Option<Treat>) -> bool
 
 /// Whether settings are the same.
 fn are_equal(one: &TableSettings, other: &TableSettings) -> bool
-    ensures { IsTrue result → one.now ≡ other.now }
+    ensures { IsTrue result ↔ (one.now ≡ other.now) }
 {
     one == other
 }

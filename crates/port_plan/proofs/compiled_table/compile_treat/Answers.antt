@@ -1,10 +1,10 @@
-use Rattle.std.proofs.Common.{◌≡◌, ◌<◌, ℕ, Bool, List, length, Option, ap, arith, subst, ◌∙◌}
-use Rattle.std.specs.Prelude.{IfSome, false, slice_get, slice_set}
+use Rattle.std.proofs.Common.{◌≡◌, ◌<◌, ℕ, List, length, Option, ap, arith, subst, sym, ◌∙◌}
+use Rattle.std.specs.Prelude.{true, false, slice_get, slice_set}
 use Rattle.rule_index.specs.Filters.{tags_in}
 use Rattle.rule_index.specs.Order.{order_of}
-use Rattle.treatment.specs.Compiled.{Compiled, Treats, asks_dscp}
-use Rattle.port_plan.specs.CompiledTable.{NoneAsks}
-use Rattle.port_plan.proofs.CompiledTables.{none_asks_set, order_within, treated_within, treats_set}
+use Rattle.treatment.specs.Compiled.{Compiled, Treats}
+use Rattle.port_plan.specs.CompiledTable.{NoneAsks, SomeAsks}
+use Rattle.port_plan.proofs.CompiledTables.{none_asks_set, order_within, some_asks_set, treated_within, treats_set}
 use Rattle.port_plan.proofs.compiled_table.compile_treat.Goals as goal
 
 pub returns-in_default-rule-clause-treats : goal.returns-in_default-rule-clause-treats
@@ -27,13 +27,24 @@ returns-clause-treats c = λ entries treated are.
     rw c.from.ensures (treats_set settings entries c.args.rules.now c.args.treats.now.items c.args.number c.in-Some.place rule treat here
     c.in-Some-rule.ensures.1 right treated are)
 
-pub returns-clause-dscp : goal.returns-clause-dscp
-returns-clause-dscp c = λ before.
+pub returns-clause-none : goal.returns-clause-none
+returns-clause-none c = λ before.
     let treats = c.args.treats.now.items in
     let number = c.from.result in
     let treat = c.of-treat.result in
     let within : number < length treats = omega (arith, c.in-Some-get_mut.ensures.item) in
     let unasked : c.asks-asks.result ≡ false → c.args.asked ≡ false → NoneAsks (slice_set treats number treat) = λ no asked.
-    none_asks_set treats number treat within (subst (λ (b : Bool). IfSome treat (λ t. asks_dscp t ≡ b)) no c.asks-asks.ensures) (before asked) in
+    none_asks_set treats number treat within (sym c.asks-asks.ensures ∙ no) (before asked) in
     subst (λ (l : List (Option Compiled)). (c.asks-asks.result ≡ false → c.args.asked ≡ false → NoneAsks l) → c.still_asks.result ≡ false → NoneAsks l)
-    c.deref.ensures.value c.still_asks.ensures unasked
+    c.deref.ensures.value c.still_asks.ensures.none unasked
+
+pub returns-clause-some : goal.returns-clause-some
+returns-clause-some c = λ before.
+    let treats = c.args.treats.now.items in
+    let number = c.from.result in
+    let treat = c.of-treat.result in
+    let within : number < length treats = omega (arith, c.in-Some-get_mut.ensures.item) in
+    let asked : c.asks-asks.result ≡ true → SomeAsks (slice_set treats number treat) = λ yes.
+    some_asks_set treats number treat within (sym c.asks-asks.ensures ∙ yes) in
+    subst (λ (l : List (Option Compiled)). (c.asks-asks.result ≡ true → SomeAsks l) → c.still_asks.result ≡ true → SomeAsks l)
+    c.deref.ensures.value c.still_asks.ensures.some asked

@@ -1,4 +1,5 @@
-use Rattle.std.proofs.Common.{arith}
+use Rattle.std.proofs.Common.{arith, sym}
+use Rattle.std.proofs.lemmas.Bool.{true≢false}
 use Rattle.port_plan.proofs.CompiledTables.{none_asks, treats_of_none}
 use Rattle.port_plan.proofs.compiled_table.CompiledTable.new.Goals as goal
 
@@ -8,4 +9,5 @@ invariant_of-table c = (
   treats_of_none _ _ _ c.in_ok-new.ensures c.in_ok-with_capacity.ensures.items,
   c.markings_of.ensures,
   λ unused. none_asks _ c.in_ok-with_capacity.ensures.items,
+  λ used. absurd (true≢false (sym used)),
 )
