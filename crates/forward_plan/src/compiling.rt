@@ -48,7 +48,7 @@ impl Plan {
         )
     }
 
-    /// Becomes the plan of entities, every part of it taken anew, and says how many tables and mappers those were. It takes no
+    /// Becomes the plan of entities, every part of it compiled anew, and says how many tables and mappers those were. It takes no
     /// memory.
     pub(crate) fn compile(&mut self, mib: &Mib) -> (u16, u16)
         ensures { IsCompiled mib.now.entities self.new }
@@ -56,7 +56,7 @@ impl Plan {
         forget_all(&mut self.tables);
         forget_all(&mut self.mappers);
         self.ports.compile(mib);
-        let tables = follow_tables(&mut self.tables, mib);
+        let tables = compile_tables(&mut self.tables, mib);
         let mappers = follow_mappers(&mut self.mappers, mib);
         (tables, mappers)
     }
@@ -91,13 +91,22 @@ impl Part<CompiledTable> {
     ghost use Rattle.managed_entity.specs.Shown.{vlan_instance};
     ghost use Rattle.forward_plan.specs.Parts.{IsTable};
 
-    /// Becomes the part of a table.
+    /// Becomes the part of a table, compiled anew.
     fn compile(&mut self, number: u16, vlan: &VlanConfig)
         ensures number { self.new.of ≡ Some number }
         ensures table { (n : ℕ) → IsTable (vlan_instance n vlan.now) self.new.compiled }
     {
         self.of = Some(number);
         self.compiled.compile(vlan);
+    }
+
+    /// Becomes the part of a table, and compiles what differs from the one that it was of.
+    fn follow(&mut self, number: u16, vlan: &VlanConfig)
+        ensures number { self.new.of ≡ Some number }
+        ensures table { (n : ℕ) → IsTable (vlan_instance n vlan.now) self.new.compiled }
+    {
+        self.of = Some(number);
+        self.compiled.follow(vlan);
     }
 }
 
@@ -166,6 +175,25 @@ fn forget_readers(mappers: &mut [Part<Routes>], class: u16, instance: u16)
     }
 }
 
+/// Compiles each table anew at its place, whatever stood there, and says how many there are.
+fn compile_tables(tables: &mut [Part<CompiledTable>], mib: &Mib) -> u16
+    requires room { length tables.old ≡ room_of 171 }
+    requires right { AreRight IsTable mib.now.entities.vlans tables.old }
+    ensures room { length tables.new ≡ room_of 171 }
+    ensures tables { AreParts IsTable mib.now.entities.vlans tables.new }
+{
+    let mut compiled = 0;
+    // Behind the last place there is no table, so this ends there at the latest.
+    for place in 0..=VlanConfig::ROOM {
+        let Some((number, vlan)) = mib.vlan_at(place) else {
+            return compiled;
+        };
+        tables[place].compile(number, vlan);
+        compiled += 1;
+    }
+    compiled
+}
+
 /// Brings each table to its place, compiles those that aren't compiled, and says how many those were.
 fn follow_tables(tables: &mut [Part<CompiledTable>], mib: &Mib) -> u16
     requires room { length tables.old ≡ room_of 171 }
@@ -180,7 +208,7 @@ fn follow_tables(tables: &mut [Part<CompiledTable>], mib: &Mib) -> u16
             return compiled;
         };
         if !bring(tables, place, number) {
-            tables[place].compile(number, vlan);
+            tables[place].follow(number, vlan);
             compiled += 1;
         }
     }

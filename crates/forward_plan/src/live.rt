@@ -62,8 +62,8 @@ impl Live {
         };
     }
 
-    /// Takes all ports, tables and mappers anew; of a table whose entries and settings are those of before, the index finds that and
-    /// stays. The entities and what is compiled of them stay equal, so no verdict changes. It takes no memory.
+    /// Compiles all ports, tables and mappers anew, each table with its index, markings and treatments, whatever was compiled before.
+    /// The entities stay, and so does what is compiled of them, by the type; so no verdict changes. It takes no memory.
     pub fn recompile(&mut self)
         ensures { self.new ≡ self.old }
     {

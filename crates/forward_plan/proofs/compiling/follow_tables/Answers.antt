@@ -24,9 +24,9 @@ loop-place-preserved c =
     let within : place < length brought = omega (arith, moved.len, before.room, room) in
     elim c.if-not-bring.branch [
       | then-not-bring w ↦
-          let part = w.compile.new.self in
-          let of = w.compile.ensures.number in
-          let compiled = w.compile.ensures.table number in
+          let part = w.follow.new.self in
+          let of = w.follow.ensures.number in
+          let compiled = w.follow.ensures.table number in
           rw (w.tables-is, w.compiled-is) (record {
             room = length-set brought place part ∙ moved.len ∙ before.room;
             right = written_right IsTable instances brought place number here part within shown found of compiled right;
