@@ -1,0 +1,3 @@
+pub mod Requests
+pub mod History
+pub mod Edition

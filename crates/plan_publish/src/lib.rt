@@ -1,0 +1,5 @@
+//! Versions of the plan, published to lanes.
+#![tactic(auto)]
+
+mod edition;
+mod history;
