@@ -1,5 +1,5 @@
 -- The entities of a desk after a request are those after the accepted requests.
-use Rattle.std.proofs.Common.{◌≡◌, [], ◌∷◌, ◌++◌, List, refl, true, false, ap, sym, ◌∙◌, nat_eq, Result, Ok, Err}
+use Rattle.std.proofs.Common.{◌≡◌, [], ◌∷◌, ◌++◌, List, refl, false, ap, sym, ◌∙◌, nat_eq, Result, Ok, Err}
 use Rattle.std.specs.Prelude.{◌&&◌, slice_index}
 use mathlib.Core.Bool.{false≢true}
 use Rattle.omci_msg.specs.declared.Request.{Request}

@@ -10,11 +10,10 @@ use Rattle.mib_state.specs.Step.{left}
 use Rattle.mib_state.specs.After.{after, after_from}
 use Rattle.plan_publish.specs.declared.edition.Edition.{Edition}
 use Rattle.plan_publish.specs.declared.edition.Accepted.{Accepted}
-use Rattle.plan_publish.specs.declared.history.Beginning.{Beginning}
 use Rattle.plan_publish.specs.declared.rule.View.{View}
 use Rattle.plan_publish.specs.Requests.{StartsWith, StartsWithEach, one_more, version_of, last_of}
 use Rattle.plan_publish.specs.History.{Home, key_of}
-use Rattle.plan_publish.specs.Edition.{IsAfter, HasTrail, EachFits, requests_of, taken_in, shows}
+use Rattle.plan_publish.specs.Edition.{IsAfter, HasTrail, EachFits, requests_of, taken_in}
 use Rattle.plan_publish.specs.Rule.{IsAtHome, Fits, Kept, nothing_known, entered, Enters, Publishes, note_of, informed}
 use Rattle.plan_publish.proofs.Beginnings.{last_of-push, starts_longer}
 
@@ -167,14 +166,14 @@ chosen_fits published control x seat v w true h k = h
 chosen_fits published control x seat v w false h k = k
 
 -- a lane enters
-pub enters : (learnt : Beginning) (seat : ℕ) (v : View) → Turns Kept seat v (λ x. x) (λ v _ y w. Enters learnt v y w)
-enters learnt seat v x views h at =
+pub enters : (passes : Edition → Bool) (seat : ℕ) (v : View) → Turns Kept seat v (λ x. x) (λ v _ y w. Enters passes v y w)
+enters passes seat v x views h at =
     let mine = h.each_seat seat v at in
     let more : View = record v { held = h.published ∷ v.held } in
     let fits : Fits h.published h.control x seat more = record { says = mine.says; held = (starts_itself h.published, mine.held); home = mine.home } in
-    let w : View = entered learnt h.published v x in (
+    let w : View = entered passes h.published v x in (
       w,
-      kept_set x views seat w h (chosen_fits h.published h.control x seat v more (shows x learnt) fits mine),
+      kept_set x views seat w h (chosen_fits h.published h.control x seat v more (passes x) fits mine),
       record { now = h.published; view = refl; is_after = h.is_after; trail = h.trail; held = mine.held; home = mine.home },
     )
 

@@ -6,3 +6,5 @@ pub mod Publisher
 pub mod Control
 pub mod Told
 pub mod Fault
+pub mod Holding
+pub mod Lane

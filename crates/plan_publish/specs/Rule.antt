@@ -1,14 +1,13 @@
 -- The rule over the copy that can be entered, and over what the seats know: the control's, and each lane's.
-use Rattle.std.specs.Prelude.{◌≡◌, ◌⊎◌, ℕ, List, [], ◌∷◌, ◌++◌, Some, None, if◌then◌else◌}
+use Rattle.std.specs.Prelude.{◌≡◌, ◌⊎◌, ℕ, Bool, List, [], ◌∷◌, ◌++◌, Some, None, if◌then◌else◌}
 use mathlib.Core.Option.{some}
 use lib.ListN.{get_elem?}
 use Rattle.omci_msg.specs.declared.Request.{Request}
 use Rattle.plan_publish.specs.declared.edition.Edition.{Edition}
-use Rattle.plan_publish.specs.declared.history.Beginning.{Beginning}
 use Rattle.plan_publish.specs.declared.rule.View.{View}
 use Rattle.plan_publish.specs.Requests.{StartsWithEach}
 use Rattle.plan_publish.specs.History.{key_of}
-use Rattle.plan_publish.specs.Edition.{IsAfter, HasTrail, shows}
+use Rattle.plan_publish.specs.Edition.{IsAfter, HasTrail}
 
 -- a seat that says which history it is of says the copy's
 abbrev pub IsAtHome : View → Edition → Type 0
@@ -33,14 +32,14 @@ pub record Kept (e : Edition) (views : List View) : Type 0 where
 abbrev pub nothing_known : View
 nothing_known = record { published = []; held = []; home = None }
 
--- what a lane knows as it enters: these requests are the held ones from now on, if the copy shows what was learnt
-abbrev pub entered : Beginning → List Request → View → Edition → View
-entered learnt now v e = if shows e learnt then record v { held = now ∷ v.held } else v
+-- what a lane knows as it enters: these requests are the held ones from now on, if the copy passes its test
+abbrev pub entered : (Edition → Bool) → List Request → View → Edition → View
+entered passes now v e = if passes e then record v { held = now ∷ v.held } else v
 
 -- the copy that is entered is the one after requests that begin with all that was held
-pub record Enters (learnt : Beginning) (v : View) (e : Edition) (w : View) : Type 0 where
+pub record Enters (passes : Edition → Bool) (v : View) (e : Edition) (w : View) : Type 0 where
   pub now : List Request
-  pub view : w ≡ entered learnt now v e
+  pub view : w ≡ entered passes now v e
   pub is_after : IsAfter e now
   pub trail : HasTrail e now
   pub held : StartsWithEach now v.held

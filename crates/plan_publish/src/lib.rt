@@ -3,12 +3,19 @@
 
 mod control;
 mod edition;
+mod entering;
 mod fault;
+mod held;
 mod history;
+mod lane;
 mod publisher;
 mod rule;
 mod told;
 
 pub use control::Control;
+pub use edition::Edition;
 pub use fault::{ControlFault, OpenFault};
+pub use held::{Entered, Guard, Held};
+pub use lane::Lane;
+pub use rule::{Published, View};
 pub use told::Told;

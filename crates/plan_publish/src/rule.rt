@@ -2,7 +2,6 @@
 ghost use Rattle.plan_publish.specs.Rule.{Kept, nothing_known, Enters, note_of, informed, Publishes};
 
 use crate::edition::Edition;
-use crate::history::Beginning;
 use atomic_table::{Join, Split};
 use crossbeam_utils::rule::{Outcome, Protocol};
 use omci_msg::Request;
@@ -28,20 +27,27 @@ impl Protocol<Edition, View> for Published {
     ghost first = { nothing_known };
 }
 
-/// What a lane learnt. Each call picks it.
-pub(crate) trait Learnt {
-    ghost use Rattle.plan_publish.specs.declared.history.Beginning.{Beginning};
+/// The test that a lane makes of the copy that it has entered. Each call picks it.
+pub(crate) trait Tests {
+    ghost use Rattle.std.specs.Prelude.{Bool};
+    ghost use Rattle.plan_publish.specs.declared.edition.Edition.{Edition};
 
-    ghost learnt: { Beginning };
+    ghost passes: { Edition → Bool };
 }
 
-/// What a lane that learnt something knows as it enters.
+impl Tests for Brand {
+    ghost use Rattle.std.specs.Prelude.{true};
+
+    ghost passes = { λ _. true };
+}
+
+/// What a lane that makes a test knows as it enters.
 pub(crate) struct Entering<J> {
     of: PhantomData<J>,
 }
 
-impl<J: Learnt> Outcome<Edition, View> for Entering<J> {
-    ghost then = { λ v _ y w. Enters J.learnt v y w };
+impl<J: Tests> Outcome<Edition, View> for Entering<J> {
+    ghost then = { λ v _ y w. Enters J.passes v y w };
 }
 
 /// What the control tells: which history it is.

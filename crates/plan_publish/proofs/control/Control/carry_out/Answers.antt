@@ -1,5 +1,4 @@
-use Rattle.std.proofs.Common.{◌≡◌, List, [], ◌∷◌, ◌++◌, sym, ap, ◌∙◌, subst, append_assoc, rules}
-use Rattle.omci_msg.specs.declared.Request.{Request}
+use Rattle.std.proofs.Common.{◌≡◌, [], ◌∷◌, ◌++◌, sym, ap, ◌∙◌, subst, append_assoc}
 use Rattle.mib_state.specs.Entities.{Entities}
 use Rattle.mib_state.specs.After.{after, is_accepted}
 use Rattle.mib_upload.specs.Upload.{DeskState, answered}

@@ -1,0 +1,39 @@
+-- What a lane knows, and what it holds.
+use Rattle.std.specs.Prelude.{◌≡◌, ℕ, List, [], Option, Some, option_map}
+use Rattle.left_right.specs.Sides.{view}
+use Rattle.omci_msg.specs.declared.Request.{Request}
+use Rattle.plan_publish.specs.declared.rule.View.{View}
+use Rattle.plan_publish.specs.declared.lane.Lane.{Lane}
+use Rattle.plan_publish.specs.History.{Home}
+
+abbrev pub number_of : Lane → ℕ
+number_of l = l.number
+
+-- what a lane that is out knows of itself
+abbrev pub known_by : Lane → Option View
+known_by l = option_map (λ r. view r.place) l.reader
+
+-- the lists that a lane held, the last one first
+abbrev pub held_by : Lane → Option (List (List Request))
+held_by l = option_map (λ (v : View). v.held) (known_by l)
+
+-- the longest list that a lane learnt, which begins with all that it learnt before
+abbrev pub learnt_by : Lane → List Request
+learnt_by l = l.learnt.seen.log
+
+-- which history it is of
+abbrev pub home_of : Lane → Home
+home_of l = l.learnt.seen.book
+
+-- a lane that is out, with this number, and has held and learnt nothing
+pub record IsNew (l : Lane) (number : ℕ) (home : Home) : Type 0 where
+  pub number_is : number_of l ≡ number
+  pub held : held_by l ≡ Some []
+  pub learnt : learnt_by l ≡ []
+  pub home_is : home_of l ≡ home
+
+-- the lane as it was
+pub record IsUnchanged (before after : Lane) : Type 0 where
+  pub number_is : number_of after ≡ number_of before
+  pub learnt : after.learnt ≡ before.learnt
+  pub known : known_by after ≡ known_by before

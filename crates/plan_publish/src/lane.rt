@@ -1,0 +1,91 @@
+//! Lanes that are out.
+ghost use Rattle.std.specs.Prelude.{◌≡◌, Some};
+ghost use Rattle.std.specs.Option.{ForSome};
+ghost use Rattle.left_right.specs.Sides.{view};
+ghost use Rattle.plan_publish.specs.History.{key_of};
+
+use crate::edition::Edition;
+use crate::entering::{PlanReader, enter_with};
+use crate::held::{Guard, Held};
+use crate::history::Beginning;
+use crate::rule::{Published, View};
+use crate::told::Told;
+use left_right::reader::Reader;
+use std::marker::Brand;
+
+/// A lane that is out. It may go to a thread of its own.
+#[derive(Drop)]
+pub struct Lane {
+    // What the lane holds has it while that lives.
+    pub(crate) reader: Option<Reader<Edition, View, Published>>,
+    number: u16,
+    // It begins with all that the lane learnt.
+    learnt: Beginning,
+    ghost at_home: { ForSome reader (λ r. (view r.place).home ≡ Some (key_of learnt.seen.book)) },
+}
+
+impl Lane {
+    ghost use Rattle.std.specs.Prelude.{IfSome};
+    ghost use Rattle.std.specs.Borrow.{sem, RestsIfNone};
+    ghost use Rattle.plan_publish.specs.Requests.{StartsWith};
+    ghost use Rattle.plan_publish.specs.Told.{told_home, told_list};
+    ghost use Rattle.plan_publish.specs.Lane.{number_of, known_by, held_by, learnt_by, home_of, IsUnchanged};
+    ghost use Rattle.plan_publish.specs.Holding.{Holds};
+    ghost use Rattle.plan_publish.specs.contracts.lane.Lane.{the_row};
+
+    pub(crate) fn new(reader: PlanReader, number: u16, learnt: Beginning) -> Lane
+        requires { (view reader.place).home ≡ Some (key_of learnt.seen.book) }
+        ensures { (number_of result ≡ number) × (known_by result ≡ Some (view reader.place)) × (result.learnt ≡ learnt) }
+    {
+        Lane {
+            reader: Some(reader),
+            number,
+            learnt,
+        }
+    }
+
+    /// The lane's number: `open` numbers them from 0.
+    pub fn number(&self) -> u16
+        ensures { result ≡ number_of self.now }
+    {
+        self.number
+    }
+
+    /// Learns what was published: from now on the lane holds nothing that begins with less. Who learns an older token again
+    /// forgets nothing. The token has to come from the same `open`.
+    pub fn learn(&mut self, told: &Told)
+        requires { told_home told.now ≡ home_of self.old }
+        ensures told { StartsWith (learnt_by self.new) (told_list told.now) }
+        ensures before { StartsWith (learnt_by self.new) (learnt_by self.old) }
+        ensures number { number_of self.new ≡ number_of self.old }
+        ensures known { known_by self.new ≡ known_by self.old }
+        ensures home { home_of self.new ≡ home_of self.old }
+    {
+        if self.learnt.begins(&told.published) {
+            self.learnt = told.published.again();
+        }
+    }
+
+    /// Takes the version that was published last, which the lane then holds until it leaves. It waits for nobody, takes no
+    /// memory, and writes nothing that another lane writes.
+    ///
+    /// It is `None` where `left_right` gives no copy: after the control was closed, or where an earlier [`Held`] was forgotten
+    /// without being dropped. The lane is then unchanged.
+    pub fn enter(&mut self) -> Option<Held<'_>>
+        ensures* none { sem 𝓛 (RestsIfNone the_row self.entry (λ h. h.lane.ghost_name) result (λ after. IsUnchanged self.old after)) }
+        ensures same_reference { IfSome result (λ h. h.lane.ghost_name ≡ self.entry.ghost_name) }
+        ensures same { IfSome result (λ h. (number_of h.lane.now ≡ number_of self.old) × (h.lane.now.learnt ≡ self.old.learnt)) }
+        ensures holds { IfSome result (λ h. (before : _) × (held_by self.old ≡ Some before) × Holds before (learnt_by self.old) h.reading.part.value.live h.reading.part.value.version (view h.reading.place).held) }
+    {
+        match enter_with::<Brand>(self.reader.take()?, &self.learnt) {
+            Ok(reading) => Some(Guard {
+                lane: self,
+                reading,
+            }),
+            Err(reader) => {
+                self.reader = Some(reader);
+                None
+            }
+        }
+    }
+}
