@@ -1,0 +1,10 @@
+use Rattle.std.proofs.Common.{◌≡◌, ℕ, ◌<◌, sym, ap, ◌∙◌, subst, IfSome, vec_len, slice_get}
+use Rattle.plan_publish.specs.History.{Home}
+use Rattle.plan_publish.specs.Lane.{IsNew}
+use Rattle.plan_publish.proofs.opening.open.Goals as goal
+
+pub returns-clause-lanes : goal.returns-clause-lanes
+returns-clause-lanes g c =
+    let all = c.in-Ok-with_lanes.all in
+    subst (λ (home : Home). (vec_len all ≡ c.args.lanes) × ((k : ℕ) → k < c.args.lanes → IfSome (slice_get all.items k) (λ l. IsNew l k home)))
+    (sym (ap (λ p. p.home) c.new-3.ensures ∙ c.new-2.ensures.2)) c.in-Ok-with_lanes.ensures.lanes
