@@ -1,4 +1,4 @@
--- What a lane knows, and what it holds.
+-- What a lane knows.
 use Rattle.std.specs.Prelude.{◌≡◌, ℕ, List, [], Option, Some, option_map}
 use Rattle.left_right.specs.Sides.{view}
 use Rattle.omci_msg.specs.declared.Request.{Request}
@@ -9,11 +9,11 @@ use Rattle.plan_publish.specs.History.{Home}
 abbrev pub number_of : Lane → ℕ
 number_of l = l.number
 
--- what a lane that is out knows of itself
+-- what a lane that is out knows
 abbrev pub known_by : Lane → Option View
 known_by l = option_map (λ r. view r.place) l.reader
 
--- the lists that a lane held, the last one first
+-- the lists that a lane that is out held, the last one first
 abbrev pub held_by : Lane → Option (List (List Request))
 held_by l = option_map (λ (v : View). v.held) (known_by l)
 
@@ -32,8 +32,13 @@ pub record IsNew (l : Lane) (number : ℕ) (home : Home) : Type 0 where
   pub learnt : learnt_by l ≡ []
   pub home_is : home_of l ≡ home
 
+-- the same lane, which has learnt nothing more
+pub record IsSameLane (before after : Lane) : Type 0 where
+  pub number_is : number_of after ≡ number_of before
+  pub learnt : learnt_by after ≡ learnt_by before
+  pub home_is : home_of after ≡ home_of before
+
 -- the lane as it was
 pub record IsUnchanged (before after : Lane) : Type 0 where
-  pub number_is : number_of after ≡ number_of before
-  pub learnt : after.learnt ≡ before.learnt
-  pub known : known_by after ≡ known_by before
+  pub same : IsSameLane before after
+  pub held : held_by after ≡ held_by before

@@ -6,5 +6,6 @@ pub mod Publisher
 pub mod Control
 pub mod Told
 pub mod Fault
+pub mod Held
 pub mod Holding
 pub mod Lane

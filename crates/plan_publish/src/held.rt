@@ -13,7 +13,13 @@ use left_right::reader::{Reader, Reading};
 
 /// What a lane has while it is in.
 pub trait Entered {
+    ghost use Rattle.std.specs.Prelude.{ℕ};
+    ghost use Rattle.mib_state.specs.Entities.{Entities};
     ghost use Rattle.plan_publish.specs.declared.rule.View.{View};
+
+    ghost entities: { Self → Entities };
+
+    ghost version: { Self → ℕ };
 
     ghost knows: { Self → View };
 
@@ -23,6 +29,10 @@ pub trait Entered {
 }
 
 impl Entered for Reading<Edition, View, Published> {
+    ghost entities = { λ r. r.part.value.live };
+
+    ghost version = { λ r. r.part.value.version };
+
     ghost knows = { λ r. view r.place };
 
     fn back(self) -> Reader<Edition, View, Published> {
@@ -41,9 +51,11 @@ pub struct Guard<'l, G: Entered> {
 pub type Held<'l> = Guard<'l, Reading<Edition, View, Published>>;
 
 impl Guard<'_, Reading<Edition, View, Published>> {
+    ghost use Rattle.plan_publish.specs.Held.{held_entities, held_version};
+
     /// The entities of the held version, with their plan.
     pub fn live(&self) -> &Live
-        ensures { result.now ≡ self.now.reading.part.value.live }
+        ensures { result.now ≡ held_entities self.now }
     {
         &self.reading.get().live
     }
@@ -52,7 +64,7 @@ impl Guard<'_, Reading<Edition, View, Published>> {
     /// verdict borrows the frame alone.
     #[inline(always)]
     pub fn forward<'a>(&self, port: u16, bytes: &'a [u8]) -> Verdict<'a>
-        ensures verdict { result ≡ meaning self.now.reading.part.value.live port bytes.now }
+        ensures verdict { result ≡ meaning (held_entities self.now) port bytes.now }
         ensures size { LeavesLittleMore bytes.now result }
     {
         self.reading.get().live.forward(port, bytes)
@@ -60,39 +72,39 @@ impl Guard<'_, Reading<Edition, View, Published>> {
 
     /// How many requests were accepted before the held version was published, or 2^64 - 1 where there are more.
     pub fn version(&self) -> u64
-        ensures { result ≡ self.now.reading.part.value.version }
+        ensures { result ≡ held_version self.now }
     {
         self.reading.get().version
     }
 }
 
 impl<G: Entered> Guard<'_, G> {
-    ghost use Rattle.plan_publish.specs.Lane.{known_by, number_of};
+    ghost use Rattle.plan_publish.specs.Lane.{held_by, number_of, IsSameLane};
+    ghost use Rattle.plan_publish.specs.Held.{held_lane, held_lists};
 
     /// The number of the lane.
     pub fn lane(&self) -> u16
-        ensures { result ≡ number_of self.now.lane.now }
+        ensures { result ≡ number_of (held_lane self.now) }
     {
         self.lane.number()
     }
 
     /// Leaves, as a drop does.
     pub fn leave(self)
-        ensures number { number_of self.exit.0.now ≡ number_of self.entry.lane.now }
-        ensures learnt { self.exit.0.now.learnt ≡ self.entry.lane.now.learnt }
-        ensures known { known_by self.exit.0.now ≡ Some (G.knows self.entry.reading) }
+        ensures lane { IsSameLane (held_lane self.entry) self.exit.0.now }
+        ensures lists { held_by self.exit.0.now ≡ Some (held_lists self.entry) }
     {
         drop(self);
     }
 }
 
 impl<G: Entered> Drop for Guard<'_, G> {
-    ghost use Rattle.plan_publish.specs.Lane.{known_by, number_of};
+    ghost use Rattle.plan_publish.specs.Lane.{held_by, IsSameLane};
+    ghost use Rattle.plan_publish.specs.Held.{held_lane, held_lists};
 
     fn drop(self)
-        ensures number { number_of self.exit.0.now ≡ number_of self.entry.lane.now }
-        ensures learnt { self.exit.0.now.learnt ≡ self.entry.lane.now.learnt }
-        ensures known { known_by self.exit.0.now ≡ Some (G.knows self.entry.reading) }
+        ensures lane { IsSameLane (held_lane self.entry) self.exit.0.now }
+        ensures lists { held_by self.exit.0.now ≡ Some (held_lists self.entry) }
     {
         let Self { lane, reading } = self;
         lane.reader = Some(reading.back());

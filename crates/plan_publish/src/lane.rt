@@ -29,8 +29,9 @@ impl Lane {
     ghost use Rattle.std.specs.Borrow.{sem, RestsIfNone};
     ghost use Rattle.plan_publish.specs.Requests.{StartsWith};
     ghost use Rattle.plan_publish.specs.Told.{told_home, told_list};
-    ghost use Rattle.plan_publish.specs.Lane.{number_of, known_by, held_by, learnt_by, home_of, IsUnchanged};
+    ghost use Rattle.plan_publish.specs.Lane.{number_of, known_by, held_by, learnt_by, home_of, IsSameLane, IsUnchanged};
     ghost use Rattle.plan_publish.specs.Holding.{Holds};
+    ghost use Rattle.plan_publish.specs.Held.{held_entities, held_lane, held_lists, held_version};
     ghost use Rattle.plan_publish.specs.contracts.lane.Lane.{the_row};
 
     pub(crate) fn new(reader: PlanReader, number: u16, learnt: Beginning) -> Lane
@@ -58,7 +59,7 @@ impl Lane {
         ensures told { StartsWith (learnt_by self.new) (told_list told.now) }
         ensures before { StartsWith (learnt_by self.new) (learnt_by self.old) }
         ensures number { number_of self.new ≡ number_of self.old }
-        ensures known { known_by self.new ≡ known_by self.old }
+        ensures held { held_by self.new ≡ held_by self.old }
         ensures home { home_of self.new ≡ home_of self.old }
     {
         if self.learnt.begins(&told.published) {
@@ -74,8 +75,8 @@ impl Lane {
     pub fn enter(&mut self) -> Option<Held<'_>>
         ensures* none { sem 𝓛 (RestsIfNone the_row self.entry (λ h. h.lane.ghost_name) result (λ after. IsUnchanged self.old after)) }
         ensures same_reference { IfSome result (λ h. h.lane.ghost_name ≡ self.entry.ghost_name) }
-        ensures same { IfSome result (λ h. (number_of h.lane.now ≡ number_of self.old) × (h.lane.now.learnt ≡ self.old.learnt)) }
-        ensures holds { IfSome result (λ h. (before : _) × (held_by self.old ≡ Some before) × Holds before (learnt_by self.old) h.reading.part.value.live h.reading.part.value.version (view h.reading.place).held) }
+        ensures lane { IfSome result (λ h. IsSameLane self.old (held_lane h)) }
+        ensures holds { IfSome result (λ h. (before : _) × (held_by self.old ≡ Some before) × Holds before (learnt_by self.old) (held_entities h) (held_version h) (held_lists h)) }
     {
         match enter_with::<Brand>(self.reader.take()?, &self.learnt) {
             Ok(reading) => Some(Guard {
