@@ -56,3 +56,7 @@ reaches base front now less h k n small count ends =
     let m : length now ≡ length base + 1 = omega (arith, count, n, small) in
     let same : front ≡ now = same_ends base front now h k n m (sym ends) in
     ([], sym same ∙ sym (append-nil front))
+
+-- a list has no smaller version than what begins it
+pub version_grows : (all first : List Request) → StartsWith all first → version_of first ≤ version_of all
+version_grows all first h = let n = ap length h.1 ∙ length-append first h.0 in omega (arith, n)
