@@ -1,5 +1,5 @@
 -- One operation more.
-use Rattle.std.proofs.Common.{◌≡◌, List, [], ◌∷◌, ◌++◌, sym, ap, ◌∙◌, subst, append_assoc}
+use Rattle.std.proofs.Common.{◌≡◌, List, [], ◌∷◌, ◌++◌, sym, ap, ◌∙◌, subst, append_assoc, refl, fold}
 use Rattle.std.proofs.lemmas.List.{map-append}
 use Rattle.plan_publish.specs.History.{Home}
 use Rattle.omci_msg.specs.declared.Request.{Request}
@@ -7,9 +7,11 @@ use Rattle.plan_publish.specs.declared.edition.Edition.{Edition}
 use Rattle.plan_publish.specs.declared.edition.Accepted.{Accepted}
 use Rattle.plan_publish.specs.declared.rule.View.{View}
 use Rattle.plan_publish.specs.Requests.{StartsWith}
-use Rattle.plan_publish.specs.Edition.{EachFits, requests_of}
+use Rattle.plan_publish.specs.Edition.{IsAfter, HasTrail, EachFits, requests_of, taken_in}
 use Rattle.plan_publish.specs.Publisher.{Stands}
+use Rattle.plan_publish.specs.Rule.{Publishes}
 use Rattle.plan_publish.proofs.Beginnings.{starts_longer}
+use Rattle.plan_publish.proofs.Keeps.{Absorbed, absorbs}
 
 each_fits_longer : (all more : List Request) (b : Home) (ops : List Accepted) → EachFits all b ops → EachFits (all ++ more) b ops
 each_fits_longer all more b [] h = tt
@@ -31,3 +33,24 @@ stands_push x v ops a s starts book = record {
       subst (λ (l : List Request). EachFits l x.base.seen.book (ops ++ a ∷ [])) (sym (sum_push v.published ops a))
       (each_fits_push (all ++ a.request ∷ []) x.base.seen.book ops a (each_fits_longer all (a.request ∷ []) x.base.seen.book ops s.fits) (starts_longer all (a.request ∷ []) a.before.seen.log starts) book);
 }
+
+-- the copy that has absorbed all pending requests
+pub absorbed : (x next : Edition) (v : View) (ops : List Accepted) (pending : List Request) → Stands x v ops → requests_of ops ≡ pending
+    → next ≡ fold taken_in x ops → Absorbed next (v.published ++ pending) x.base.seen.book
+absorbed x next v ops pending s all is =
+    let more = requests_of ops in
+    let made : Absorbed (fold taken_in x ops) (v.published ++ more) x.base.seen.book =
+    absorbs (v.published ++ more) x.base.seen.book x v.published ops s.is_after (starts_longer v.published more x.base.seen.log s.trail.base) s.trail.last refl s.fits refl in
+    subst (λ (z : Edition × List Request). Absorbed z.0 (v.published ++ z.1) x.base.seen.book) {x = (fold taken_in x ops, more)} {y = (next, pending)} (λ i. (sym is i, all i)) made
+
+-- and how it then stands
+pub stands_after : (x next : Edition) (v w : View) (ops : List Accepted) (pending : List Request) → Stands x v ops → requests_of ops ≡ pending
+    → next ≡ fold taken_in x ops → Publishes pending v next w → Stands next w []
+stands_after x next v w ops pending s all is rule =
+    let now : w.published ≡ v.published ++ pending = ap (λ (u : View). u.published) rule in
+    let made = absorbed x next v ops pending s all is in
+    record {
+      is_after = subst (IsAfter next) (sym now) made.is_after;
+      trail = subst (HasTrail next) (sym now) made.trail;
+      fits = tt;
+    }
