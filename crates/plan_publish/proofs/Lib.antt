@@ -4,3 +4,9 @@ pub mod Same
 pub mod Keeps
 pub mod Messages
 pub mod Carried
+pub mod Parts
+pub mod Last
+pub mod Numbers
+pub mod Fitting
+pub mod Interleavings
+mod Examples

@@ -9,3 +9,5 @@ pub mod Fault
 pub mod Held
 pub mod Holding
 pub mod Lane
+pub mod World
+pub mod Interleavings

@@ -22,7 +22,8 @@
 //!
 //! **Lists in contracts alone.** What is published, held, told and learnt are lists of requests. No field stores them: they are
 //! what the seats at `left_right`'s table know, and the beginnings of one history of all accepted requests (`history`), of which
-//! are stored a length and the newest request. `specs/Rule.antt` has the rule that holds after each step, whoever takes it.
+//! are stored a length and the newest request. `specs/Rule.antt` has the rule that holds after each step, whoever takes it. And
+//! [`law_of_interleavings`] says, over definitions alone, what follows for every order of messages, publishes and lanes' steps.
 #![tactic(auto)]
 
 mod control;
@@ -32,6 +33,7 @@ mod fault;
 mod held;
 mod history;
 mod lane;
+mod law;
 mod opening;
 mod publisher;
 mod rule;
@@ -42,6 +44,7 @@ pub use edition::Edition;
 pub use fault::{ControlFault, OpenFault};
 pub use held::{Entered, Guard, Held};
 pub use lane::Lane;
+pub use law::law_of_interleavings;
 pub use opening::open;
 pub use rule::{Published, View};
 pub use told::Told;
@@ -50,5 +53,7 @@ pub use told::Told;
 mod dialogue;
 #[cfg(test)]
 mod lane_tests;
+#[cfg(test)]
+mod law_tests;
 #[cfg(test)]
 mod message_tests;
