@@ -1,7 +1,10 @@
-use Rattle.std.proofs.Common.{◌≡◌, ℕ, ◌<◌, sym, ap, ◌∙◌, subst, IfSome, vec_len, slice_get}
+use Rattle.std.proofs.Common.{◌≡◌, ℕ, ◌<◌, sym, ap, ◌∙◌, subst, IfSome, vec_len, slice_get, rules}
 use Rattle.plan_publish.specs.History.{Home}
 use Rattle.plan_publish.specs.Lane.{IsNew}
 use Rattle.plan_publish.proofs.opening.open.Goals as goal
+
+pub returns-clause-lanes_fault : goal.returns-clause-lanes_fault
+returns-clause-lanes_fault g c = (λ is within. search rules, λ outside. absurd (outside (search rules, search rules)))
 
 pub returns-clause-lanes : goal.returns-clause-lanes
 returns-clause-lanes g c =
