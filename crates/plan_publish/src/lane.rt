@@ -71,7 +71,8 @@ impl Lane {
     /// memory, and writes nothing that another lane writes.
     ///
     /// It is `None` where `left_right` gives no copy: after the control was closed, or where an earlier [`Held`] was forgotten
-    /// without being dropped. The lane is then unchanged.
+    /// without being dropped. It would be `None` too where the copy didn't have all that the lane learnt, which never comes. The
+    /// lane is then unchanged.
     pub fn enter(&mut self) -> Option<Held<'_>>
         ensures* none { sem 𝓛 (RestsIfNone the_row self.entry (λ h. h.lane.ghost_name) result (λ after. IsUnchanged self.old after)) }
         ensures same_reference { IfSome result (λ h. h.lane.ghost_name ≡ self.entry.ghost_name) }

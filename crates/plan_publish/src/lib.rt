@@ -40,13 +40,11 @@ mod rule;
 mod told;
 
 pub use control::Control;
-pub use edition::Edition;
 pub use fault::{ControlFault, OpenFault};
-pub use held::{Entered, Guard, Held};
+pub use held::Held;
 pub use lane::Lane;
 pub use law::law_of_interleavings;
 pub use opening::open;
-pub use rule::{Published, View};
 pub use told::Told;
 
 #[cfg(test)]
