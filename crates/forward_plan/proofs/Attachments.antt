@@ -1,17 +1,18 @@
 -- What is attached to ports, as one after another is looked up.
 use Rattle.std.proofs.Common.{◌≡◌, ◌≢◌, ◌⊎◌, ℕ, zero, suc, ◌+◌, ◌<◌, Bool, true, false, ◌&&◌, List, [], ◌∷◌, length, map, replicate, set, Option, Some, None, refl, ap, sym, ◌∙◌, arith, inl, inr}
-use Rattle.std.specs.Prelude.{◌==◌, if◌then◌else◌, IsSome, is_some, slice_get, filter}
-use Rattle.std.specs.Option.{option_and_then, option_map, option_or, unwrap_or}
-use Rattle.std.proofs.lemmas.Bool.{and_parts, cases_eq, eqb-true}
+use Rattle.std.specs.Prelude.{◌==◌, if◌then◌else◌, IsSome, is_some, min, slice_get, filter}
+use Rattle.std.specs.Option.{option_and_then, option_map, option_map_or, option_or, unwrap_or}
+use Rattle.std.proofs.lemmas.Bool.{and_parts, cases_eq, cases_lt, eqb-true}
+use Rattle.std.proofs.Math.Nat.{min-eq_left, min-eq_right}
 use Rattle.std.proofs.lemmas.List.{get_or-replicate, get_or-set_same, length-replicate, length-set}
-use Rattle.std.proofs.lemmas.Option.{same_Some, slice_get-get_or, slice_get-map}
+use Rattle.std.proofs.lemmas.Option.{none-some, same_Some, slice_get-get_or, slice_get-map}
 use mathlib.Core.Bool.{false≢true}
 use Rattle.managed_entity.specs.Instance.{Instance, attribute_number}
 use Rattle.mib_state.specs.Entities.{Entities, nothing, place_in}
 use Rattle.mib_state.specs.Attached.{is_mapper_of, is_table_of, least_instance, least_of, mapper_of_port, table_of_mapper, table_of_port}
 use Rattle.forward_plan.specs.declared.attached.Attached.{Attached}
 use Rattle.forward_plan.specs.declared.naming.Naming.{Naming}
-use Rattle.forward_plan.specs.Attachment.{AreAttached, AreAttachedOrKept, AreMapped, IsAttachedIn, attached_at, mapper_naming, place_or_none, table_naming}
+use Rattle.forward_plan.specs.Attachment.{AreAttached, AreAttachedOrKept, AreMapped, AreOfTable, IsAttachedIn, IsMapperOfPort, attached_at, mapper_naming, place_or_none, table_naming}
 
 -- ---- one port
 
@@ -46,12 +47,12 @@ pub record Attaches (e : Entities) (old new : List Attached) (port : ℕ) : Type
   pub others : (other : ℕ) → other ≢ port → slice_get new other ≡ slice_get old other
 
 -- another place reads what it read
-other_place : (ports : List Attached) (port other : ℕ) (attached : Attached) → other ≢ port → slice_get (set ports port attached) other ≡ slice_get ports other
-other_place [] port other attached differs = refl
-other_place (x ∷ ports) zero zero attached differs = absurd (differs refl)
-other_place (x ∷ ports) zero (suc other) attached differs = refl
-other_place (x ∷ ports) (suc port) zero attached differs = refl
-other_place (x ∷ ports) (suc port) (suc other) attached differs = other_place ports port other attached (λ same. differs (ap suc same))
+pub other_place : {T : Type 0} (l : List T) (place other : ℕ) (x : T) → other ≢ place → slice_get (set l place x) other ≡ slice_get l other
+other_place [] place other y differs = refl
+other_place (x ∷ l) zero zero y differs = absurd (differs refl)
+other_place (x ∷ l) zero (suc other) y differs = refl
+other_place (x ∷ l) (suc place) zero y differs = refl
+other_place (x ∷ l) (suc place) (suc other) y differs = other_place l place other y (λ same. differs (ap suc same))
 
 -- what is written at a port's place
 pub attaches : (e : Entities) (ports : List Attached) (port : ℕ) (attached : Attached) → port < length ports → attached ≡ attached_at e port
@@ -269,3 +270,173 @@ attached_named e port =
 pub attached_same : (e e' : Entities) (port : ℕ) → map mapper_naming e'.mappers ≡ map mapper_naming e.mappers → map table_naming e'.vlans ≡ map table_naming e.vlans
     → attached_at e' port ≡ attached_at e port
 attached_same e e' port mappers tables = attached_named e' port ∙ rw (mappers, tables) (sym (attached_named e port))
+
+-- ---- where one naming changes
+
+number_stays : (number : ℕ) (l : List Naming) (place : ℕ) (before now : Naming) → slice_get l place ≡ Some before → now.number ≡ before.number
+    → place_named number (set l place now) ≡ place_named number l
+number_stays number [] place before now was same = refl
+number_stays number (x ∷ l) zero before now was same =
+    let it : now.number ≡ x.number = same ∙ ap (λ (n : Naming). n.number) (sym (same_Some x before was)) in
+    rw it refl
+number_stays number (x ∷ l) (suc place) before now was same = rw (number_stays number l place before now was same) refl
+
+places_stay : (l : List Naming) (place : ℕ) (before now : Naming) → slice_get l place ≡ Some before → now.number ≡ before.number
+    → (number : Option ℕ) → place_or_none_by (set l place now) number ≡ place_or_none_by l number
+places_stay l place before now was same None = refl
+places_stay l place before now was same (Some number) = ap (λ o. unwrap_or o 255) (number_stays number l place before now was same)
+
+passing_stay : (test : Naming → Bool) (l : List Naming) (place : ℕ) (before now : Naming) → slice_get l place ≡ Some before → test before ≡ false → test now ≡ false
+    → filter test (set l place now) ≡ filter test l
+passing_stay test [] place before now was fails fails_now = refl
+passing_stay test (x ∷ l) zero before now was fails fails_now =
+    let it : test x ≡ false = ap test (same_Some x before was) ∙ fails in
+    rw (it, fails_now) refl
+passing_stay test (x ∷ l) (suc place) before now was fails fails_now = rw (passing_stay test l place before now was fails fails_now) refl
+
+-- either the naming passes a test, before or now, or the same pass
+module _ (test : Naming → Bool) (l : List Naming) (place : ℕ) (before now : Naming) (was : slice_get l place ≡ Some before) where
+  unless : (Q : Type 0) → (test before ≡ true → Q) → (test now ≡ true → Q) → (filter test (set l place now) ≡ filter test l → Q) → Q
+  unless Q passed passes same =
+      elim (test before) as (λ b. test before ≡ b → Q) [
+        | true ↦ λ is. passed is
+        | false ↦ λ fails. elim (test now) as (λ b. test now ≡ b → Q) [
+          | true ↦ λ is. passes is
+          | false ↦ λ fails_now. same (passing_stay test l place before now was fails fails_now)
+        ] refl
+      ] refl
+
+-- one of those that pass has the least number
+pub record IsLeast (test : Naming → Bool) (l : List Naming) (number : ℕ) : Type 0 where
+  pub place : ℕ
+  pub naming : Naming
+  pub held : slice_get l place ≡ Some naming
+  pub passes : test naming ≡ true
+  pub numbered : naming.number ≡ number
+
+least_further : (test : Naming → Bool) (x : Naming) (l : List Naming) (number : ℕ) → IsLeast test l number → IsLeast test (x ∷ l) number
+least_further test x l number is = record { place = suc is.place; naming = is.naming; held = is.held; passes = is.passes; numbered = is.numbered }
+
+either_least : (a b : ℕ) → (min a b ≡ a) ⊎ (min a b ≡ b)
+either_least a b = elim (cases_lt a b) [
+  | inl less ↦ inl (min-eq_left (omega arith))
+  | inr other ↦ inr (min-eq_right other)
+]
+
+least_among : (test : Naming → Bool) (l : List Naming) (number : ℕ) → least_of (map (λ (n : Naming). n.number) (filter test l)) ≡ Some number → IsLeast test l number
+least_among test [] number is = absurd (none-some number is)
+least_among test (x ∷ l) number is = by_case (test x) refl is (least_among test l)
+  where
+    by_case : (b : Bool) → test x ≡ b → least_of (map (λ (n : Naming). n.number) (if b then x ∷ filter test l else filter test l)) ≡ Some number
+        → ((m : ℕ) → least_of (map (λ (n : Naming). n.number) (filter test l)) ≡ Some m → IsLeast test l m) → IsLeast test (x ∷ l) number
+    by_case false fails is_least later = least_further test x l number (later number is_least)
+    by_case true passes is_least later =
+        elim (least_of (map (λ (n : Naming). n.number) (filter test l))) as (λ o. least_of (map (λ (n : Naming). n.number) (filter test l)) ≡ o
+        → option_map_or (min x.number) o x.number ≡ number → IsLeast test (x ∷ l) number) [
+          | None ↦ λ none own. record { place = 0; naming = x; held = refl; passes = passes; numbered = own }
+          | Some m ↦ λ some less. elim (either_least x.number m) [
+            | inl first ↦ record { place = 0; naming = x; held = refl; passes = passes; numbered = sym first ∙ less }
+            | inr other ↦ least_further test x l number (later number (some ∙ ap Some (sym other ∙ less)))
+          ]
+        ] refl (same_Some _ number is_least)
+
+-- ---- what is attached where one naming changes
+
+-- a naming of a kind points to a thing
+abbrev points : ℕ → ℕ → Naming → Bool
+points kind to n = n.kind == kind && n.to == to
+
+pointed : (kind to : ℕ) (n : Naming) → points kind to n ≡ true → (n.kind ≡ kind) × (n.to ≡ to)
+pointed kind to n is = let both = and_parts (n.kind == kind) (n.to == to) is in (eqb-true _ _ both.0, eqb-true _ _ both.1)
+
+module _ (mappers tables : List Naming) (place : ℕ) (before now : Naming) (port : ℕ) (Q : Type 0) where
+  -- a mapper points to a port, unless the same is attached to it
+  mapper_moved : slice_get mappers place ≡ Some before → now.number ≡ before.number
+      → (before.kind ≡ 1 → before.to ≡ port → Q) → (now.kind ≡ 1 → now.to ≡ port → Q)
+      → (attached_by (set mappers place now) tables port ≡ attached_by mappers tables port → Q) → Q
+  mapper_moved was number pointed_before points_now same =
+      unless (points 1 port) mappers place before now was Q
+      (λ is. let it = pointed 1 port before is in pointed_before it.0 it.1)
+      (λ is. let it = pointed 1 port now is in points_now it.0 it.1)
+      (λ passing.
+      let least : least_named 1 port (set mappers place now) ≡ least_named 1 port mappers = ap (λ (l : List Naming). least_of (map (λ (n : Naming). n.number) l)) passing in
+      same (rw (least, places_stay mappers place before now was number (least_named 1 port mappers)) refl))
+
+  -- a table points to a port or to its mapper, unless the same is attached to it
+  table_moved : slice_get tables place ≡ Some before → now.number ≡ before.number
+      → (before.kind ≡ 2 → before.to ≡ port → Q) → (now.kind ≡ 2 → now.to ≡ port → Q)
+      → ((k : ℕ) (mapper : Naming) → slice_get mappers k ≡ Some mapper → mapper.to ≡ port → before.kind ≡ 1 → IsMapperOfPort before.to mapper → Q)
+      → ((k : ℕ) (mapper : Naming) → slice_get mappers k ≡ Some mapper → mapper.to ≡ port → now.kind ≡ 1 → IsMapperOfPort now.to mapper → Q)
+      → (attached_by mappers (set tables place now) port ≡ attached_by mappers tables port → Q) → Q
+  table_moved was number own_before own_now mapped_before mapped_now same =
+      unless (points 2 port) tables place before now was Q
+      (λ is. let it = pointed 2 port before is in own_before it.0 it.1)
+      (λ is. let it = pointed 2 port now is in own_now it.0 it.1)
+      (λ passing.
+      let least : least_named 2 port (set tables place now) ≡ least_named 2 port tables = ap (λ (l : List Naming). least_of (map (λ (n : Naming). n.number) l)) passing in
+      elim (least_named 1 port mappers) as (λ o. least_named 1 port mappers ≡ o → Q) [
+        | None ↦ λ none. same (same_tables least (rw none refl))
+        | Some m ↦ λ some.
+            let it = least_among (points 1 port) mappers m some in
+            let at = pointed 1 port it.naming it.passes in
+            unless (points 1 m) tables place before now was Q
+            (λ is. let of = pointed 1 m before is in mapped_before it.place it.naming it.held at.1 of.0 (record { numbered = it.numbered ∙ sym of.1; of_port = at.0 }))
+            (λ is. let of = pointed 1 m now is in mapped_now it.place it.naming it.held at.1 of.0 (record { numbered = it.numbered ∙ sym of.1; of_port = at.0 }))
+            (λ passing_mapped. same (same_tables least (rw some (ap (λ (l : List Naming). least_of (map (λ (n : Naming). n.number) l)) passing_mapped))))
+      ] refl)
+    where
+      same_tables : least_named 2 port (set tables place now) ≡ least_named 2 port tables
+          → table_named_by (set tables place now) (least_named 1 port mappers) ≡ table_named_by tables (least_named 1 port mappers)
+          → attached_by mappers (set tables place now) port ≡ attached_by mappers tables port
+      same_tables least mapped =
+          rw (least, mapped, places_stay tables place before now was number (option_or (least_named 2 port tables) (table_named_by tables (least_named 1 port mappers)))) refl
+
+-- what is attached to a port stays, where the port kept it and the namings give the same
+stays_attached : (e e' : Entities) (mappers tables : List Naming) (port : ℕ) (old new : List Attached) → map mapper_naming e'.mappers ≡ mappers → map table_naming e'.vlans ≡ tables
+    → AreAttachedOrKept e' old new → IsAttachedIn e old port → attached_by mappers tables port ≡ attached_by (map mapper_naming e.mappers) (map table_naming e.vlans) port
+    → IsAttachedIn e' new port
+stays_attached e e' mappers tables port old new of_mappers of_tables others was same =
+    let still : attached_at e port ≡ attached_at e' port = attached_named e port ∙ sym same ∙ rw (← of_mappers, ← of_tables) (sym (attached_named e' port)) in
+    or_kept_right e' old new port (others port) (was ∙ ap Some still)
+
+-- where the naming of a mapper changed, and the ports that it points to, before and now, have what is attached to them
+pub mapper_attached : (e e' : Entities) (place : ℕ) (before now : Naming) (old new : List Attached) → slice_get (map mapper_naming e.mappers) place ≡ Some before
+    → now.number ≡ before.number → map mapper_naming e'.mappers ≡ set (map mapper_naming e.mappers) place now → e'.vlans ≡ e.vlans
+    → AreAttached e old → AreAttachedOrKept e' old new → (before.kind ≡ 1 → IsAttachedIn e' new before.to) → (now.kind ≡ 1 → IsAttachedIn e' new now.to)
+    → AreAttached e' new
+mapper_attached e e' place before now old new was number mappers tables attached others before_at now_at port fits =
+    mapper_moved (map mapper_naming e.mappers) (map table_naming e.vlans) place before now port (IsAttachedIn e' new port) was number
+    (λ kind to. rw (← to) (before_at kind))
+    (λ kind to. rw (← to) (now_at kind))
+    (λ same. stays_attached e e' _ _ port old new mappers (ap (map table_naming) tables) others (attached port fits) same)
+
+-- the same of a table
+pub table_attached : (e e' : Entities) (place : ℕ) (before now : Naming) (old new : List Attached) → slice_get (map table_naming e.vlans) place ≡ Some before
+    → now.number ≡ before.number → map table_naming e'.vlans ≡ set (map table_naming e.vlans) place now → e'.mappers ≡ e.mappers
+    → AreAttached e old → AreAttachedOrKept e' old new → AreOfTable e' (map mapper_naming e.mappers) before new → AreOfTable e' (map mapper_naming e.mappers) now new
+    → AreAttached e' new
+table_attached e e' place before now old new was number tables mappers attached others before_at now_at port fits =
+    table_moved (map mapper_naming e.mappers) (map table_naming e.vlans) place before now port (IsAttachedIn e' new port) was number
+    (λ kind to. rw (← to) (before_at.own kind))
+    (λ kind to. rw (← to) (now_at.own kind))
+    (λ k mapper held to kind of. rw (← to) (before_at.mapped k mapper held kind of))
+    (λ k mapper held to kind of. rw (← to) (now_at.mapped k mapper held kind of))
+    (λ same. stays_attached e e' _ _ port old new (ap (map mapper_naming) mappers) tables others (attached port fits) same)
+
+-- what is attached to the ports of a table stays
+pub of_table_kept : (e : Entities) (mappers : List Naming) (table : Naming) (old new : List Attached) → AreAttachedOrKept e old new → AreOfTable e mappers table old
+    → AreOfTable e mappers table new
+of_table_kept e mappers table old new others at = record {
+  own = λ kind. or_kept_right e old new table.to (others table.to) (at.own kind);
+  mapped = λ place mapper held kind of. or_kept_right e old new mapper.to (others mapper.to) (at.mapped place mapper held kind of);
+}
+
+-- one after another
+pub or_kept_both : (e : Entities) (old between new : List Attached) → AreAttachedOrKept e old between → AreAttachedOrKept e between new → AreAttachedOrKept e old new
+or_kept_both e old between new first second port = elim (second port) [
+  | inl at ↦ inl at
+  | inr kept ↦ elim (first port) [
+    | inl at ↦ inl (kept ∙ at)
+    | inr kept_first ↦ inr (kept ∙ kept_first)
+  ]
+]

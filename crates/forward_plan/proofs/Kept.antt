@@ -33,7 +33,7 @@ same_number (Some x) None is = absurd (true≢false (sym is))
 same_number (Some x) (Some y) is = ap Some (eqb-true x y is)
 
 -- numbers that are found to differ
-other_number : (a b : Option ℕ) → option_eq nat_eq a b ≡ false → a ≢ b
+pub other_number : (a b : Option ℕ) → option_eq nat_eq a b ≡ false → a ≢ b
 other_number None None is same = absurd (true≢false is)
 other_number None (Some y) is same = absurd (none-some y same)
 other_number (Some x) None is same = absurd (none-some x (sym same))

@@ -2,3 +2,4 @@ pub mod Attachments
 pub mod Forgotten
 pub mod Kept
 pub mod Names
+pub mod Replaced

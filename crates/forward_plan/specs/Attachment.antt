@@ -53,3 +53,15 @@ pub record AreNamings (e : Entities) (names : Namings) : Type 0 where
 pub record ArePorts (e : Entities) (ports : Ports) : Type 0 where
   pub attached : AreAttached e ports.attached.items
   pub names : AreNamings e ports.names
+
+-- ---- the ports that one table is attached to
+
+-- a mapper has a number, and points to a port
+pub record IsMapperOfPort (number : ℕ) (mapper : Naming) : Type 0 where
+  pub numbered : mapper.number ≡ number
+  pub of_port : mapper.kind ≡ 1
+
+-- the port that a table points to has what is attached to it; or those ports have it that the mapper points to to which it points
+pub record AreOfTable (e : Entities) (mappers : List Naming) (table : Naming) (ports : List Attached) : Type 0 where
+  pub own : table.kind ≡ 2 → IsAttachedIn e ports table.to
+  pub mapped : (place : ℕ) (mapper : Naming) → slice_get mappers place ≡ Some mapper → table.kind ≡ 1 → IsMapperOfPort table.to mapper → IsAttachedIn e ports mapper.to

@@ -1,3 +1,4 @@
 pub mod Attachment
 pub mod Parts
 pub mod Compiled
+pub mod Setting

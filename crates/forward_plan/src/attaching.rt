@@ -2,7 +2,7 @@
 ghost use Rattle.std.specs.Prelude.{◌≡◌, ◌⊎◌, ℕ, Some, length, slice_get};
 ghost use Rattle.mib_state.specs.Entities.{nothing};
 ghost use Rattle.forward_plan.specs.declared.naming.Naming.{Naming};
-ghost use Rattle.forward_plan.specs.Attachment.{AreAttachedOrKept, IsAttachedIn};
+ghost use Rattle.forward_plan.specs.Attachment.{AreAttachedOrKept, AreOfTable, IsAttachedIn, IsMapperOfPort};
 
 use crate::attached::Attached;
 use crate::naming::{Naming, Namings};
@@ -13,13 +13,17 @@ use std::alloc::{AllocError, Global};
 /// The TP type of a mapper whose TP pointer is to a PPTP Ethernet UNI (ITU-T G.988, clause 9.3.10).
 const TP_TYPE_UNI: u8 = 1;
 
+/// The association type of a table whose pointer is to a mapper (ITU-T G.988, clause 9.3.13).
+const ASSOCIATION_MAPPER: u8 = 1;
+
 /// The association type of a table whose pointer is to a PPTP Ethernet UNI (ITU-T G.988, clause 9.3.13).
 const ASSOCIATION_UNI: u8 = 2;
 
 impl Ports {
-    ghost use Rattle.std.specs.Prelude.{◌≡◌, IfOk};
+    ghost use Rattle.std.specs.Prelude.{◌≡◌, IfOk, Some, option_map, slice_get};
     ghost use Rattle.mib_state.specs.Entities.{Entities, nothing};
-    ghost use Rattle.forward_plan.specs.Attachment.{AreAttached, AreNamings, ArePorts, attached_at};
+    ghost use Rattle.forward_plan.specs.Attachment.{AreAttached, AreNamings, ArePorts, attached_at, mapper_naming, table_naming};
+    ghost use Rattle.forward_plan.specs.Setting.{IsSetAt};
 
     /// The ports when there is no entity, with room for what there may be.
     pub(crate) fn new(alloc: Global) -> Result<Self, AllocError>
@@ -67,6 +71,36 @@ impl Ports {
         self.attach_named(mib);
     }
 
+    /// Attaches what the entities say, of which the table at a place was set and says something now, to the ports that it is
+    /// attached to now, or was before: where it says the same as before, all stays. It takes no memory.
+    pub(crate) fn set_table(&mut self, mib: &Mib, place: usize, now: Naming)
+        requires changed { (e : Entities) × IsSetAt place e.vlans mib.now.entities.vlans × (mib.now.entities.mappers ≡ e.mappers) × ArePorts e self.old }
+        requires now { Some now ≡ option_map table_naming (slice_get mib.now.entities.vlans place) }
+        ensures { ArePorts mib.now.entities self.new }
+    {
+        let before = self.names.tables[place];
+        if now.is(&before) {
+            return;
+        }
+        self.names.tables[place] = now;
+        attach_table(&mut self.attached, &before, &self.names.mappers, mib);
+        attach_table(&mut self.attached, &now, &self.names.mappers, mib);
+    }
+
+    /// The same of the mapper at a place.
+    pub(crate) fn set_mapper(&mut self, mib: &Mib, place: usize, now: Naming)
+        requires changed { (e : Entities) × IsSetAt place e.mappers mib.now.entities.mappers × (mib.now.entities.vlans ≡ e.vlans) × ArePorts e self.old }
+        requires now { Some now ≡ option_map mapper_naming (slice_get mib.now.entities.mappers place) }
+        ensures { ArePorts mib.now.entities self.new }
+    {
+        let before = self.names.mappers[place];
+        if now.is(&before) {
+            return;
+        }
+        self.names.mappers[place] = now;
+        attach(&mut self.attached, &[before, now], TP_TYPE_UNI, mib);
+    }
+
     /// Attaches to each port that a mapper or a table points to what the entities say.
     fn attach_named(&mut self, mib: &Mib)
         requires ports { AreAttached nothing self.old.attached.items }
@@ -88,6 +122,35 @@ fn attach(ports: &mut [Attached], names: &[Naming], kind: u8, mib: &Mib)
     for naming in names {
         if naming.kind == kind {
             ports[usize::from(naming.to)] = Attached::of(mib, naming.to);
+        }
+    }
+}
+
+/// Attaches to each port that a table is attached to what the entities say: the one that it points to, or those of the mapper
+/// that it points to.
+fn attach_table(ports: &mut [Attached], table: &Naming, mappers: &[Naming], mib: &Mib)
+    requires { length ports.old ≡ 65536 }
+    ensures len { length ports.new ≡ 65536 }
+    ensures named { AreOfTable mib.now.entities mappers.now table.now ports.new }
+    ensures others { AreAttachedOrKept mib.now.entities ports.old ports.new }
+{
+    match table.kind {
+        ASSOCIATION_UNI => ports[usize::from(table.to)] = Attached::of(mib, table.to),
+        ASSOCIATION_MAPPER => attach_mapped(ports, table.to, mappers, mib),
+        _ => {}
+    }
+}
+
+/// Attaches to each port that the mapper of a number points to what the entities say.
+fn attach_mapped(ports: &mut [Attached], number: u16, mappers: &[Naming], mib: &Mib)
+    requires { length ports.old ≡ 65536 }
+    ensures len { length ports.new ≡ 65536 }
+    ensures named { (place : ℕ) (mapper : Naming) → slice_get mappers.now place ≡ Some mapper → IsMapperOfPort number mapper → IsAttachedIn mib.now.entities ports.new mapper.to }
+    ensures others { AreAttachedOrKept mib.now.entities ports.old ports.new }
+{
+    for mapper in mappers {
+        if mapper.kind == TP_TYPE_UNI && mapper.number == number {
+            ports[usize::from(mapper.to)] = Attached::of(mib, mapper.to);
         }
     }
 }

@@ -101,7 +101,7 @@ impl Part<CompiledTable> {
     }
 
     /// Becomes the part of a table, and compiles what differs from the one that it was of.
-    fn follow(&mut self, number: u16, vlan: &VlanConfig)
+    pub(crate) fn follow(&mut self, number: u16, vlan: &VlanConfig)
         ensures number { self.new.of ≡ Some number }
         ensures table { (n : ℕ) → IsTable (vlan_instance n vlan.now) self.new.compiled }
     {
@@ -116,7 +116,7 @@ impl Part<Routes> {
     ghost use Rattle.forward_plan.specs.Parts.{IsMapper};
 
     /// Becomes the part of a mapper.
-    fn compile(&mut self, number: u16, mib: &Mib, mapper: &Mapper)
+    pub(crate) fn compile(&mut self, number: u16, mib: &Mib, mapper: &Mapper)
         ensures number { self.new.of ≡ Some number }
         ensures routes { (n : ℕ) → IsMapper mib.now.entities (mapper_instance n mapper.now) self.new.compiled }
     {

@@ -20,6 +20,7 @@ mod naming;
 mod part;
 mod plan;
 mod ports;
+mod setting;
 
 pub use frame_meaning::{NoMemory, OutFrame, Reason, Verdict, plain_walk};
 pub use live::Live;

@@ -6,7 +6,7 @@ ghost use Rattle.mib_state.specs.Step.{left};
 use crate::plan::Plan;
 use frame_meaning::Verdict;
 use mib_state::{Mib, Touch};
-use omci_msg::Request;
+use omci_msg::{Action, Request};
 use port_plan::PortPlan;
 use std::alloc::{AllocError, Global};
 use std::marker::Model;
@@ -49,14 +49,19 @@ impl Live {
     }
 
     /// Carries a request out, as a step of the entities does. Compiled again is only what read the instance that changed: its
-    /// table, the routes that lead by it, and what is attached to ports where a table or a mapper came, went or points elsewhere.
-    /// A request that isn't accepted changes no entity. It takes no memory.
+    /// table, or the routes that lead by it. What is attached is looked up again for those ports alone that a table or a mapper
+    /// is attached to that was set and points elsewhere, or was before; and where one came or went, so that others take other
+    /// places, for each port that a table or a mapper points to or pointed to. A request that isn't accepted changes no entity.
+    /// It takes no memory.
     pub fn apply(&mut self, request: &Request)
         ensures { self.new ≡ left request.now.action self.old request.now }
     {
         let (_, touch) = self.mib.step_touching(request);
         self.rebuilt = match touch {
             Touch::Nothing => (0, 0),
+            Touch::One(class, instance) if matches!(request.action, Action::Set) => {
+                self.plan.set(&self.mib, class, instance)
+            }
             Touch::One(class, instance) => self.plan.follow(&self.mib, class, instance),
             Touch::All => self.plan.compile(&self.mib),
         };

@@ -123,8 +123,9 @@ fn delete(class: u16, instance: u16) -> Request {
     request(Action::Delete, class, instance, &[])
 }
 
-/// A table is compiled where it was set or comes, and moves where another comes before it.
-fn table_steps() -> [Step; 9] {
+/// A table is compiled where it was set or comes, and moves where another comes before it. One that is set to point to another
+/// port leaves the first.
+fn table_steps() -> [Step; 12] {
     [
         (tagging(), (1, 0), TAG),
         (create_table(0x0700, 2, 257), (1, 0), PLAIN),
@@ -139,6 +140,9 @@ fn table_steps() -> [Step; 9] {
         (create_table(0x0701, 2, 258), (0, 0), TAG),
         (delete(171, 0x0701), (0, 0), PLAIN),
         (create_table(0x0701, 2, 257), (1, 0), PLAIN),
+        (tagging(), (1, 0), TAG),
+        (set(171, 0x0701, 0x0200, &[1, 2]), (1, 0), PLAIN),
+        (set(171, 0x0701, 0x0200, &[1, 1]), (1, 0), TAG),
     ]
 }
 

@@ -29,21 +29,21 @@ impl Naming {
     }
 
     /// What a mapper says.
-    fn of_mapper(number: u16, mapper: &Mapper) -> Self
+    pub(crate) fn of_mapper(number: u16, mapper: &Mapper) -> Self
         ensures { result ≡ mapper_naming (mapper_instance number mapper.now) }
     {
         Naming::new(number, mapper.tp_type, mapper.tp_pointer)
     }
 
     /// Whether another is the same.
-    fn is(&self, other: &Naming) -> bool
+    pub(crate) fn is(&self, other: &Naming) -> bool
         ensures { IsTrue result ↔ (self.now ≡ other.now) }
     {
         self.number == other.number && self.kind == other.kind && self.to == other.to
     }
 
     /// What a table says.
-    fn of_table(number: u16, table: &VlanConfig) -> Self
+    pub(crate) fn of_table(number: u16, table: &VlanConfig) -> Self
         ensures { result ≡ table_naming (vlan_instance number table.now) }
     {
         Naming::new(number, table.association, table.pointer)

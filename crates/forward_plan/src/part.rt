@@ -1,5 +1,5 @@
 //! What is compiled of one instance.
-ghost use Rattle.std.specs.Prelude.{◌≡◌, ◌≢◌, ◌≤◌, ◌<◌, ℕ, IfNone, IfSome, None, Some, true, length, slice_get};
+ghost use Rattle.std.specs.Prelude.{◌≡◌, ◌≢◌, ◌≤◌, ◌<◌, ℕ, IfNone, IfSome, None, Some, true, length, map, slice_get};
 ghost use Rattle.forward_plan.specs.Parts.{AreForgotten, AreMoved, IsPartOf, NoneIsOf};
 
 /// What is compiled of an instance, and the instance's number. Without one it is of none, and stands ready.
@@ -43,7 +43,8 @@ fn position<T>(parts: &[Part<T>], from: usize, of: Option<u16>) -> Option<usize>
 
 /// Forgets of which instance the part of an instance is.
 pub(crate) fn forget<T>(parts: &mut [Part<T>], number: u16)
-    ensures { AreForgotten (λ part. part.of ≢ Some number) parts.old parts.new }
+    ensures forgotten { AreForgotten (λ part. part.of ≢ Some number) parts.old parts.new }
+    ensures compiled { map (λ part. part.compiled) parts.new ≡ map (λ part. part.compiled) parts.old }
 {
     for place in 0..parts.len() {
         if parts[place].of == Some(number) {

@@ -9,9 +9,9 @@ follow_mappers-requires-clause-right c =
     let new = c.args.mib.now.entities in
     let mappers = c.args.self.now.mappers in
     let parts = c.forget-in-130.new.parts in
-    let len : length parts ≡ 32 = omega (arith, c.forget-in-130.ensures.len, c.deref_mut-in-130.ensures.len, c.args.self.now.for_mappers) in
+    let len : length parts ≡ 32 = omega (arith, c.forget-in-130.ensures.forgotten.len, c.deref_mut-in-130.ensures.len, c.args.self.now.for_mappers) in
     let but_one : AreSameButOne 130 c.args.instance e new = rw c.in-130.is at same in
-    let forgotten = rw c.deref_mut-in-130.ensures.value at c.forget-in-130.ensures in
+    let forgotten = rw c.deref_mut-in-130.ensures.value at c.forget-in-130.ensures.forgotten in
     rw (c.deref_mut-in-130-2.ensures.value, written_whole parts mappers.items mappers.len 32 c.args.self.now.for_mappers len)
     (mappers_stay e new c.args.instance mappers.items parts but_one forgotten was.of_mappers.right)
 
