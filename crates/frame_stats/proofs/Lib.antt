@@ -1,0 +1,3 @@
+mod FigureSums
+mod PortSums
+mod RunSums

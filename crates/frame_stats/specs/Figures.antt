@@ -1,0 +1,112 @@
+-- What is counted of the verdicts on frames.
+use Rattle.std.specs.Prelude.{◌≡◌, ◌≢◌, ◌<◌, ◌≤◌, ◌^◌, ℕ, ◌+◌, ◌-◌, ◌==◌, Bool, false, List, length, take, filter, slice_index, unwrap_or, Some, if◌then◌else◌}
+use Rattle.std.specs.List.{sum_by}
+use Rattle.std.specs.Ordering.{nat_cmp}
+use Rattle.std.specs.BTreeMap.{BTreeMap, get}
+use Rattle.tag_view.specs.Frame.{spelled}
+use Rattle.frame_meaning.specs.declared.reason.Reason.{Reason}
+use Rattle.frame_meaning.specs.declared.verdict.Verdict.{Verdict}
+use Rattle.frame_meaning.specs.declared.verdict.Verdict.TheVariants.{Forward, Drop}
+use Rattle.frame_meaning.specs.Reason.{number_of_reason}
+use Rattle.frame_stats.specs.declared.counts.Counts.{Counts}
+
+-- the frames, the bytes that leave, the frames that are dropped for a reason, and those that leave by a GEM port
+pub data Figure : Type 0 where
+  Frames : Figure
+  Bytes : Figure
+  DropsFor : (reason : Reason) → Figure
+  FramesTo : (port : ℕ) → Figure
+
+-- ---- of verdicts
+
+-- the bytes that leave with a verdict
+abbrev pub bytes_leaving : Verdict → ℕ
+bytes_leaving (Forward gem frame) = length (spelled frame.addresses frame.tags frame.rest)
+bytes_leaving (Drop reason) = 0
+
+abbrev pub is_drop_for : Reason → Verdict → Bool
+is_drop_for reason (Forward gem frame) = false
+is_drop_for reason (Drop found) = number_of_reason found == number_of_reason reason
+
+abbrev pub leaves_by_port : ℕ → Verdict → Bool
+leaves_by_port port (Forward gem frame) = gem == port
+leaves_by_port port (Drop reason) = false
+
+-- a figure of a list of verdicts
+abbrev pub figure : Figure → List Verdict → ℕ
+figure Frames verdicts = length verdicts
+figure Bytes verdicts = sum_by bytes_leaving verdicts
+figure (DropsFor reason) verdicts = length (filter (is_drop_for reason) verdicts)
+figure (FramesTo port) verdicts = length (filter (leaves_by_port port) verdicts)
+
+-- what frames of this length that leave by this port add to a figure, one by one
+abbrev pub leaving : Figure → ℕ → ℕ → ℕ
+leaving Frames gem len = 1
+leaving Bytes gem len = len
+leaving (DropsFor reason) gem len = 0
+leaving (FramesTo port) gem len = if gem == port then 1 else 0
+
+-- what a drop adds
+abbrev pub dropping : Figure → Reason → ℕ
+dropping Frames found = 1
+dropping Bytes found = 0
+dropping (DropsFor reason) found = if number_of_reason found == number_of_reason reason then 1 else 0
+dropping (FramesTo port) found = 0
+
+-- what a verdict adds
+abbrev pub weight : Figure → Verdict → ℕ
+weight f (Forward gem frame) = leaving f gem (length (spelled frame.addresses frame.tags frame.rest))
+weight f (Drop found) = dropping f found
+
+-- ---- of counts
+
+-- the count of a GEM port, 0 where it is absent
+abbrev pub at_port : BTreeMap ℕ ℕ → ℕ → ℕ
+at_port ports port = unwrap_or (get nat_cmp ports port) 0
+
+-- the figure that counts show
+abbrev pub counted : Counts → Figure → ℕ
+counted c Frames = c.frames
+counted c Bytes = c.bytes
+counted c (DropsFor reason) = slice_index c.drops (number_of_reason reason - 1)
+counted c (FramesTo port) = at_port c.ports port
+
+-- no entry is 0
+abbrev pub HasNoZeros : BTreeMap ℕ ℕ → Type 0
+HasNoZeros ports = (port : ℕ) → get nat_cmp ports port ≢ Some 0
+
+-- these counts are those of the verdicts
+pub record AreCountsOf (verdicts : List Verdict) (c : Counts) : Type 0 where
+  pub figures : (f : Figure) → counted c f ≡ figure f verdicts
+  pub no_zeros : HasNoZeros c.ports
+
+-- a sum of the verdicts passes 64 bits
+abbrev pub SomePasses : List Verdict → Type 0
+SomePasses verdicts = (f : Figure) × (2 ^ 64 ≤ figure f verdicts)
+
+-- the verdict at this place is the first of its GEM port, and no sum up to it passes 64 bits
+pub record NamesPort (verdicts : List Verdict) (place : ℕ) : Type 0 where
+  pub inside : place < length verdicts
+  pub port : ℕ
+  pub first : figure (FramesTo port) (take place verdicts) ≡ 0
+  pub named : figure (FramesTo port) (take (place + 1) verdicts) ≡ 1
+  pub fits : (f : Figure) → figure f (take (place + 1) verdicts) < 2 ^ 64
+
+-- ---- of two counts
+
+-- these are the sums of two counts
+pub record AreSums (a b c : Counts) : Type 0 where
+  pub figures : (f : Figure) → counted c f ≡ counted a f + counted b f
+  pub no_zeros : HasNoZeros c.ports
+
+-- a sum of two counts passes 64 bits
+abbrev pub SomeSumPasses : Counts → Counts → Type 0
+SomeSumPasses a b = (f : Figure) × (2 ^ 64 ≤ counted a f + counted b f)
+
+-- no sum that the second has a part in passes 64 bits
+abbrev pub SumsFit : Counts → Counts → Type 0
+SumsFit a b = (f : Figure) → 0 < counted b f → counted a f + counted b f < 2 ^ 64
+
+-- no sum of two counts passes 64 bits
+abbrev pub AllSumsFit : Counts → Counts → Type 0
+AllSumsFit a b = (f : Figure) → counted a f + counted b f < 2 ^ 64

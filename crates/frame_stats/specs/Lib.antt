@@ -1,0 +1,5 @@
+pub mod Figures
+pub mod Runs
+pub mod Tallies
+pub mod Books
+pub mod Faults

@@ -1,0 +1,28 @@
+//! Exact counts of the verdicts on frames, and a book of them with a part for each lane.
+//!
+//! **The figures** are one definition, `specs/Figures.antt`: of a list of verdicts its length, the bytes that leave, and how many
+//! verdicts are a drop for each reason and leave by each GEM port. [`count_of`] gives all of them. Every claim about counts is
+//! made figure by figure, where a GEM port that is absent counts 0.
+//!
+//! **A count per port costs little.** A map entry is touched only where the port changes: the frames of a port gather in one of
+//! 16 places, which its number chooses, and go to the map when another port takes that place, and at the end. An entry is made
+//! at the first frame of its port, so want of memory comes there or nowhere.
+//!
+//! **A book** keeps a part for each lane and their total. Its type says that the total is the sum of the parts, so whoever holds
+//! the lock round it finds it so. An addition is made aside and then put in place, so a refused one changes nothing.
+#![tactic(auto)]
+
+mod book;
+mod count;
+mod counts;
+mod fault;
+mod ports;
+mod run;
+mod sums;
+mod tally;
+
+pub use book::StatBook;
+pub use count::count_of;
+pub use counts::Counts;
+pub use fault::{CountFault, StatFault};
+pub use sums::counts_sum;

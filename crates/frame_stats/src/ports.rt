@@ -1,0 +1,65 @@
+//! Frames of GEM ports, in a map.
+ghost use Rattle.std.specs.Prelude.{◌≡◌, ◌+◌, ◌≤◌, ◌<◌, ◌^◌, ◌==◌, ℕ, OnOk, OnErr, IsErrOf, IsSome, MatchBool, if◌then◌else◌};
+ghost use Rattle.std.specs.Ordering.{nat_cmp};
+ghost use Rattle.std.specs.BTreeMap.{get, IsUnchanged};
+ghost use Rattle.frame_stats.specs.Figures.{at_port, HasNoZeros};
+
+use crate::fault::CountFault;
+use std::collections::BTreeMap;
+
+/// Adds frames of a port. Only the first of a port take memory.
+#[inline(never)]
+pub(crate) fn add_frames(
+    ports: &mut BTreeMap<u16, u64>,
+    gem: u16,
+    frames: u64,
+) -> Result<(), CountFault>
+    ensures added { OnOk result ((port : ℕ) → at_port ports.new port ≡ at_port ports.old port + (if gem == port then frames else 0)) }
+    ensures full { IsErrOf result CountFault.CountFull → 2 ^ 64 ≤ at_port ports.old gem + frames }
+    ensures absent { IsErrOf result CountFault.NoMemory → (0 < frames) × (get nat_cmp ports.old gem ≡ None) }
+    ensures stay { (port : ℕ) → IsSome (get nat_cmp ports.old port) → IsSome (get nat_cmp ports.new port) }
+    ensures there { OnOk result (0 < frames → IsSome (get nat_cmp ports.new gem)) }
+    ensures no_zeros { HasNoZeros ports.old → HasNoZeros ports.new }
+{
+    if frames == 0 {
+        return Ok(());
+    }
+    let before = ports.get(&gem).copied().unwrap_or(0);
+    let Some(sum) = before.checked_add(frames) else {
+        return Err(CountFault::CountFull);
+    };
+    let Ok(_) = ports.insert(gem, sum) else {
+        return Err(CountFault::NoMemory);
+    };
+    Ok(())
+}
+
+/// Adds all frames of other ports.
+pub(crate) fn add_all(
+    ports: &mut BTreeMap<u16, u64>,
+    others: &BTreeMap<u16, u64>,
+) -> Result<(), CountFault>
+    ensures added { OnOk result ((port : ℕ) → at_port ports.new port ≡ at_port ports.old port + at_port others.now port) }
+    ensures full { IsErrOf result CountFault.CountFull → (port : ℕ) × (2 ^ 64 ≤ at_port ports.old port + at_port others.now port) }
+    ensures no_zeros { HasNoZeros ports.old → HasNoZeros ports.new }
+{
+    for (gem, frames) in others {
+        if let Err(fault) = add_frames(ports, *gem, *frames) {
+            return Err(fault);
+        }
+    }
+    Ok(())
+}
+
+/// Whether the sums of both have 64 bits.
+pub(crate) fn ports_fit(ports: &BTreeMap<u16, u64>, others: &BTreeMap<u16, u64>) -> bool
+    ensures { MatchBool result ((port : ℕ) → 0 < at_port others.now port → at_port ports.now port + at_port others.now port < 2 ^ 64) ((port : ℕ) × (2 ^ 64 ≤ at_port ports.now port + at_port others.now port)) }
+{
+    for (gem, frames) in others {
+        let before = ports.get(gem).copied().unwrap_or(0);
+        let Some(_) = before.checked_add(*frames) else {
+            return false;
+        };
+    }
+    true
+}

@@ -1,0 +1,60 @@
+//! Sums of counts.
+ghost use Rattle.std.specs.Prelude.{◌≡◌, ◌+◌, ◌≤◌, ◌<◌, ◌^◌, ℕ, IfOk, OnOk, IsErrOf, MatchOption, slice_index};
+ghost use Rattle.frame_stats.specs.Figures.{AreSums, SomeSumPasses, SumsFit};
+
+use crate::counts::Counts;
+use crate::fault::CountFault;
+use crate::ports::{add_all, ports_fit};
+use std::alloc::Global;
+use std::collections::BTreeMap;
+
+/// The sums of both, figure by figure, without an entry for a GEM port that has no frames. It takes memory for the entries.
+///
+/// [`CountFault::CountFull`] where a sum passes 64 bits, which is looked at first; [`CountFault::NoMemory`] where there is no
+/// memory for an entry.
+pub fn counts_sum(alloc: Global, a: &Counts, b: &Counts) -> Result<Counts, CountFault>
+    ensures sums { IfOk result (λ c. AreSums a.now b.now c) }
+    ensures fits { OnOk result (SumsFit a.now b.now) }
+    ensures full { IsErrOf result CountFault.CountFull → SomeSumPasses a.now b.now }
+    ensures memory { IsErrOf result CountFault.NoMemory → SumsFit a.now b.now }
+{
+    let Some(frames) = a.frames.checked_add(b.frames) else {
+        return Err(CountFault::CountFull);
+    };
+    let Some(bytes) = a.bytes.checked_add(b.bytes) else {
+        return Err(CountFault::CountFull);
+    };
+    let Some(drops) = drops_sum(&a.drops, &b.drops) else {
+        return Err(CountFault::CountFull);
+    };
+    if !ports_fit(&a.ports, &b.ports) {
+        return Err(CountFault::CountFull);
+    }
+    let mut ports = BTreeMap::new(alloc);
+    if let Err(fault) = add_all(&mut ports, &a.ports) {
+        return Err(fault);
+    }
+    if let Err(fault) = add_all(&mut ports, &b.ports) {
+        return Err(fault);
+    }
+    Ok(Counts {
+        frames,
+        bytes,
+        drops,
+        ports,
+    })
+}
+
+/// The sums place by place.
+fn drops_sum(a: &[u64; 9], b: &[u64; 9]) -> Option<[u64; 9]>
+    ensures { MatchOption result ((k : ℕ) × (k < 9) × (2 ^ 64 ≤ slice_index a.now k + slice_index b.now k)) (λ s. (k : ℕ) → k < 9 → (slice_index s k ≡ slice_index a.now k + slice_index b.now k) × (slice_index a.now k + slice_index b.now k < 2 ^ 64)) }
+{
+    let mut sums = [0; 9];
+    for k in 0..9 {
+        match a[k].checked_add(b[k]) {
+            Some(sum) => sums[k] = sum,
+            None => return None,
+        }
+    }
+    Some(sums)
+}
