@@ -8,7 +8,8 @@ use Rattle.frame_meaning.specs.declared.reason.Reason.TheVariants.{Runt, CutTag,
 use Rattle.frame_meaning.specs.declared.verdict.Verdict.{Verdict}
 use Rattle.frame_meaning.specs.declared.verdict.Verdict.TheVariants.{Forward, Drop}
 use Rattle.frame_meaning.specs.Reason.{number_of_reason}
-use Rattle.frame_stats.specs.Figures.{Figure, Frames, Bytes, DropsFor, FramesTo, bytes_leaving, is_drop_for, leaves_by_port, weight, figure, NamesPort}
+use Rattle.frame_stats.specs.Tallies.{weight}
+use Rattle.frame_stats.specs.Figures.{Figure, Frames, Bytes, DropsFor, FramesTo, bytes_leaving, is_drop_for, leaves_by_port, figure, NamesPort}
 
 -- ---- figures are sums of weights
 

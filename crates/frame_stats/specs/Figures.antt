@@ -1,5 +1,5 @@
 -- What is counted of the verdicts on frames.
-use Rattle.std.specs.Prelude.{◌≡◌, ◌≢◌, ◌<◌, ◌≤◌, ◌^◌, ℕ, ◌+◌, ◌-◌, ◌==◌, Bool, false, List, length, take, filter, slice_index, unwrap_or, Some, if◌then◌else◌}
+use Rattle.std.specs.Prelude.{◌≡◌, ◌≢◌, ◌<◌, ◌≤◌, ◌^◌, ℕ, ◌+◌, ◌-◌, ◌==◌, Bool, false, List, length, take, filter, slice_index, unwrap_or, Some}
 use Rattle.std.specs.List.{sum_by}
 use Rattle.std.specs.Ordering.{nat_cmp}
 use Rattle.std.specs.BTreeMap.{BTreeMap, get}
@@ -38,25 +38,6 @@ figure Frames verdicts = length verdicts
 figure Bytes verdicts = sum_by bytes_leaving verdicts
 figure (DropsFor reason) verdicts = length (filter (is_drop_for reason) verdicts)
 figure (FramesTo port) verdicts = length (filter (leaves_by_port port) verdicts)
-
--- what frames of this length that leave by this port add to a figure, one by one
-abbrev pub leaving : Figure → ℕ → ℕ → ℕ
-leaving Frames gem len = 1
-leaving Bytes gem len = len
-leaving (DropsFor reason) gem len = 0
-leaving (FramesTo port) gem len = if gem == port then 1 else 0
-
--- what a drop adds
-abbrev pub dropping : Figure → Reason → ℕ
-dropping Frames found = 1
-dropping Bytes found = 0
-dropping (DropsFor reason) found = if number_of_reason found == number_of_reason reason then 1 else 0
-dropping (FramesTo port) found = 0
-
--- what a verdict adds
-abbrev pub weight : Figure → Verdict → ℕ
-weight f (Forward gem frame) = leaving f gem (length (spelled frame.addresses frame.tags frame.rest))
-weight f (Drop found) = dropping f found
 
 -- ---- of counts
 

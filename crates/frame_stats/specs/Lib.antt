@@ -3,3 +3,4 @@ pub mod Runs
 pub mod Tallies
 pub mod Books
 pub mod Faults
+pub mod Lanes

@@ -26,8 +26,8 @@ pub(crate) struct Tally {
 
 impl Tally {
     ghost use Rattle.std.specs.Prelude.{◌<◌, ◌==◌, IfOk, if◌then◌else◌};
-    ghost use Rattle.frame_stats.specs.Figures.{Figure, Frames, Bytes, FramesTo, leaving, dropping, weight, counted};
-    ghost use Rattle.frame_stats.specs.Tallies.{tallied, AddsFrame};
+    ghost use Rattle.frame_stats.specs.Figures.{Figure, Frames, Bytes, FramesTo, counted};
+    ghost use Rattle.frame_stats.specs.Tallies.{AddsFrame, dropping, leaving, tallied, weight};
 
     pub(crate) fn new(alloc: Global) -> Tally
         ensures { (f : Figure) → tallied result f ≡ 0 }
