@@ -24,14 +24,33 @@ pub(crate) fn add_frames(
     if frames == 0 {
         return Ok(());
     }
-    let before = ports.get(&gem).copied().unwrap_or(0);
-    let Some(sum) = before.checked_add(frames) else {
-        return Err(CountFault::CountFull);
-    };
-    let Ok(_) = ports.insert(gem, sum) else {
+    if let Some(before) = ports.get_mut(&gem) {
+        let Some(sum) = before.checked_add(frames) else {
+            return Err(CountFault::CountFull);
+        };
+        *before = sum;
+        return Ok(());
+    }
+    let Ok(_) = ports.insert(gem, frames) else {
         return Err(CountFault::NoMemory);
     };
     Ok(())
+}
+
+/// Adds one frame of a port, with one look at the map where it is the first.
+pub(crate) fn add_first(ports: &mut BTreeMap<u16, u64>, gem: u16) -> Result<(), CountFault>
+    ensures added { OnOk result ((port : ℕ) → at_port ports.new port ≡ at_port ports.old port + (if gem == port then 1 else 0)) }
+    ensures full { IsErrOf result CountFault.CountFull → 2 ^ 64 ≤ at_port ports.old gem + 1 }
+    ensures absent { IsErrOf result CountFault.NoMemory → get nat_cmp ports.old gem ≡ None }
+    ensures stay { (port : ℕ) → IsSome (get nat_cmp ports.old port) → IsSome (get nat_cmp ports.new port) }
+    ensures there { OnOk result (IsSome (get nat_cmp ports.new gem)) }
+    ensures no_zeros { HasNoZeros ports.old → HasNoZeros ports.new }
+{
+    match ports.insert(gem, 1) {
+        Ok(None) => Ok(()),
+        Ok(Some(before)) => add_frames(ports, gem, before),
+        Err(_) => Err(CountFault::NoMemory),
+    }
 }
 
 /// Adds all frames of other ports.

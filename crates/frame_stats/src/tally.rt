@@ -5,7 +5,7 @@ ghost use Rattle.frame_stats.specs.Runs.{in_runs, HaveEntries};
 
 use crate::counts::Counts;
 use crate::fault::CountFault;
-use crate::ports::add_frames;
+use crate::ports::{add_first, add_frames};
 use crate::run::{RUNS, Run, place_of};
 use frame_meaning::{Reason, Verdict};
 use std::alloc::Global;
@@ -133,7 +133,7 @@ impl Tally {
     {
         let place = place_of(gem);
         let ended = self.runs[place];
-        if let Err(fault) = add_frames(&mut self.ports, gem, 1) {
+        if let Err(fault) = add_first(&mut self.ports, gem) {
             return Err(fault);
         }
         if let Err(fault) = add_frames(&mut self.ports, ended.port, ended.frames) {

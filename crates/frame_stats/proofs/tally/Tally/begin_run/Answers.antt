@@ -4,7 +4,7 @@ use Rattle.frame_stats.proofs.tally.Tally.begin_run.Goals as goal
 
 pub returns-in-Err-clause-first : goal.returns-in-Err-clause-first
 returns-in-Err-clause-first c = λ is.
-    none_counted c.args.self.now.ports c.args.gem c.args.self.now.runs (c.in-Err.ensures.absent is).1 c.args.self.now.entries
+    none_counted c.args.self.now.ports c.args.gem c.args.self.now.runs (c.in-Err.ensures.absent is) c.args.self.now.entries
 
 pub returns-in-Err-add_frames-clause-first : goal.returns-in-Err-add_frames-clause-first
 returns-in-Err-add_frames-clause-first c = λ is.
