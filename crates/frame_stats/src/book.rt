@@ -18,7 +18,7 @@ pub struct StatBook {
 }
 
 impl StatBook {
-    ghost use Rattle.std.specs.Prelude.{◌≡◌, ◌+◌, ◌<◌, ◌≤◌, ◌↔◌, ℕ, IfOk, OnOk, OnErr, IsErrOf, IfSome, slice_get, All};
+    ghost use Rattle.std.specs.Prelude.{◌≡◌, ◌<◌, ◌≤◌, ◌↔◌, IfOk, OnOk, OnErr, IsErrOf, slice_get, All};
     ghost use Rattle.std.specs.Option.{option_copied};
     ghost use Rattle.frame_stats.specs.Books.{IsZero, IsMore, AddsTo, MayHave};
     ghost use Rattle.frame_stats.specs.Figures.{SomeSumPasses, AllSumsFit};

@@ -1,7 +1,7 @@
 //! Frames of GEM ports, in a map.
-ghost use Rattle.std.specs.Prelude.{◌≡◌, ◌+◌, ◌≤◌, ◌<◌, ◌^◌, ◌==◌, ℕ, OnOk, OnErr, IsErrOf, IsSome, MatchBool, if◌then◌else◌};
+ghost use Rattle.std.specs.Prelude.{◌≡◌, ◌+◌, ◌≤◌, ◌<◌, ◌^◌, ◌==◌, ℕ, OnOk, IsErrOf, IsSome, MatchBool, if◌then◌else◌};
 ghost use Rattle.std.specs.Ordering.{nat_cmp};
-ghost use Rattle.std.specs.BTreeMap.{get, IsUnchanged};
+ghost use Rattle.std.specs.BTreeMap.{get};
 ghost use Rattle.frame_stats.specs.Figures.{at_port, HasNoZeros};
 
 use crate::fault::CountFault;
