@@ -1,8 +1,8 @@
 -- Figures of more verdicts.
-use Rattle.std.proofs.Common.{◌≡◌, ℕ, ◌+◌, ◌<◌, ◌≤◌, ◌^◌, List, [], ◌∷◌, take, length, get_or, ap, arith, refl, Bool, true, false}
+use Rattle.std.proofs.Common.{◌≡◌, ℕ, ◌+◌, ◌<◌, ◌≤◌, ◌^◌, List, [], ◌∷◌, ◌++◌, take, length, get_or, ap, arith, refl, Bool, true, false}
 use Rattle.std.specs.Prelude.{cond, filter, Err, IsErrOf, zero, suc}
 use Rattle.std.specs.List.{sum_by}
-use Rattle.std.proofs.lemmas.List.Sums.{sum_by-cons, sum_by_more, sum_by_more_le, length-filter, count_by-le-length}
+use Rattle.std.proofs.lemmas.List.Sums.{sum_by-cons, sum_by-append, sum_by_more, sum_by_more_le, length-filter, count_by-le-length}
 use Rattle.frame_meaning.specs.declared.reason.Reason.{Reason}
 use Rattle.frame_meaning.specs.declared.reason.Reason.TheVariants.{Runt, CutTag, NoRule, RuleDiscard, NoMapper, NullPointer, NoInterwork, NoGem, Direction}
 use Rattle.frame_meaning.specs.declared.verdict.Verdict.{Verdict}
@@ -41,8 +41,13 @@ figure_is_sum f (v ∷ vs) =
     let more = sum_by-cons (weight f) v vs in
     omega (arith, this, rest, more)
 
-pub figure_of_none : (f : Figure) (vs : List Verdict) → figure f (take 0 vs) ≡ 0
-figure_of_none f vs = figure-none f
+pub figure-append : (f : Figure) (vs ws : List Verdict) → figure f (vs ++ ws) ≡ figure f vs + figure f ws
+figure-append f vs ws =
+    let all = figure_is_sum f (vs ++ ws) in
+    let first = figure_is_sum f vs in
+    let last = figure_is_sum f ws in
+    let both = sum_by-append (weight f) vs ws in
+    omega (arith, all, first, last, both)
 
 pub figure_more : (f : Figure) (vs : List Verdict) (i : ℕ) (d : Verdict) → i < length vs
     → figure f (take (i + 1) vs) ≡ figure f (take i vs) + weight f (get_or vs i d)

@@ -1,3 +1,3 @@
-mod FigureSums
+pub mod FigureSums
 mod PortSums
 mod RunSums

@@ -9,7 +9,7 @@ use Rattle.std.specs.Map.{lookup, keys_of}
 use Rattle.std.specs.BTreeMap.{BTreeMap, is_at}
 use Rattle.std.proofs.lemmas.Bool.Decides.{nat_tests}
 use Rattle.std.proofs.lemmas.Bool.{cases_eq}
-use Rattle.std.proofs.lemmas.List.Sums.{sum_by-cons, sum_by_push, sum_by-append}
+use Rattle.std.proofs.lemmas.List.Sums.{sum_by-cons, sum_by-append}
 use Rattle.frame_stats.specs.Figures.{at_port}
 
 -- what these entries have for a port, added up
@@ -48,9 +48,6 @@ sum_at_entries q (e ∷ es) s =
     let rest = sum_at_entries q es s.1 in
     more ∙ rw (this, there) (omega (arith, rest)))
     (cases_eq e.0 q)
-
-pub sum_at_push : (q : ℕ) (es : List (ℕ × ℕ)) (e : ℕ × ℕ) → sum_at q (es ++ e ∷ []) ≡ sum_at q es + cond (nat_eq e.0 q) e.1 0
-sum_at_push q es e = sum_by_push (λ (x : ℕ × ℕ). cond (nat_eq x.0 q) x.1 0) es e
 
 -- those so far and the next are no more than all
 pub sum_at_part : (q n : ℕ) (all front rest : List (ℕ × ℕ)) → all ≡ front ++ (q, n) ∷ rest → sum_at q front + n ≤ sum_at q all
