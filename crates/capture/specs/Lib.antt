@@ -1,0 +1,5 @@
+pub mod Fault
+pub mod Line
+pub mod Numbers
+pub mod Records
+pub mod Shown

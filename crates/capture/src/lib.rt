@@ -1,0 +1,26 @@
+//! What a run reads: capture files, the classic format of libpcap, as slices of the file, and the
+//! lines of a script. Which frames a file holds, and what its first fault is, is defined in
+//! `specs/Records.antt`; what a line asks for in `specs/Line.antt`. No call takes memory.
+#![tactic(auto)]
+
+pub mod fault;
+pub mod frames;
+mod header;
+pub mod laws;
+pub mod line;
+mod order;
+pub mod pcap;
+pub mod reading;
+mod record;
+
+pub use fault::CaptureFault;
+pub use frames::Frames;
+pub use laws::law_of_records;
+pub use line::Line;
+pub use pcap::Pcap;
+pub use reading::read_line;
+
+#[cfg(test)]
+mod line_tests;
+#[cfg(test)]
+mod tests;

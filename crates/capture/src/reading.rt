@@ -1,0 +1,109 @@
+//! A line of a script, read.
+ghost use Rattle.std.specs.Prelude.{◌≡◌, ◌≤◌, ◌+◌, ◌*◌, ◌==◌, IfSome, length, option_map, position};
+ghost use Rattle.capture.specs.Line.{asked_by, content_of, frame_asked_by, letter_asked_by, port_of, spelled_bytes, without_cr};
+ghost use Rattle.capture.specs.Shown.{IsSpelledWithin, shown};
+
+use crate::line::Line;
+
+// The most bytes that a line may have, without its line feed.
+const LINE_LIMIT: usize = 20_000;
+
+// The bytes that hexadecimal digits spell, put into the buffer.
+fn read_bytes<'a>(digits: &[u8], buffer: &'a mut [u8]) -> Option<&'a [u8]>
+    requires { length digits.now ≤ 2 * length buffer.old }
+    ensures bytes { option_map (λ (bytes : _). bytes.now) result ≡ spelled_bytes digits.now }
+    ensures within { IfSome result (λ bytes. 2 * length bytes.now ≤ length digits.now) }
+{
+    let bytes = &mut buffer[..digits.len() / 2];
+    hex::decode_to_slice(digits, bytes).ok()?;
+    Some(bytes)
+}
+
+// The port that decimal digits spell.
+fn port_of(digits: &[u8]) -> Option<u16>
+    ensures { result ≡ port_of digits.now }
+{
+    if digits.is_empty() || digits.len() > 5 {
+        return None;
+    }
+    let mut port = 0;
+    for digit in digits {
+        if !digit.is_ascii_digit() {
+            return None;
+        }
+        port = 10 * port + u32::from(*digit - b'0');
+    }
+    u16::try_from(port).ok()
+}
+
+// Where the first space stands.
+fn space_in(parts: &[u8]) -> Option<usize>
+    ensures { result ≡ position (λ b. b == 32) parts.now }
+{
+    parts.iter().position(|byte| *byte == b' ')
+}
+
+// The port and the frame of a line, behind its `f` and the space.
+fn read_frame<'a>(parts: &[u8], buffer: &'a mut [u8]) -> Option<Line<'a>>
+    requires { length parts.now ≤ 2 * length buffer.old }
+    ensures asked { option_map shown result ≡ frame_asked_by parts.now }
+    ensures within { IfSome result (IsSpelledWithin (length parts.now + 2)) }
+{
+    let space = space_in(parts)?;
+    let port = port_of(parts.split_at(space).0)?;
+    let (_, digits) = parts.split_at(space + 1);
+    let bytes = read_bytes(digits, buffer)?;
+    Some(Line::Frame(port, bytes))
+}
+
+// A line that is neither empty nor a comment.
+fn read_asked<'a>(content: &[u8], buffer: &'a mut [u8]) -> Option<Line<'a>>
+    requires { length content.now ≤ 2 * length buffer.old }
+    ensures asked { option_map shown result ≡ letter_asked_by content.now }
+    ensures within { IfSome result (IsSpelledWithin (length content.now)) }
+{
+    if let Some(digits) = content.strip_prefix(b"o ") {
+        return Some(Line::Message(read_bytes(digits, buffer)?));
+    }
+    let parts = content.strip_prefix(b"f ")?;
+    read_frame(parts, buffer)
+}
+
+// A line without the CR at its end.
+fn read_content<'a>(content: &[u8], buffer: &'a mut [u8]) -> Option<Line<'a>>
+    requires { length content.now ≤ 2 * length buffer.old }
+    ensures asked { option_map shown result ≡ content_of content.now }
+    ensures within { IfSome result (IsSpelledWithin (length content.now)) }
+{
+    if content.is_empty() || content.starts_with(b"#") {
+        return Some(Line::Nothing);
+    }
+    read_asked(content, buffer)
+}
+
+// A line that isn't too long.
+fn read_short<'a>(line: &[u8], buffer: &'a mut [u8]) -> Option<Line<'a>>
+    requires { length line.now ≤ 2 * length buffer.old }
+    ensures asked { option_map shown result ≡ content_of (without_cr line.now) }
+    ensures within { IfSome result (IsSpelledWithin (length line.now)) }
+{
+    let content = line.strip_suffix(b"\r").unwrap_or(line);
+    read_content(content, buffer)
+}
+
+/// What a line of a script asks for, without its line feed, or None where it is bad. A line is
+/// empty, a comment that begins with `#`, a message `o HEX` or a frame `f PORT HEX`, HEX being an
+/// even number of hexadecimal digits of either case, or none, and PORT one to five decimal digits,
+/// at most 65535. One CR at its end is dropped. Every other line is bad, and so is one of over
+/// 20,000 bytes, the CR among them. The bytes that it spells are put into the buffer; what else
+/// that holds is left open.
+#[tactic(auto, unfolding(crate::specs::Line::asked_by))]
+pub fn read_line<'a>(line: &[u8], buffer: &'a mut [u8; 10_000]) -> Option<Line<'a>>
+    ensures asked { option_map shown result ≡ asked_by line.now }
+    ensures within { IfSome result (IsSpelledWithin (length line.now)) }
+{
+    if line.len() > LINE_LIMIT {
+        return None;
+    }
+    read_short(line, buffer)
+}
