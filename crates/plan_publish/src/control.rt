@@ -94,7 +94,8 @@ impl Control {
     ///
     /// It waits for each lane that holds the copy from before the last publish, until it leaves, and for no other: the first
     /// publish beside a lane that is in returns at once, the next one waits for that lane. It spins, and then yields its
-    /// processor again and again; it doesn't sleep. Lanes don't wait for it. (After 2^62 accepted messages it would wait for ever.)
+    /// processor again and again; it doesn't sleep. Lanes don't wait for it. (After 2^62 accepted messages it would wait for
+    /// ever.)
     pub fn publish<R: Wait>(&mut self, rt: &R) -> Told
         ensures published { self.new ≡ record self.old { published = accepted_of self.old; pending = [] } }
         ensures entities { self.new.desk.mib.entities ≡ after self.new.published }

@@ -1,24 +1,25 @@
 //! Versions of the managed entities with their plan, from one control to many lanes.
 //!
-//! **A version** is the entities, with what is compiled of them, after a list of accepted messages: those that were accepted before
-//! a publish, all of them and in their order. Its number is how many they are. What is accepted shows in no frame before it is
-//! published, and all that one publish adds shows at once.
+//! **A version** is the entities, with what is compiled of them, after a list of accepted messages: those that were accepted
+//! before a publish, all of them and in their order. Its number is how many they are. What is accepted shows in no frame before
+//! it is published, and all that one publish adds shows at once.
 //!
 //! **Who owns what.** [`open`] makes one [`Control`] and 1 to 16 [`Lane`]s. The control, on one thread, answers messages by its
-//! desk and keeps each accepted one for the copies; its type keeps that the desk's entities are those after the accepted messages.
-//! There are two copies of the entities with their plan, by `left_right`: lanes enter the one that was published last. To publish,
-//! the control lets the other one absorb what it lacks, and swaps the two. Absorbing is a step of the entities and needs no
-//! memory, so a publish has no refusal. A lane may go to any thread. One that is in is a [`Held`]: it borrows its lane, lends the
-//! held version, and leaves when it is dropped.
+//! desk and keeps each accepted one for the copies; its type keeps that the desk's entities are those after the accepted
+//! messages. There are two copies of the entities with their plan, by `left_right`: lanes enter the one that was published
+//! last. To publish, the control lets the other one absorb what it lacks, and swaps the two. Absorbing is a step of the
+//! entities and needs no memory, so a publish has no refusal. A lane may go to any thread. One that is in is a [`Held`]: it
+//! borrows its lane, lends the held version, and leaves when it is dropped.
 //!
-//! **What waits for what.** A lane waits for nobody: it enters, forwards and leaves in a few steps, without a lock. A message waits
-//! for nobody either. [`Control::publish`] waits for lanes, those that still hold the copy from before the last publish; so a lane
-//! that holds on for long delays the control, though never another lane. [`Control::close`] waits for all lanes that are in.
+//! **What waits for what.** A lane waits for nobody: it enters, forwards and leaves in a few steps, without a lock. A message
+//! waits for nobody either. [`Control::publish`] waits for lanes, those that still hold the copy from before the last publish;
+//! so a lane that holds on for long delays the control, though never another lane. [`Control::close`] waits for all lanes that
+//! are in.
 //!
-//! **What a lane may rely on.** All that it forwards while it is in, it forwards by one version, whatever is published meanwhile.
-//! That version never falls: its list begins with every list that the lane held before. A publish gives a [`Told`], which may be
-//! shared and told to any lane; a lane that has learnt it holds nothing that begins with less. If the number of what it then holds
-//! is that of the token, it holds just what was published.
+//! **What a lane may rely on.** All that it forwards while it is in, it forwards by one version, whatever is published
+//! meanwhile. That version never falls: its list begins with every list that the lane held before. A publish gives a [`Told`],
+//! which may be shared and told to any lane; a lane that has learnt it holds nothing that begins with less. If the number of
+//! what it then holds is that of the token, it holds just what was published.
 //!
 //! **Lists in contracts alone.** What is published, held, told and learnt are lists of requests. No field stores them: they are
 //! what the seats at `left_right`'s table know, and the beginnings of one history of all accepted requests (`history`), of which
