@@ -59,7 +59,8 @@ pub(crate) fn add_all(
     others: &BTreeMap<u16, u64>,
 ) -> Result<(), CountFault>
     ensures added { OnOk result ((port : ℕ) → at_port ports.new port ≡ at_port ports.old port + at_port others.now port) }
-    ensures full { IsErrOf result CountFault.CountFull → (port : ℕ) × (2 ^ 64 ≤ at_port ports.old port + at_port others.now port) }
+    ensures full { IsErrOf result CountFault.CountFull →
+        (port : ℕ) × (2 ^ 64 ≤ at_port ports.old port + at_port others.now port) }
     ensures no_zeros { HasNoZeros ports.old → HasNoZeros ports.new }
 {
     for (gem, frames) in others {
@@ -72,7 +73,8 @@ pub(crate) fn add_all(
 
 /// Whether the sums of both have 64 bits.
 pub(crate) fn ports_fit(ports: &BTreeMap<u16, u64>, others: &BTreeMap<u16, u64>) -> bool
-    ensures { MatchBool result ((port : ℕ) → 0 < at_port others.now port → at_port ports.now port + at_port others.now port < 2 ^ 64) ((port : ℕ) × (2 ^ 64 ≤ at_port ports.now port + at_port others.now port)) }
+    ensures { MatchBool result ((port : ℕ) → 0 < at_port others.now port → at_port ports.now port + at_port others.now port < 2 ^ 64)
+        ((port : ℕ) × (2 ^ 64 ≤ at_port ports.now port + at_port others.now port)) }
 {
     for (gem, frames) in others {
         let before = ports.get(gem).copied().unwrap_or(0);

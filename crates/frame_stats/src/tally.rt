@@ -51,8 +51,10 @@ impl Tally {
     pub(crate) fn note(&mut self, verdict: &Verdict<'_>) -> Result<(), CountFault>
         ensures counted { OnOk result ((f : Figure) → tallied self.new f ≡ tallied self.old f + weight f verdict.now) }
         ensures full { IsErrOf result CountFault.CountFull → (f : Figure) × (2 ^ 64 ≤ tallied self.old f + weight f verdict.now) }
-        ensures fits { IsErrOf result CountFault.NoMemory → (tallied self.old Frames + 1 < 2 ^ 64) × (tallied self.old Bytes + weight Bytes verdict.now < 2 ^ 64) }
-        ensures first { IsErrOf result CountFault.NoMemory → (port : ℕ) × (tallied self.old (FramesTo port) ≡ 0) × (weight (FramesTo port) verdict.now ≡ 1) }
+        ensures fits { IsErrOf result CountFault.NoMemory →
+            (tallied self.old Frames + 1 < 2 ^ 64) × (tallied self.old Bytes + weight Bytes verdict.now < 2 ^ 64) }
+        ensures first { IsErrOf result CountFault.NoMemory →
+            (port : ℕ) × (tallied self.old (FramesTo port) ≡ 0) × (weight (FramesTo port) verdict.now ≡ 1) }
     {
         match verdict {
             Verdict::Forward { gem, frame } => self.note_leaving(*gem, frame.len()),
@@ -84,7 +86,8 @@ impl Tally {
     fn note_leaving(&mut self, gem: u16, len: u128) -> Result<(), CountFault>
         ensures counted { OnOk result ((f : Figure) → tallied self.new f ≡ tallied self.old f + leaving f gem len) }
         ensures full { IsErrOf result CountFault.CountFull → (f : Figure) × (2 ^ 64 ≤ tallied self.old f + leaving f gem len) }
-        ensures fits { IsErrOf result CountFault.NoMemory → (tallied self.old Frames + 1 < 2 ^ 64) × (tallied self.old Bytes + len < 2 ^ 64) }
+        ensures fits { IsErrOf result CountFault.NoMemory →
+            (tallied self.old Frames + 1 < 2 ^ 64) × (tallied self.old Bytes + len < 2 ^ 64) }
         ensures first { IsErrOf result CountFault.NoMemory → tallied self.old (FramesTo gem) ≡ 0 }
     {
         let Some(frames) = self.frames.checked_add(1) else {
@@ -108,7 +111,8 @@ impl Tally {
     #[inline(always)]
     fn note_port(&mut self, gem: u16) -> Result<(), CountFault>
         ensures counted { OnOk result (AddsFrame gem self.old self.new) }
-        ensures full { IsErrOf result CountFault.CountFull → (port : ℕ) × (2 ^ 64 ≤ tallied self.old (FramesTo port) + (if gem == port then 1 else 0)) }
+        ensures full { IsErrOf result CountFault.CountFull →
+            (port : ℕ) × (2 ^ 64 ≤ tallied self.old (FramesTo port) + (if gem == port then 1 else 0)) }
         ensures first { IsErrOf result CountFault.NoMemory → tallied self.old (FramesTo gem) ≡ 0 }
     {
         let place = place_of(gem);
@@ -128,7 +132,8 @@ impl Tally {
     #[inline(never)]
     fn begin_run(&mut self, gem: u16) -> Result<(), CountFault>
         ensures counted { OnOk result (AddsFrame gem self.old self.new) }
-        ensures full { IsErrOf result CountFault.CountFull → (port : ℕ) × (2 ^ 64 ≤ tallied self.old (FramesTo port) + (if gem == port then 1 else 0)) }
+        ensures full { IsErrOf result CountFault.CountFull →
+            (port : ℕ) × (2 ^ 64 ≤ tallied self.old (FramesTo port) + (if gem == port then 1 else 0)) }
         ensures first { IsErrOf result CountFault.NoMemory → tallied self.old (FramesTo gem) ≡ 0 }
     {
         let place = place_of(gem);
