@@ -19,14 +19,14 @@ pub struct Pcap<'a> {
 }
 
 impl<'a> Model for Pcap<'a> {
-    ghost use Rattle.std.specs.Prelude.{◌≡◌, ℕ, List, None, length};
+    ghost use Rattle.std.specs.Prelude.{◌≡◌, ◌<◌, ◌^◌, ℕ, List, None, length};
     ghost use Rattle.capture.specs.Records.{first_fault, frames_in};
 
     ghost Value = { List (List ℕ) };
 
     ghost view = { λ p. frames_in p.order p.records.now };
 
-    ghost invariant = { λ p. (first_fault p.order p.records.now ≡ None) × (p.count ≡ length (frames_in p.order p.records.now)) };
+    ghost invariant = { λ p. (first_fault p.order p.records.now ≡ None) × (p.count ≡ length (frames_in p.order p.records.now)) × (length (frames_in p.order p.records.now) < 2 ^ 32) };
 }
 
 /// How many records there are, or the first fault that they have.
@@ -80,7 +80,8 @@ impl<'a> Pcap<'a> {
 
     /// The frames, in the order of the file. Each is a slice of it.
     pub fn frames(&self) -> Frames<'a>
-        ensures { result ≡ self.now }
+        ensures all { result ≡ self.now }
+        ensures few { length result < 2 ^ 32 }
     {
         Frames {
             order: self.order,
