@@ -1,0 +1,3 @@
+pub mod Faults
+pub mod Batches
+pub mod Pieces

@@ -1,0 +1,81 @@
+//! One batch, by the lane that is in.
+ghost use Rattle.frame_stats.specs.Figures.{AreCountsOf};
+ghost use Rattle.std.specs.Prelude.{◌≡◌, ◌<◌, ◌↔◌, ◌≤◌, IfOk, IsErrOf, length};
+ghost use Rattle.frame_stats.specs.Figures.{SomePasses};
+ghost use Rattle.plan_publish.specs.Lane.{number_of};
+ghost use Rattle.plan_publish.specs.Held.{held_entities, held_lane, held_version};
+ghost use Rattle.frame_batch.specs.Batches.{meanings};
+
+use crate::fault::BatchFault;
+use crate::forwarding::{MOST, forward_each};
+use forward_plan::Verdict;
+use frame_stats::{CountFault, Counts, count_of};
+use plan_publish::Held;
+use std::alloc::Global;
+
+/// Lets batches pass, or not. Who runs batches in step, or means to stop them, implements it.
+pub trait Gate {
+    /// Whether a lane's batch passes. It is asked once, and may look up to `turns` times for what it waits for.
+    fn pass(&self, lane: u16, batch: u32, turns: u32) -> bool;
+}
+
+/// The verdicts on the frames of one batch, in order, with their counts, which are always those of the verdicts, by the type.
+#[derive(Drop)]
+pub struct Report<'a> {
+    /// The number of the lane that forwarded them.
+    pub lane: u16,
+    /// The number of the batch.
+    pub batch: u32,
+    /// The number of the version that the lane held.
+    pub version: u64,
+    /// What became of each frame. It borrows the frames alone.
+    pub verdicts: Vec<Verdict<'a>>,
+    /// The counts of these verdicts.
+    pub counts: Counts,
+    ghost exact: { AreCountsOf verdicts.items counts },
+}
+
+/// Forwards the frames of a batch that came in at a port, by the held version, and counts what becomes of them. It runs on its
+/// caller's thread and waits for nobody but the gate, which is asked once. One lane a thread is the fast way to use several
+/// processors.
+///
+/// [`BatchFault::TooMany`] where there are more than 65,536 frames; then [`BatchFault::Stalled`] where the gate answers false; then
+/// [`BatchFault::NoMemory`] where there is no memory for the verdicts; then, verdict by verdict, [`BatchFault::CountFull`] where a
+/// sum passes 64 bits, and [`BatchFault::NoMemory`] where there is no memory for the count of a GEM port.
+pub fn run_batch<'a, G: Gate>(
+    alloc: Global,
+    held: &Held<'_>,
+    batch: u32,
+    port: u16,
+    frames: &[&'a [u8]],
+    turns: u32,
+    gate: &G,
+) -> Result<Report<'a>, BatchFault>
+    ensures lane { IfOk result (λ report. report.lane ≡ number_of (held_lane held.now)) }
+    ensures number { IfOk result (λ report. report.batch ≡ batch) }
+    ensures version { IfOk result (λ report. report.version ≡ held_version held.now) }
+    ensures verdicts { IfOk result (λ report. report.verdicts.items ≡ meanings (held_entities held.now) port frames.now) }
+    ensures too_many { IsErrOf result (BatchFault.TooMany (length frames.now)) ↔ (65536 < length frames.now) }
+    ensures full { IsErrOf result BatchFault.CountFull → SomePasses (meanings (held_entities held.now) port frames.now) }
+{
+    if frames.len() > MOST {
+        return Err(BatchFault::TooMany(frames.len()));
+    }
+    if !gate.pass(held.lane(), batch, turns) {
+        return Err(BatchFault::Stalled);
+    }
+    let Ok(verdicts) = forward_each(alloc, held.live(), port, frames) else {
+        return Err(BatchFault::NoMemory);
+    };
+    match count_of(alloc, verdicts.as_slice()) {
+        Ok(counts) => Ok(Report {
+            lane: held.lane(),
+            batch,
+            version: held.version(),
+            verdicts,
+            counts,
+        }),
+        Err(CountFault::CountFull) => Err(BatchFault::CountFull),
+        Err(CountFault::NoMemory) => Err(BatchFault::NoMemory),
+    }
+}

@@ -1,0 +1,73 @@
+//! What becomes of many frames.
+ghost use Rattle.std.specs.Prelude.{◌≡◌, ◌<◌, ◌≤◌, ◌+◌, ◌++◌, ◌↔◌, IfOk, IsErrOf, length, vec_len, vec_capacity};
+ghost use Rattle.plan_publish.specs.Held.{held_entities};
+ghost use Rattle.frame_batch.specs.Batches.{meanings};
+
+use crate::fault::BatchFault;
+use crate::pieces::forward_by_pieces;
+use forward_plan::{Live, Verdict};
+use plan_publish::Held;
+use std::alloc::{AllocError, Global};
+use std::thread::Threads;
+
+/// How many frames a batch has at most.
+pub(crate) const MOST: usize = 65_536;
+
+/// How many frames a piece has: they take longer than it takes to hand a piece to a thread.
+const PIECE: usize = 4_096;
+
+/// What becomes of each frame that comes in at a port, in order, by the held version. It may use as many threads as there are
+/// processors, and waits for them. The verdicts borrow the frames alone.
+///
+/// Up to 4,096 frames go on the caller's thread. Who has lanes on threads of their own forwards faster by [`run_batch`], one lane
+/// a thread.
+///
+/// [`BatchFault::TooMany`] where there are more than 65,536 frames, which is looked at first; [`BatchFault::NoMemory`] where there
+/// is no memory for the verdicts.
+///
+/// [`run_batch`]: crate::run_batch
+pub fn forward_all<'a, R: Threads + Sync>(
+    rt: &R,
+    alloc: Global,
+    held: &Held<'_>,
+    port: u16,
+    frames: &[&'a [u8]],
+) -> Result<Vec<Verdict<'a>>, BatchFault>
+    ensures verdicts { IfOk result (λ verdicts. verdicts.items ≡ meanings (held_entities held.now) port frames.now) }
+    ensures too_many { IsErrOf result (BatchFault.TooMany (length frames.now)) ↔ (65536 < length frames.now) }
+    ensures never { ¬ (IsErrOf result BatchFault.Stalled) × ¬ (IsErrOf result BatchFault.CountFull) }
+{
+    if frames.len() > MOST {
+        return Err(BatchFault::TooMany(frames.len()));
+    }
+    match forward_by_pieces(rt, alloc, held.live(), port, frames, PIECE) {
+        Ok(verdicts) => Ok(verdicts),
+        Err(_) => Err(BatchFault::NoMemory),
+    }
+}
+
+/// The same on the caller's thread.
+pub(crate) fn forward_each<'a>(
+    alloc: Global,
+    live: &Live,
+    port: u16,
+    frames: &[&'a [u8]],
+) -> Result<Vec<Verdict<'a>>, AllocError>
+    ensures { IfOk result (λ verdicts. verdicts.items ≡ meanings live.now port frames.now) }
+{
+    let mut verdicts = Vec::with_capacity(alloc, frames.len())?;
+    push_all(live, port, frames, &mut verdicts);
+    Ok(verdicts)
+}
+
+/// Appends the verdict on each frame. The port is looked up once.
+#[inline(never)]
+fn push_all<'a>(live: &Live, port: u16, frames: &[&'a [u8]], verdicts: &mut Vec<Verdict<'a>>)
+    requires { vec_len verdicts.old + length frames.now ≤ vec_capacity verdicts.old }
+    ensures { verdicts.new.items ≡ verdicts.old.items ++ meanings live.now port frames.now }
+{
+    let plan = live.port(port);
+    for frame in frames {
+        plan.push(frame, verdicts);
+    }
+}
