@@ -1,1 +1,4 @@
 mod Joining
+mod Filling
+mod Arrival
+mod Totals

@@ -1,3 +1,5 @@
 pub mod Faults
 pub mod Batches
 pub mod Pieces
+pub mod Gathering
+pub mod Places

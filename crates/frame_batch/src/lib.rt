@@ -16,8 +16,13 @@
 mod batch;
 mod fault;
 mod forwarding;
+mod gathering;
+mod law;
 mod pieces;
+mod places;
 
 pub use batch::{Gate, Report, run_batch};
 pub use fault::{BatchFault, GatherFault};
 pub use forwarding::forward_all;
+pub use gathering::{Gathered, gather};
+pub use law::law_of_arrival;

@@ -1,4 +1,4 @@
-use Rattle.std.proofs.Common.{◌≡◌, ◌∙◌, length, arith, ap, length-append}
+use Rattle.std.proofs.Common.{◌∙◌, length, arith, ap, length-append}
 use Rattle.frame_batch.proofs.Joining.{meanings_more}
 use Rattle.frame_batch.proofs.forwarding.push_all.Goals as goal
 
