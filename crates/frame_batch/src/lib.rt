@@ -26,3 +26,6 @@ pub use fault::{BatchFault, GatherFault};
 pub use forwarding::forward_all;
 pub use gathering::{Gathered, gather};
 pub use law::law_of_arrival;
+
+#[cfg(test)]
+mod tests;
