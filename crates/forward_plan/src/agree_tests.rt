@@ -1,7 +1,7 @@
 //! The verdicts of the plan beside those of the plain walk, after each of many drawn messages.
 
-use crate::draws_tests::{Draws, PORTS};
 use crate::{Live, Reason, Verdict, plain_walk};
+use draws::{Draws, PORTS};
 use std::alloc::{AllocError, Global};
 use std::process::Abort;
 use std::test::Fail;
@@ -9,6 +9,9 @@ use tag_view::Tag;
 
 /// How many messages change the entities.
 const MESSAGES: usize = 2000;
+
+/// How many whole frames come in at each port after a message, beside one that is cut.
+const FRAMES: usize = 9;
 
 /// The GEM port of a frame that leaves, its addresses, its tags and what follows them, or the reason to drop it.
 pub(crate) type Parts<'v> = Result<(u16, &'v [u8], &'v [Tag], &'v [u8]), Reason>;
@@ -82,7 +85,7 @@ fn agree(
         plans.live.apply(&request);
         plans.anew.apply(&request);
         plans.anew.recompile();
-        let frames = draws.frames(alloc, message % 27)?;
+        let frames = draws.frames(alloc, FRAMES, message % 27)?;
         for port in PORTS {
             compare(rt, plans, port, &frames, seen);
         }

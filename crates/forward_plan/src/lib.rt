@@ -29,10 +29,6 @@ pub use port_plan::PortPlan;
 #[cfg(test)]
 mod agree_tests;
 #[cfg(test)]
-mod draws_tests;
-#[cfg(test)]
 mod live_tests;
 #[cfg(test)]
 mod ports_tests;
-#[cfg(test)]
-mod sample_tests;

@@ -1,9 +1,8 @@
 use crate::agree_tests::parts;
-use crate::ports_tests::create_table;
-use crate::sample_tests::{
-    DOUBLE, UNTAGGED, create_gem_port, create_interwork, create_mapper, request, set,
-};
 use crate::{Live, NoMemory, Reason, Verdict};
+use draws::{
+    DOUBLE, UNTAGGED, create_gem_port, create_interwork, create_mapper, create_table, request, set,
+};
 use omci_msg::{Action, Request};
 use std::alloc::Global;
 use std::process::Abort;

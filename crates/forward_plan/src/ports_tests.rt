@@ -3,27 +3,12 @@ ghost use Rattle.forward_plan.specs.Attachment.{ArePorts};
 
 use crate::attached::{Attached, NONE};
 use crate::ports::Ports;
+use draws::{create_table, request};
 use mib_state::Mib;
 use omci_msg::{Action, Request};
 use std::alloc::{AllocError, Global};
 use std::process::Abort;
 use std::test::Fail;
-
-/// A request whose contents begin with these bytes.
-fn request(action: Action, class: u16, instance: u16, bytes: &[u8]) -> Request {
-    let mut contents = [0; 32];
-    for (to, from) in contents.iter_mut().zip(bytes) {
-        *to = *from;
-    }
-    Request {
-        tci: 1,
-        action,
-        wants_answer: true,
-        class,
-        instance,
-        contents,
-    }
-}
 
 /// The creation of a mapper with a TP type and a TP pointer.
 fn create_mapper(instance: u16, tp_type: u8, to: u16) -> Request {
@@ -33,12 +18,6 @@ fn create_mapper(instance: u16, tp_type: u8, to: u16) -> Request {
     bytes[1] = low;
     bytes[20] = tp_type;
     request(Action::Create, 130, instance, &bytes)
-}
-
-/// The creation of a table with an association type and an associated ME pointer.
-pub(crate) fn create_table(instance: u16, association: u8, to: u16) -> Request {
-    let [high, low] = to.to_be_bytes();
-    request(Action::Create, 171, instance, &[association, high, low])
 }
 
 /// Mappers and tables of some ports, and some that are of none.

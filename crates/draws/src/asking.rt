@@ -1,16 +1,8 @@
+//! Requests by what they ask.
 use omci_msg::{Action, Request};
 
-/// No tag, and the start of an IPv4 packet.
-pub(crate) const UNTAGGED: [u8; 16] = [2, 0, 0, 0, 0, 1, 2, 0, 0, 0, 0, 2, 0x08, 0x00, 0x45, 0x00];
-
-/// A service tag of VLAN 100 and priority 5 round a customer's tag of VLAN 200 and priority 2.
-pub(crate) const DOUBLE: [u8; 24] = [
-    2, 0, 0, 0, 0, 1, 2, 0, 0, 0, 0, 2, 0x88, 0xa8, 0xa0, 0x64, 0x81, 0x00, 0x40, 0xc8, 0x08, 0x00,
-    0x45, 0x00,
-];
-
 /// A request whose contents begin with these bytes.
-pub(crate) fn request(action: Action, class: u16, instance: u16, bytes: &[u8]) -> Request {
+pub fn request(action: Action, class: u16, instance: u16, bytes: &[u8]) -> Request {
     let mut contents = [0; 32];
     for (to, from) in contents.iter_mut().zip(bytes) {
         *to = *from;
@@ -26,7 +18,7 @@ pub(crate) fn request(action: Action, class: u16, instance: u16, bytes: &[u8]) -
 }
 
 /// A Set of the attributes of a mask.
-pub(crate) fn set(class: u16, instance: u16, mask: u16, values: &[u8]) -> Request {
+pub fn set(class: u16, instance: u16, mask: u16, values: &[u8]) -> Request {
     let mut set = request(Action::Set, class, instance, &mask.to_be_bytes());
     for (to, from) in set.contents[2..].iter_mut().zip(values) {
         *to = *from;
@@ -35,17 +27,17 @@ pub(crate) fn set(class: u16, instance: u16, mask: u16, values: &[u8]) -> Reques
 }
 
 /// The creation of GEM port network CTP 0x0401 of port-ID 1024 with a direction.
-pub(crate) fn create_gem_port(direction: u8) -> Request {
+pub fn create_gem_port(direction: u8) -> Request {
     request(Action::Create, 268, 0x0401, &[4, 0, 0x80, 1, direction])
 }
 
 /// The creation of a GEM interworking termination point to it.
-pub(crate) fn create_interwork(instance: u16) -> Request {
+pub fn create_interwork(instance: u16) -> Request {
     request(Action::Create, 266, instance, &[4, 1, 5, 6, 1])
 }
 
 /// The creation of a mapper of a port: option 1 and a default priority.
-pub(crate) fn create_mapper(instance: u16, port: u16, pointers: [u16; 8], default: u8) -> Request {
+pub fn create_mapper(instance: u16, port: u16, pointers: [u16; 8], default: u8) -> Request {
     let [p0, p1, p2, p3, p4, p5, p6, p7] = pointers.map(|pointer| pointer.to_be_bytes());
     let tp = port.to_be_bytes();
     let bytes = [
@@ -53,4 +45,10 @@ pub(crate) fn create_mapper(instance: u16, port: u16, pointers: [u16; 8], defaul
         p5[1], p6[0], p6[1], p7[0], p7[1], 1, default, 1,
     ];
     request(Action::Create, 130, instance, &bytes)
+}
+
+/// The creation of a table with an association type and an associated ME pointer.
+pub fn create_table(instance: u16, association: u8, to: u16) -> Request {
+    let [high, low] = to.to_be_bytes();
+    request(Action::Create, 171, instance, &[association, high, low])
 }

@@ -1,19 +1,10 @@
-//! Messages and frames that are drawn, the same in each run.
-ghost use Rattle.std.specs.Prelude.{◌<◌, length};
-
-use crate::ports_tests::create_table;
-use crate::sample_tests::{UNTAGGED, create_mapper, request, set};
+//! Messages that are drawn.
+use crate::asking::{create_mapper, create_table, request, set};
+use crate::draws::{Draws, TPIDS};
 use omci_msg::{Action, Request};
-use std::alloc::{AllocError, Global};
 
 /// The ports that the drawn entities speak of, and one of which none speaks.
-pub(crate) const PORTS: [u16; 3] = [257, 65535, 0];
-
-/// How many frames come in at each port after a message.
-const FRAMES: usize = 10;
-
-/// The types that begin the drawn tags.
-const TPIDS: [u16; 4] = [0x8100, 0x8100, 0x88a8, 0x9100];
+pub const PORTS: [u16; 3] = [257, 65535, 0];
 
 /// What is asked of an instance, the frequent ones more than once.
 const ACTIONS: [Action; 10] = [
@@ -29,32 +20,7 @@ const ACTIONS: [Action; 10] = [
     Action::Get,
 ];
 
-/// Numbers without an evident order, the same in each run.
-#[derive(Drop)]
-pub(crate) struct Draws {
-    state: u64,
-}
-
 impl Draws {
-    pub(crate) fn new() -> Self {
-        Draws {
-            state: 0x2545f4914f6cdd1d,
-        }
-    }
-
-    fn next(&mut self) -> u64 {
-        self.state ^= self.state << 13;
-        self.state ^= self.state >> 7;
-        self.state ^= self.state << 17;
-        self.state
-    }
-
-    fn of<T: Copy>(&mut self, choices: &[T]) -> T
-        requires { 0 < length choices.now }
-    {
-        choices[(self.next() % choices.len() as u64) as usize]
-    }
-
     /// A DSCP to P-bit mapping.
     fn dscp_map(&mut self) -> [u8; 24] {
         let mut map = [0; 24];
@@ -237,8 +203,8 @@ impl Draws {
         }
     }
 
-    /// A message to the entities.
-    pub(crate) fn request(&mut self) -> Request {
+    /// A request to the entities: to create, set, delete or get one, and one in 300 resets them all.
+    pub fn request(&mut self) -> Request {
         if self.next() % 300 == 0 {
             return request(Action::MibReset, 2, 0, &[]);
         }
@@ -248,44 +214,5 @@ impl Draws {
             266 => self.interwork_request(),
             _ => self.gem_port_request(),
         }
-    }
-
-    /// The four bytes of a tag.
-    fn tag(&mut self) -> [u8; 4] {
-        let [t0, t1] = self.of(&TPIDS).to_be_bytes();
-        let priority = self.of(&[0u16, 3, 5, 6, 7]);
-        let dei = self.of(&[0, 1]);
-        let vid = self.of(&[1, 100, 101, 4095, 7]);
-        let [b0, b1] = (priority << 13 | dei << 12 | vid).to_be_bytes();
-        [t0, t1, b0, b1]
-    }
-
-    /// The bytes of a frame with so many tags.
-    fn frame_of(&mut self, alloc: Global, tags: usize) -> Result<Vec<u8>, AllocError> {
-        let mut bytes = UNTAGGED[..12].to_vec(alloc)?;
-        for _ in 0..tags {
-            bytes.extend_from_slice(&self.tag())?;
-        }
-        let ethertype = self.of(&[
-            0x0800u16, 0x0800, 0x86dd, 0x86dd, 0x0806, 0x8863, 0x8864, 0x888e, 0x1234,
-        ]);
-        bytes.extend_from_slice(&ethertype.to_be_bytes())?;
-        bytes.push(self.of(&[0x45, 0x60, 0x6b, 0x6f]))?;
-        bytes.push(self.of(&[0x00, 0x28, 0x80, 0xb8, 0xfc]))?;
-        bytes.push(0xee)?;
-        Ok(bytes)
-    }
-
-    /// The bytes of some frames, the last of them cut.
-    pub(crate) fn frames(&mut self, alloc: Global, cut: usize) -> Result<Vec<Vec<u8>>, AllocError> {
-        let mut frames = Vec::with_capacity(alloc, FRAMES)?;
-        for _ in 1..FRAMES {
-            let tags = self.of(&[0, 1, 1, 2, 2, 2, 2, 3]);
-            frames.push(self.frame_of(alloc, tags)?)?;
-        }
-        let mut last = self.frame_of(alloc, 3)?;
-        last.truncate(cut);
-        frames.push(last)?;
-        Ok(frames)
     }
 }
