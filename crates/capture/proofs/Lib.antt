@@ -1,3 +1,4 @@
+pub mod Cutting
 pub mod Captures
 pub mod Examples
 pub mod Walk

@@ -3,3 +3,4 @@ pub mod Line
 pub mod Numbers
 pub mod Records
 pub mod Shown
+pub mod Text

@@ -12,13 +12,15 @@ mod order;
 pub mod pcap;
 pub mod reading;
 mod record;
+mod text;
 
 pub use fault::CaptureFault;
 pub use frames::Frames;
 pub use laws::law_of_records;
 pub use line::Line;
 pub use pcap::Pcap;
-pub use reading::read_line;
+pub use reading::{LINE_LIMIT, read_line};
+pub use text::first_line;
 
 #[cfg(test)]
 mod line_tests;

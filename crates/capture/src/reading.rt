@@ -5,8 +5,8 @@ ghost use Rattle.capture.specs.Shown.{IsSpelledWithin, shown};
 
 use crate::line::Line;
 
-// The most bytes that a line may have, without its line feed.
-const LINE_LIMIT: usize = 20_000;
+/// The most bytes that a line may have, without its line feed.
+pub const LINE_LIMIT: usize = 20_000;
 
 // The bytes that hexadecimal digits spell, put into the buffer.
 fn read_bytes<'a>(digits: &[u8], buffer: &'a mut [u8]) -> Option<&'a [u8]>

@@ -5,10 +5,10 @@ use Rattle.std.proofs.lemmas.List.{append-nil, drop-drop, get_or-drop}
 use Rattle.std.proofs.lemmas.Bool.{eqb-true, eq-eqb, cases_lt}
 use Rattle.memchr.specs.Find.{IsFirstByte, is_byte}
 use Rattle.mib_upload.specs.Upload.{DeskState}
+use Rattle.capture.specs.Line.{Asked, asked_by}
+use Rattle.capture.specs.Text.{cut}
+use Rattle.capture.proofs.Cutting.{NoFeedBelow, cut-first, cut-none}
 use Rattle.onuctl.specs.Answers.{answer, answers_from, before_bad, state_from, line_answer}
-use Rattle.onuctl.specs.Line.{Asked, asked_by}
-use Rattle.onuctl.specs.Text.{cut}
-use Rattle.onuctl.proofs.Cutting.{NoFeedBelow, cut-first, cut-none}
 
 -- what the lines that end in a text ask for
 abbrev pub asked_in : List ℕ → List (Option Asked)

@@ -5,9 +5,9 @@ use Rattle.std.proofs.lemmas.List.{append-nil}
 use Rattle.std.proofs.KnownBytes.{Appends-trans, Appends-kept, Consumes-trans}
 use Rattle.std.specs.Io.KnownBytes.{Appends, Consumes, IsAtEnd}
 use Rattle.mib_upload.specs.Upload.{DeskState, start}
+use Rattle.capture.specs.Line.{Asked}
 use Rattle.onuctl.specs.Answers.{answers, answers_from, before_bad, script_of}
 use Rattle.onuctl.specs.Finish.{Finishes, last_asked}
-use Rattle.onuctl.specs.Line.{Asked}
 use Rattle.onuctl.specs.Replay.{ended_script, Replays, StopsAtLine}
 use Rattle.onuctl.specs.declared.fault.ReplayFault.{ReplayFault}
 use Rattle.onuctl.specs.declared.fault.ReplayFault.TheVariants.{BadLine, Read, Write, NoMemory}

@@ -3,10 +3,10 @@ use Rattle.std.proofs.Common.{◌≡◌, ◌≢◌, ℕ, ◌+◌, ◌-◌, ◌<�
 use Rattle.std.proofs.Math.Seq.{take-add}
 use Rattle.std.proofs.lemmas.List.{drop-take, get_or-take}
 use Rattle.mib_upload.specs.Upload.{DeskState}
+use Rattle.capture.specs.Text.{cut}
+use Rattle.capture.proofs.Cutting.{NoFeedBelow}
 use Rattle.onuctl.specs.Answers.{answers_from}
 use Rattle.onuctl.specs.Replay.{ended_script}
-use Rattle.onuctl.specs.Text.{cut}
-use Rattle.onuctl.proofs.Cutting.{NoFeedBelow}
 
 -- the bytes of the line that is begun, and those that were read
 pub held : (begun count : ℕ) (text now : List ℕ) → take begun now ≡ take begun text → take (begun + count) now ≡ take begun text ++ take count (drop begun now)

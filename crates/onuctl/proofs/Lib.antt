@@ -1,5 +1,4 @@
 pub mod Answering
-pub mod Cutting
 pub mod Ends
 pub mod Finished
 pub mod Held

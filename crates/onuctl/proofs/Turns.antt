@@ -4,11 +4,11 @@ use Rattle.std.specs.Prelude.{option_map}
 use Rattle.std.proofs.lemmas.List.{map-append}
 use Rattle.std.proofs.lemmas.Bool.{ne_eqb}
 use Rattle.mib_upload.specs.Upload.{DeskState}
+use Rattle.capture.specs.Line.{Asked, asked_by}
+use Rattle.capture.specs.Text.{cut, in_front, last_line, lines_of}
+use Rattle.capture.proofs.Cutting.{NoFeedBelow, cut-append}
 use Rattle.onuctl.specs.Answers.{answer, answers_from, before_bad, state_from, script_of}
-use Rattle.onuctl.specs.Line.{Asked, asked_by}
 use Rattle.onuctl.specs.Replay.{ended_script}
-use Rattle.onuctl.specs.Text.{cut, in_front, last_line, lines_of}
-use Rattle.onuctl.proofs.Cutting.{NoFeedBelow, cut-append}
 
 -- ---- lines that go on, behind lines of which none is bad
 

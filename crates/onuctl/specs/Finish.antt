@@ -2,10 +2,10 @@
 use Rattle.std.specs.Prelude.{◌≡◌, ◌+◌, ℕ, List, Option, Some, None, Result, Ok, Err, map}
 use Rattle.std.specs.Io.KnownBytes.{Appends, Keeps}
 use Rattle.mib_upload.specs.Upload.{DeskState}
+use Rattle.capture.specs.Line.{Asked, asked_by}
+use Rattle.capture.specs.Text.{last_line}
+use Rattle.writing.specs.Written.{AppendsPart}
 use Rattle.onuctl.specs.Answers.{answers_from, before_bad}
-use Rattle.onuctl.specs.Line.{Asked, asked_by}
-use Rattle.onuctl.specs.Text.{last_line}
-use Rattle.onuctl.specs.Written.{AppendsPart}
 use Rattle.onuctl.specs.declared.fault.ReplayFault.{ReplayFault}
 use Rattle.onuctl.specs.declared.fault.ReplayFault.TheVariants.{BadLine, Read, Write, NoMemory}
 

@@ -2,10 +2,10 @@
 use Rattle.std.specs.Prelude.{◌≡◌, ◌≤◌, ℕ, suc, List, Option, Some, None, Result, Ok, Err, length, map, take, drop, option_map}
 use Rattle.std.specs.Io.KnownBytes.{Appends, IsAtEnd, Keeps}
 use Rattle.mib_upload.specs.Upload.{start}
+use Rattle.capture.specs.Line.{Asked, asked_by}
+use Rattle.capture.specs.Text.{cut}
+use Rattle.writing.specs.Written.{AppendsPart}
 use Rattle.onuctl.specs.Answers.{answers, answers_from, before_bad, script_of}
-use Rattle.onuctl.specs.Line.{Asked, asked_by}
-use Rattle.onuctl.specs.Text.{cut}
-use Rattle.onuctl.specs.Written.{AppendsPart}
 use Rattle.onuctl.specs.declared.fault.ReplayFault.{ReplayFault}
 use Rattle.onuctl.specs.declared.fault.ReplayFault.TheVariants.{BadLine, Read, Write, NoMemory}
 

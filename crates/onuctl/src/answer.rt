@@ -3,14 +3,14 @@ ghost use Rattle.std.specs.Prelude.{◌≡◌, ◌+◌, ◌*◌, ◌≤◌, ◌<
 ghost use Rattle.frame_meaning.specs.Meaning.{meaning};
 ghost use Rattle.hex.specs.Hex.{encode_lower};
 ghost use Rattle.omci_msg.specs.Message.{request_of};
+ghost use Rattle.capture.specs.Line.{asked_by};
 ghost use Rattle.onuctl.specs.Answers.{dropped_line, fault_line, forwarded_line, line_answer, message_answer, reply_line, verdict_line};
-ghost use Rattle.onuctl.specs.Line.{asked_by};
 ghost use Rattle.std.specs.List.{flat_map};
 ghost use Rattle.tag_view.specs.Frame.{spelled};
 ghost use Rattle.tag_view.specs.Tag.{tag_bytes};
 
-use crate::line::{Line, read_line};
 use crate::onu::Onu;
+use capture::{Line, read_line};
 use forward_plan::{OutFrame, Reason, Verdict};
 use itoa::Buffer;
 use omci_msg::{MsgFault, Reply, read, write};
@@ -145,9 +145,13 @@ fn answer_message(onu: &mut Onu, bytes: &[u8], answers: &mut Vec<u8>)
 
 /// Carries out what a line asks for, and puts its answer behind those so far, for which there is
 /// room for three times the line. Whether the line is bad; a bad one changes nothing.
-pub fn answer_line(onu: &mut Onu, line: &[u8], buffer: &mut [u8], answers: &mut Vec<u8>) -> bool
-    requires buffer { length buffer.old ≡ 10000 }
-    requires room { vec_len answers.old + 3 * length line.now + 3 ≤ vec_capacity answers.old }
+pub fn answer_line(
+    onu: &mut Onu,
+    line: &[u8],
+    buffer: &mut [u8; 10_000],
+    answers: &mut Vec<u8>,
+) -> bool
+    requires { vec_len answers.old + 3 * length line.now + 3 ≤ vec_capacity answers.old }
     ensures bad { result ≡ is_none (asked_by line.now) }
     ensures items { answers.new.items ≡ answers.old.items ++ (line_answer onu.old (asked_by line.now)).0 }
     ensures onu { onu.new ≡ (line_answer onu.old (asked_by line.now)).1 }

@@ -1,6 +1,9 @@
 //! Why a replay ended before the end of its script.
+ghost use Rattle.std.specs.Prelude.{◌≡◌};
+ghost use Rattle.onuctl.specs.declared.fault.ReplayFault.TheVariants.{Write};
 
 use thiserror::Error;
+use writing::WriteFault;
 
 /// Why a replay ended before the end of its script.
 #[derive(Clone, Copy, Debug, PartialEq, Eq, Error)]
@@ -18,4 +21,12 @@ pub enum ReplayFault {
     /// There was no memory to begin with. Nothing is read, and nothing written.
     #[error("no memory")]
     NoMemory,
+}
+
+impl From<WriteFault> for ReplayFault {
+    ghost from_gives = { λ _ fault. fault ≡ Write };
+
+    fn from(_fault: WriteFault) -> ReplayFault {
+        ReplayFault::Write
+    }
 }

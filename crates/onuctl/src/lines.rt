@@ -1,8 +1,8 @@
 //! The answers to the lines in a piece of a script.
 ghost use Rattle.std.specs.Prelude.{◌≡◌, ◌≢◌, ◌≤◌, ◌<◌, ◌+◌, ◌*◌, ◌++◌, ℕ, Some, None, false, if◌then◌else◌, drop, length, map, slice_index, vec_len, vec_capacity};
+ghost use Rattle.capture.specs.Line.{asked_by};
+ghost use Rattle.capture.specs.Text.{cut};
 ghost use Rattle.onuctl.specs.Answers.{answers_from, before_bad, state_from};
-ghost use Rattle.onuctl.specs.Line.{asked_by};
-ghost use Rattle.onuctl.specs.Text.{cut};
 
 use crate::answer::answer_line;
 use crate::onu::Onu;
@@ -25,10 +25,9 @@ pub fn answer_lines(
     onu: &mut Onu,
     piece: &[u8],
     searched: usize,
-    buffer: &mut [u8],
+    buffer: &mut [u8; 10_000],
     answers: &mut Vec<u8>,
 ) -> Answered
-    requires buffer { length buffer.old ≡ 10000 }
     requires within { searched ≤ length piece.now }
     requires searched { (k : ℕ) → k < searched → slice_index piece.now k ≢ 10 }
     requires room { vec_len answers.old + 3 * length piece.now ≤ vec_capacity answers.old }

@@ -3,10 +3,8 @@
 
 mod answer;
 mod fault;
-mod line;
 mod lines;
 mod onu;
-mod output;
 mod pieces;
 mod replay;
 mod report;

@@ -7,13 +7,13 @@ ghost use Rattle.onuctl.specs.Finish.{Finishes};
 
 use crate::answer::answer_line;
 use crate::fault::ReplayFault;
-use crate::line::{LINE_LIMIT, MESSAGE_LIMIT};
 use crate::lines::answer_lines;
 use crate::onu::Onu;
-use crate::output::write_whole;
 use crate::pieces::{move_to_front, read_piece};
+use capture::LINE_LIMIT;
 use std::alloc::{AllocError, Global};
 use std::io::{Read, Write};
+use writing::write_whole;
 
 /// How many bytes a read is given room for, at least.
 const READ_ROOM: usize = 65_536;
@@ -30,10 +30,9 @@ fn finish<W: Write>(
     onu: &mut Onu,
     line: &[u8],
     lines: u64,
-    buffer: &mut [u8],
+    buffer: &mut [u8; 10_000],
     answers: &mut Vec<u8>,
 ) -> Result<(), ReplayFault>
-    requires buffer { length buffer.old ≡ 10000 }
     requires empty { vec_len answers.old ≡ 0 }
     requires none { answers.old.items ≡ [] }
     requires room { 3 * length line.now + 3 ≤ vec_capacity answers.old }
@@ -57,13 +56,12 @@ fn replay_through<R: Read, W: Write>(
     onu: &mut Onu,
     text: &mut [u8],
     spare: &mut [u8],
-    buffer: &mut [u8],
+    buffer: &mut [u8; 10_000],
     answers: &mut Vec<u8>,
 ) -> Result<(), ReplayFault>
     requires begins { onu.old ≡ start }
     requires text { length text.old ≡ 85536 }
     requires spare { length spare.old ≡ 20000 }
-    requires buffer { length buffer.old ≡ 10000 }
     requires empty { vec_len answers.old ≡ 0 }
     requires none { answers.old.items ≡ [] }
     requires room { 3 * 85536 ≤ vec_capacity answers.old }
@@ -103,7 +101,6 @@ struct Room {
     onu: Onu,
     text: Vec<u8>,
     spare: Vec<u8>,
-    buffer: Vec<u8>,
     answers: Vec<u8>,
 }
 
@@ -114,7 +111,6 @@ impl Room {
         ensures onu { IfOk result (λ room. room.onu ≡ start) }
         ensures text { IfOk result (λ room. vec_len room.text ≡ 85536) }
         ensures spare { IfOk result (λ room. vec_len room.spare ≡ 20000) }
-        ensures buffer { IfOk result (λ room. vec_len room.buffer ≡ 10000) }
         ensures empty { IfOk result (λ room. vec_len room.answers ≡ 0) }
         ensures none { IfOk result (λ room. room.answers.items ≡ []) }
         ensures answers { IfOk result (λ room. 3 * 85536 ≤ vec_capacity room.answers) }
@@ -123,7 +119,6 @@ impl Room {
             onu: Onu::new(alloc)?,
             text: vec![in alloc; 0; TEXT_ROOM]?,
             spare: vec![in alloc; 0; LINE_LIMIT]?,
-            buffer: vec![in alloc; 0; MESSAGE_LIMIT]?,
             answers: Vec::with_capacity(alloc, 3 * TEXT_ROOM)?,
         })
     }
@@ -149,13 +144,14 @@ pub fn replay<R: Read, W: Write>(
     let Ok(mut room) = Room::new(alloc) else {
         return Err(ReplayFault::NoMemory);
     };
+    let mut buffer = [0; 10_000];
     replay_through(
         reader,
         writer,
         &mut room.onu,
         &mut room.text,
         &mut room.spare,
-        &mut room.buffer,
+        &mut buffer,
         &mut room.answers,
     )
 }

@@ -1,13 +1,13 @@
 //! The words and the status with which a replay ends.
 ghost use Rattle.std.specs.Prelude.{◌≡◌};
+ghost use Rattle.writing.specs.Written.{AppendsPart};
 ghost use Rattle.onuctl.specs.Report.{status_of, words_at, words_of};
-ghost use Rattle.onuctl.specs.Written.{AppendsPart};
 
 use crate::fault::ReplayFault;
-use crate::output::write_whole;
 use arrayvec::ArrayVec;
 use itoa::Buffer;
 use std::io::Write;
+use writing::write_whole;
 
 /// What is written on a fault.
 type Words = ArrayVec<u8, 64>;

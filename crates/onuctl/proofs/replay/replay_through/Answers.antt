@@ -2,9 +2,9 @@ use Rattle.std.proofs.Common.{◌≡◌, ◌+◌, ◌≤◌, ◌++◌, ℕ, suc,
 use Rattle.std.proofs.KnownBytes.{Appends-trans, Consumes-trans}
 use Rattle.std.specs.Io.KnownBytes.{Appends}
 use Rattle.std.proofs.lemmas.Result.{err_from_is_err_and}
+use Rattle.capture.specs.Text.{cut}
+use Rattle.writing.specs.Written.{AppendsPart}
 use Rattle.onuctl.specs.Finish.{Finishes}
-use Rattle.onuctl.specs.Text.{cut}
-use Rattle.onuctl.specs.Written.{AppendsPart}
 use Rattle.onuctl.proofs.Ends.{ends_bad, ends_write, part_behind, part_of_ended}
 use Rattle.onuctl.proofs.Finished.{consumes_none, finished}
 use Rattle.onuctl.proofs.Held.{held, held_no_feed, long_rest, moved, told}
@@ -28,7 +28,7 @@ returns-in_err-write_whole g c =
     let part = subst (λ bytes. AppendsPart (g.W.Write.contents c.loop.writer) (g.W.Write.contents c.write_whole.new.writer) bytes) out c.in_err-write_whole.ensures.err in
     let more = answers_more s.0 c.loop.onu (take c.loop.begun c.loop.text) c.loop.lines c.loop.total s.1 piece in
     let p = err_from_is_err_and c.from_residual.result c.from_residual.ensures.1 in
-    rw (p.1, p.2, c.in_err-write_whole.ensures.fault)
+    rw (p.1, p.2)
     (ends_write _ _ _ _ (s.0 ++ piece) took (part_of_ended _ _ (s.0 ++ piece) (rw more (part_behind _ _ _ _ _ s.3 part))))
 
 pub answer_lines-answered-requires-clause-searched : goal.answer_lines-answered-requires-clause-searched

@@ -1,6 +1,6 @@
 use Rattle.std.proofs.Common.{◌≤◌, ◌-◌, length, take}
 use Rattle.std.specs.Io.KnownBytes.{Appends}
-use Rattle.onuctl.proofs.output.write_whole.Given as goal
+use Rattle.writing.proofs.whole.write_whole.Given as goal
 
 -- what is written so far
 abbrev pub invariant-loop-written : goal.invariant-loop-written

@@ -2,7 +2,7 @@ use Rattle.std.proofs.Common.{take, arith, subst}
 use Rattle.std.specs.Io.KnownBytes.{Appends}
 use Rattle.std.proofs.Math.Seq.{take-add}
 use Rattle.std.proofs.KnownBytes.{Appends-trans}
-use Rattle.onuctl.proofs.output.write_whole.Goals as goal
+use Rattle.writing.proofs.whole.write_whole.Goals as goal
 
 pub loop-written-preserved : goal.loop-written-preserved
 loop-written-preserved g c = record {

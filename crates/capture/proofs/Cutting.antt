@@ -1,8 +1,8 @@
 -- How a text is cut into lines, piece by piece.
-use Rattle.std.proofs.Common.{◌≡◌, ◌≢◌, ℕ, zero, suc, ◌<◌, true, false, Bool, List, [], ◌∷◌, ◌++◌, length, take, drop, refl, ap, ◌∙◌, arith, slice_index}
+use Rattle.std.proofs.Common.{◌≡◌, ◌≢◌, ℕ, zero, suc, ◌+◌, ◌<◌, true, false, Bool, List, [], ◌∷◌, ◌++◌, length, take, drop, refl, ap, ◌∙◌, arith, slice_index, subst}
 use Rattle.std.specs.Prelude.{◌==◌, if◌then◌else◌}
 use Rattle.std.proofs.lemmas.Bool.{eq-eqb, ne_eqb, eqb-false}
-use Rattle.onuctl.specs.Text.{Cut, cut, in_front}
+use Rattle.capture.specs.Text.{Cut, cut, in_front, lines_of}
 
 -- a byte in front of a cut text, where a test says whether it is a line feed
 abbrev with_byte : Bool → ℕ → Cut → Cut
@@ -56,3 +56,15 @@ feeds false b (line ∷ lines) rest is none = none
 pub rest_has_none : (text : List ℕ) → NoFeedBelow (cut text).rest (length (cut text).rest)
 rest_has_none [] = λ k below. absurd (omega arith)
 rest_has_none (b ∷ text) = feeds (b == 10) b (cut text).ended (cut text).rest refl (rest_has_none text)
+
+-- the first line of a text, and the lines behind it
+pub lines-first : (bytes : List ℕ) (end : ℕ) → end < length bytes → slice_index bytes end ≡ 10 → NoFeedBelow bytes end
+    → lines_of bytes ≡ take end bytes ∷ lines_of (drop (end + 1) bytes)
+lines-first bytes end lt is none =
+    let next : suc end ≡ end + 1 = omega arith in
+    subst (λ n. lines_of bytes ≡ take end bytes ∷ lines_of (drop n bytes)) next (rw (cut-first bytes end lt is none) refl)
+
+-- a text without a line feed is one line
+pub lines-none : (bytes : List ℕ) → 0 < length bytes → NoFeedBelow bytes (length bytes) → lines_of bytes ≡ bytes ∷ []
+lines-none [] some none = absurd (omega (arith, some))
+lines-none (b ∷ bytes) some none = rw (cut-none (b ∷ bytes) none) refl
