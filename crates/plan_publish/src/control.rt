@@ -2,9 +2,11 @@
 ghost use Rattle.std.specs.Prelude.{◌≡◌, [], ◌++◌, true, Ok, Err, IfOk, IfErr, IsErrOf, OnOk, OnErr};
 ghost use Rattle.omci_msg.specs.Message.{request_of};
 ghost use Rattle.omci_msg.specs.declared.Request.{Request};
+ghost use Rattle.omci_msg.specs.declared.fault.MsgFault.{MsgFault};
 ghost use Rattle.mib_state.specs.After.{after, is_accepted};
 ghost use Rattle.mib_upload.specs.Upload.{answered, start};
 ghost use Rattle.plan_publish.specs.Control.{accepted_of, answer_to, carried_out, takes};
+ghost use Rattle.plan_publish.specs.Requests.{version_of};
 ghost use Rattle.plan_publish.specs.Told.{told_home, told_list};
 
 use crate::fault::ControlFault;
@@ -54,6 +56,7 @@ impl Control {
     /// After a fault nothing has changed. `NoMemory` comes only for a request that is accepted: no other makes anything grow.
     pub fn message(&mut self, bytes: &[u8]) -> Result<Option<[u8; 48]>, ControlFault>
         ensures no_request { IfErr (request_of bytes.now) (λ fault. result ≡ Err (ControlFault.Msg fault)) }
+        ensures msg { (fault : MsgFault) → IsErrOf result (ControlFault.Msg fault) → request_of bytes.now ≡ Err fault }
         ensures answer { IfOk result (λ answer. IfOk (request_of bytes.now) (λ q. answer ≡ answer_to q (answered self.old.desk q).0)) }
         ensures after { OnOk result (IfOk (request_of bytes.now) (λ q. self.new ≡ carried_out self.old q)) }
         ensures entities { OnOk result (self.new.desk.mib.entities ≡ after (accepted_of self.new)) }
@@ -88,6 +91,13 @@ impl Control {
             };
         }
         Ok(self.desk.answer(request))
+    }
+
+    /// How many requests are accepted, published or not, or 2^64 - 1 where there are more. It tells whether a message was accepted.
+    pub fn accepted(&self) -> u64
+        ensures { result ≡ version_of (accepted_of self.now) }
+    {
+        self.publisher.accepted()
     }
 
     /// Publishes the accepted requests, all at once: each lane that enters from now on holds them. It tells what is published.

@@ -240,6 +240,7 @@ fn rely<R: Wait + Abort>(rt: &R, control: &mut Control, lane: &mut Lane)
     requires { home_of lane.old ≡ control.old.home }
 {
     ask_all(rt, control, &PORT_257);
+    assert_eq!(rt; control.accepted(), 4);
     let gem = match forward_last(rt, control, lane, &UNTAGGED) {
         Some(Verdict::Forward { gem, frame: _ }) => Some(gem),
         _ => None,

@@ -114,6 +114,13 @@ impl Publisher {
         }
     }
 
+    /// How many requests are accepted.
+    pub(crate) fn accepted(&self) -> u64
+        ensures { result ≡ version_of (all_of self.now) }
+    {
+        self.accepted
+    }
+
     /// A request is accepted.
     pub(crate) fn accept(&mut self, request: &Request) -> Result<(), AllocError>
         ensures accepted { OnOk result (self.new ≡ record self.old { pending = self.old.pending ++ request.now ∷ [] }) }
