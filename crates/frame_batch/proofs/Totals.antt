@@ -1,20 +1,13 @@
 -- Figures of the verdicts of all reports.
-use Rattle.std.proofs.Common.{◌≡◌, ◌+◌, ◌++◌, List, [], ◌∷◌, length, refl, ap, sym, ◌∙◌, arith}
-use Rattle.std.specs.Prelude.{filter}
+use Rattle.std.proofs.Common.{◌≡◌, ◌≤◌, ◌^◌, ℕ, List, [], ◌∷◌, refl, sym, subst, arith}
 use Rattle.std.specs.List.{sum_by}
-use Rattle.std.proofs.lemmas.List.{length-append}
-use Rattle.std.proofs.lemmas.List.Elements.{filter-append}
-use Rattle.std.proofs.lemmas.List.Sums.{sum_by-append, sum_by-cons}
-use Rattle.frame_meaning.specs.declared.verdict.Verdict.{Verdict}
-use Rattle.frame_stats.specs.Figures.{Figure, Frames, Bytes, DropsFor, FramesTo, figure, bytes_leaving, is_drop_for, leaves_by_port}
+use Rattle.std.proofs.lemmas.List.Sums.{sum_by-cons}
+use Rattle.frame_stats.specs.Figures.{Figure, Frames, Bytes, DropsFor, FramesTo, figure, counted}
+use Rattle.frame_stats.proofs.FigureSums.{figure-append}
 use Rattle.frame_batch.specs.declared.batch.Report.{Report}
-use Rattle.frame_batch.specs.Gathering.{verdicts_of}
-
-figure_append : (f : Figure) (vs ws : List Verdict) → figure f (vs ++ ws) ≡ figure f vs + figure f ws
-figure_append Frames vs ws = length-append vs ws
-figure_append Bytes vs ws = sum_by-append bytes_leaving vs ws
-figure_append (DropsFor reason) vs ws = ap length (filter-append (is_drop_for reason) vs ws) ∙ length-append (filter (is_drop_for reason) vs) (filter (is_drop_for reason) ws)
-figure_append (FramesTo port) vs ws = ap length (filter-append (leaves_by_port port) vs ws) ∙ length-append (filter (leaves_by_port port) vs) (filter (leaves_by_port port) ws)
+use Rattle.frame_batch.specs.declared.fault.GatherFault.{GatherFault}
+use Rattle.frame_batch.specs.declared.fault.GatherFault.TheVariants.{Double, Stranger, Missing, NoMemory, CountFull}
+use Rattle.frame_batch.specs.Gathering.{verdicts_of, SumPasses, IsWhy, IsWhyNot}
 
 figure_of_none : (f : Figure) → figure f [] ≡ 0
 figure_of_none Frames = refl
@@ -22,11 +15,22 @@ figure_of_none Bytes = refl
 figure_of_none (DropsFor reason) = refl
 figure_of_none (FramesTo port) = refl
 
--- it is the sum of the reports' figures
-pub figure_of_all : (f : Figure) (reports : List Report) → sum_by (λ (r : Report). figure f r.verdicts.items) reports ≡ figure f (verdicts_of reports)
+-- it is the sum of the reports' counts
+pub figure_of_all : (f : Figure) (reports : List Report) → sum_by (λ (r : Report). counted r.counts f) reports ≡ figure f (verdicts_of reports)
 figure_of_all f [] = sym (figure_of_none f)
 figure_of_all f (r ∷ rs) =
-    let more = sum_by-cons (λ (q : Report). figure f q.verdicts.items) r rs in
+    let more = sum_by-cons (λ (q : Report). counted q.counts f) r rs in
     let rest = figure_of_all f rs in
-    let both = figure_append f r.verdicts.items (verdicts_of rs) in
-    omega (arith, more, rest, both)
+    let this = r.exact.figures f in
+    let both = figure-append f r.verdicts.items (verdicts_of rs) in
+    omega (arith, more, rest, this, both)
+
+-- a sum that passes 64 bits is one of the verdicts
+pub why_of_reports : (count : ℕ) (given : List Report) (fault : GatherFault) → IsWhyNot (λ (r : Report). r.batch) (SumPasses (λ (r : Report). r.counts)) count given fault → IsWhy count given fault
+why_of_reports count given (Double n) why = why
+why_of_reports count given (Stranger n) why = why
+why_of_reports count given (Missing n) why = why
+why_of_reports count given NoMemory why = why
+why_of_reports count given CountFull why =
+    let passed = why.3 in
+    (why.0, why.1, why.2, (passed.0, subst (λ (n : ℕ). 2 ^ 64 ≤ n) (figure_of_all passed.0 why.1) passed.1))

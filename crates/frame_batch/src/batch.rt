@@ -1,6 +1,6 @@
 //! One batch, by the lane that is in.
 ghost use Rattle.frame_stats.specs.Figures.{AreCountsOf};
-ghost use Rattle.std.specs.Prelude.{◌≡◌, ◌<◌, ◌↔◌, ◌≤◌, IfOk, IsErrOf, length};
+ghost use Rattle.std.specs.Prelude.{◌≡◌, ◌<◌, ◌↔◌, ◌≤◌, IfOk, IsErrOf, length, true, false};
 ghost use Rattle.frame_stats.specs.Figures.{SomePasses};
 ghost use Rattle.plan_publish.specs.Lane.{number_of};
 ghost use Rattle.plan_publish.specs.Held.{held_entities, held_lane, held_version};
@@ -13,10 +13,16 @@ use frame_stats::{CountFault, Counts, count_of};
 use plan_publish::Held;
 use std::alloc::Global;
 
-/// Lets batches pass, or not. Who runs batches in step, or means to stop them, implements it.
+/// Lets batches pass, or not. Who runs batches in step, or means to stop them, implements it, and may say what it may answer to a
+/// lane, a batch and a number of turns.
 pub trait Gate {
+    ghost use Rattle.std.specs.Prelude.{ℕ, Bool, ⊤};
+
+    ghost may_answer: { Self → ℕ → ℕ → ℕ → Bool → Type 0 } = { λ _ _ _ _ _. ⊤ };
+
     /// Whether a lane's batch passes. It is asked once, and may look up to `turns` times for what it waits for.
-    fn pass(&self, lane: u16, batch: u32, turns: u32) -> bool;
+    fn pass(&self, lane: u16, batch: u32, turns: u32) -> bool
+        ensures { may_answer self.now lane batch turns result };
 }
 
 /// The verdicts on the frames of one batch, in order, with their counts, which are always those of the verdicts, by the type.
@@ -33,6 +39,40 @@ pub struct Report<'a> {
     /// The counts of these verdicts.
     pub counts: Counts,
     ghost exact: { AreCountsOf verdicts.items counts },
+}
+
+impl Report<'_> {
+    /// The report without its verdicts, whose memory is given back.
+    pub fn tally(self) -> Tally
+        ensures { result ≡ record { lane = self.entry.lane; batch = self.entry.batch; version = self.entry.version; counts = self.entry.counts } }
+    {
+        let Self {
+            lane,
+            batch,
+            version,
+            verdicts: _,
+            counts,
+        } = self;
+        Tally {
+            lane,
+            batch,
+            version,
+            counts,
+        }
+    }
+}
+
+/// What is kept of a report where its verdicts aren't: some 150 bytes, whatever the batch's size.
+#[derive(Drop)]
+pub struct Tally {
+    /// The number of the lane that forwarded the batch.
+    pub lane: u16,
+    /// The number of the batch.
+    pub batch: u32,
+    /// The number of the version that the lane held.
+    pub version: u64,
+    /// The counts of the batch's verdicts.
+    pub counts: Counts,
 }
 
 /// Forwards the frames of a batch that came in at a port, by the held version, and counts what becomes of them. It runs on its
@@ -56,6 +96,8 @@ pub fn run_batch<'a, G: Gate>(
     ensures version { IfOk result (λ report. report.version ≡ held_version held.now) }
     ensures verdicts { IfOk result (λ report. report.verdicts.items ≡ meanings (held_entities held.now) port frames.now) }
     ensures too_many { IsErrOf result (BatchFault.TooMany (length frames.now)) ↔ (65536 < length frames.now) }
+    ensures passed { IfOk result (λ _. G.may_answer gate.now (number_of (held_lane held.now)) batch turns true) }
+    ensures stalled { IsErrOf result BatchFault.Stalled → G.may_answer gate.now (number_of (held_lane held.now)) batch turns false }
     ensures full { IsErrOf result BatchFault.CountFull → SomePasses (meanings (held_entities held.now) port frames.now) }
 {
     if frames.len() > MOST {

@@ -1,4 +1,4 @@
-//! Why a batch isn't forwarded, and why reports can't be gathered.
+//! Why a batch isn't forwarded, and why reports, or their tallies, can't be gathered.
 ghost use Rattle.std.specs.Prelude.{◌≡◌};
 ghost use Rattle.frame_batch.specs.Faults.{number_of_batch_fault, number_of_gather_fault};
 
@@ -35,19 +35,19 @@ impl BatchFault {
     }
 }
 
-/// Why reports can't be gathered.
+/// Why reports, or their tallies, can't be gathered.
 #[derive(Clone, Copy, Debug, PartialEq, Eq, Error)]
 pub enum GatherFault {
-    /// An earlier report is of this batch too.
+    /// An earlier one is of this batch too.
     #[error("batch {0} twice")]
     Double(u32),
     /// There is no batch of this number.
     #[error("no batch {0}")]
     Stranger(u32),
-    /// No report is of this batch.
+    /// None is of this batch.
     #[error("batch {0} missing")]
     Missing(u32),
-    /// There is no memory for the reports in order, or for the count of a GEM port.
+    /// There is no memory for them in order, or for the count of a GEM port.
     #[error("no memory")]
     NoMemory,
     /// A sum of the counts passes 64 bits.

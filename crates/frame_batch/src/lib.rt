@@ -10,7 +10,7 @@
 //!
 //! **Gathering.** Batches end in any order. [`gather`] puts their reports in the order of their numbers and adds their counts up,
 //! or says which number is one too many or missing. [`law_of_arrival`] says that every order of the same reports gives the same
-//! list.
+//! list. A long run keeps no verdicts: [`Report::tally`] drops a report's, and [`gather_tallies`] gathers what is left.
 #![tactic(auto)]
 
 mod batch;
@@ -18,14 +18,19 @@ mod fault;
 mod forwarding;
 mod gathering;
 mod law;
+mod numbered;
 mod pieces;
 mod places;
 
-pub use batch::{Gate, Report, run_batch};
+pub use batch::{Gate, Report, Tally, run_batch};
 pub use fault::{BatchFault, GatherFault};
 pub use forwarding::forward_all;
-pub use gathering::{Gathered, gather};
+pub use gathering::{Gathered, GatheredTallies, gather, gather_tallies};
 pub use law::law_of_arrival;
 
+#[cfg(test)]
+mod storm;
+#[cfg(test)]
+mod storm_tests;
 #[cfg(test)]
 mod tests;

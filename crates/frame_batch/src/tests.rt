@@ -1,5 +1,6 @@
 use crate::{
-    BatchFault, Gate, GatherFault, Report, forward_all, gather, law_of_arrival, run_batch,
+    BatchFault, Gate, GatherFault, Report, Tally, forward_all, gather, gather_tallies,
+    law_of_arrival, run_batch,
 };
 use forward_plan::{Reason, Verdict};
 use frame_stats::{Counts, count_of};
@@ -94,6 +95,10 @@ fn show(counts: &Counts, frames: u64, bytes: u64, drops: [u64; 9], of_1024: u64)
 struct Open;
 
 impl Gate for Open {
+    ghost use Rattle.std.specs.Prelude.{◌≡◌, true};
+
+    ghost may_answer = { λ _ _ _ _ answer. answer ≡ true };
+
     fn pass(&self, _lane: u16, _batch: u32, _turns: u32) -> bool {
         true
     }
@@ -131,14 +136,11 @@ fn report_of(alloc: Global, held: &Held<'_>, batch: u32) -> Result<Report<'stati
     run_batch(alloc, held, batch, 257, frames, 1, &Open)
 }
 
-/// What gathering the reports of batches of these numbers gives: how many reports, whether each is in its place, and whether the
-/// counts are those of the frames.
-fn gathered(
-    alloc: Global,
-    held: &Held<'_>,
-    batches: &[u32],
-    count: u32,
-) -> Option<Result<(usize, bool), GatherFault>> {
+/// What gathering gives: how many there are, and whether each is in its place and the counts are those of the frames.
+type Outcome = Result<(usize, bool), GatherFault>;
+
+/// What gathering the reports of batches of these numbers gives.
+fn gathered(alloc: Global, held: &Held<'_>, batches: &[u32], count: u32) -> Option<Outcome> {
     let mut reports = Vec::new(alloc);
     for batch in batches {
         let Ok(report) = report_of(alloc, held, *batch) else {
@@ -149,25 +151,79 @@ fn gathered(
         };
     }
     match gather(alloc, reports, count) {
-        Ok(all) => Some(Ok((all.reports.len(), in_places(&all.reports, &all.counts)))),
+        Ok(all) => {
+            let whole = in_places(&all.reports) && counted(all.reports.len(), &all.counts);
+            Some(Ok((all.reports.len(), whole)))
+        }
         Err(fault) => Some(Err(fault)),
     }
 }
 
-/// Whether each report is in its place, and the counts are those of batch 0 with two tagged frames and others with a cut one.
-fn in_places(reports: &[Report<'_>], counts: &Counts) -> bool {
+/// What gathering their tallies gives.
+fn tallied(alloc: Global, held: &Held<'_>, batches: &[u32], count: u32) -> Option<Outcome> {
+    let mut tallies = Vec::new(alloc);
+    for batch in batches {
+        let Ok(report) = report_of(alloc, held, *batch) else {
+            return None;
+        };
+        let Ok(()) = tallies.push(report.tally()) else {
+            return None;
+        };
+    }
+    match gather_tallies(alloc, tallies, count) {
+        Ok(all) => {
+            let whole = tallies_in_places(&all.tallies) && counted(all.tallies.len(), &all.counts);
+            Some(Ok((all.tallies.len(), whole)))
+        }
+        Err(fault) => Some(Err(fault)),
+    }
+}
+
+/// Whether each report is in its place.
+fn in_places(reports: &[Report<'_>]) -> bool {
     let mut place = 0u32;
     for report in reports {
-        if report.batch != place || report.version != 5 {
+        if report.batch != place || report.version != 5 || report.lane != 0 {
             return false;
         }
         place = place.wrapping_add(1);
     }
-    if place == 0 {
+    true
+}
+
+/// Whether each tally is in its place, with the counts of its batch.
+fn tallies_in_places(tallies: &[Tally]) -> bool {
+    let mut place = 0u32;
+    for tally in tallies {
+        if tally.batch != place || tally.version != 5 || tally.lane != 0 {
+            return false;
+        }
+        let own = if place == 0 {
+            show(&tally.counts, 2, 40, [0; 9], 2)
+        } else {
+            show(&tally.counts, 1, 0, [0, 1, 0, 0, 0, 0, 0, 0, 0], 0)
+        };
+        if !own {
+            return false;
+        }
+        place = place.wrapping_add(1);
+    }
+    true
+}
+
+/// Whether these are the counts of so many batches: of batch 0 with two tagged frames, and others with a cut one.
+fn counted(batches: usize, counts: &Counts) -> bool {
+    if batches == 0 {
         return show(counts, 0, 0, [0; 9], 0);
     }
-    let cut = u64::from(place - 1);
-    show(counts, cut + 2, 40, [0, cut, 0, 0, 0, 0, 0, 0, 0], 2)
+    let cut = (batches - 1) as u64;
+    show(
+        counts,
+        cut.saturating_add(2),
+        40,
+        [0, cut, 0, 0, 0, 0, 0, 0, 0],
+        2,
+    )
 }
 
 /// So many times the same frame.
@@ -231,32 +287,82 @@ fn counts_of_most<R: Threads + Sync>(
     }
 }
 
-/// Reports in every order, twice, of no batch and missing.
+/// Reports, and their tallies, in every order, twice, of no batch and missing.
 fn gather_reports<R: Abort>(rt: &R, alloc: Global, held: &Held<'_>) {
-    let cases: [(&[u32], u32, Result<(usize, bool), GatherFault>); 15] = [
-        (&[1, 0], 2, Ok((2, true))),
-        (&[0, 0], 2, Err(GatherFault::Double(0))),
-        (&[0, 2], 2, Err(GatherFault::Stranger(2))),
-        (&[1], 2, Err(GatherFault::Missing(0))),
-        (&[], 0, Ok((0, true))),
-        (&[2, 0, 0], 2, Err(GatherFault::Stranger(2))),
-        (&[0, 0, 2], 2, Err(GatherFault::Double(0))),
-        (&[0, 3], 3, Err(GatherFault::Stranger(3))),
-        (&[2], 3, Err(GatherFault::Missing(0))),
-        (&[0, 1, 2], 3, Ok((3, true))),
-        (&[0, 2, 1], 3, Ok((3, true))),
-        (&[1, 0, 2], 3, Ok((3, true))),
-        (&[1, 2, 0], 3, Ok((3, true))),
-        (&[2, 0, 1], 3, Ok((3, true))),
-        (&[2, 1, 0], 3, Ok((3, true))),
+    let cases: [(&str, &[u32], u32, Outcome); 16] = [
+        ("both", &[1, 0], 2, Ok((2, true))),
+        ("one twice", &[0, 0], 2, Err(GatherFault::Double(0))),
+        ("one too high", &[0, 2], 2, Err(GatherFault::Stranger(2))),
+        ("the first missing", &[1], 2, Err(GatherFault::Missing(0))),
+        ("none of none", &[], 0, Ok((0, true))),
+        (
+            "too high, then twice",
+            &[2, 0, 0],
+            2,
+            Err(GatherFault::Stranger(2)),
+        ),
+        (
+            "twice, then too high",
+            &[0, 0, 2],
+            2,
+            Err(GatherFault::Double(0)),
+        ),
+        (
+            "too high and missing",
+            &[0, 3],
+            3,
+            Err(GatherFault::Stranger(3)),
+        ),
+        ("two missing", &[2], 3, Err(GatherFault::Missing(0))),
+        ("one of none", &[0], 0, Err(GatherFault::Stranger(0))),
+        ("0, 1, 2", &[0, 1, 2], 3, Ok((3, true))),
+        ("0, 2, 1", &[0, 2, 1], 3, Ok((3, true))),
+        ("1, 0, 2", &[1, 0, 2], 3, Ok((3, true))),
+        ("1, 2, 0", &[1, 2, 0], 3, Ok((3, true))),
+        ("2, 0, 1", &[2, 0, 1], 3, Ok((3, true))),
+        ("2, 1, 0", &[2, 1, 0], 3, Ok((3, true))),
     ];
-    for (batches, count, expected) in &cases {
-        assert_eq!(rt; gathered(alloc, held, batches, *count), Some(*expected));
+    for (what, batches, count, expected) in &cases {
+        assert_eq!(rt;
+            gathered(alloc, held, batches, *count),
+            Some(*expected),
+            "{what}"
+        );
+        assert_eq!(rt;
+            tallied(alloc, held, batches, *count),
+            Some(*expected),
+            "{what}"
+        );
     }
-    assert_eq!(rt;
-        gathered(alloc, held, &[0], 0),
-        Some(Err(GatherFault::Stranger(0)))
-    );
+}
+
+/// Whether the tallies of reports of batches 1, 0 and 2 have the counts that the reports have, all together.
+fn same_counts(alloc: Global, held: &Held<'_>) -> bool {
+    let mut reports = Vec::new(alloc);
+    let mut tallies = Vec::new(alloc);
+    for batch in [1, 0, 2] {
+        let (Ok(kept), Ok(dropped)) = (report_of(alloc, held, batch), report_of(alloc, held, batch))
+        else {
+            return false;
+        };
+        let (Ok(()), Ok(())) = (reports.push(kept), tallies.push(dropped.tally())) else {
+            return false;
+        };
+    }
+    match (gather(alloc, reports, 3), gather_tallies(alloc, tallies, 3)) {
+        (Ok(whole), Ok(short)) => same(&whole.counts, &short.counts),
+        _ => false,
+    }
+}
+
+/// Whether counts are the same, and of GEM port 1024 alone.
+fn same(a: &Counts, b: &Counts) -> bool {
+    a.frames == b.frames
+        && a.bytes == b.bytes
+        && a.drops == b.drops
+        && a.ports.len() == 1
+        && b.ports.len() == 1
+        && a.ports.get(&1024) == b.ports.get(&1024)
 }
 
 /// The lane that a batch was run by, or why it wasn't.
@@ -286,6 +392,7 @@ fn meet(
 enum Scene {
     ForwardLists,
     GatherReports,
+    CountTallies,
     MeetOnThreads,
     MeetInTurn,
 }
@@ -310,6 +417,11 @@ fn with_lanes<R: Wait + Threads + Abort + Sync>(
         Scene::GatherReports => {
             if let Some(held) = zero.enter() {
                 gather_reports(rt, alloc, &held);
+            }
+        }
+        Scene::CountTallies => {
+            if let Some(held) = zero.enter() {
+                assert!(rt; same_counts(alloc, &held), "counts of tallies");
             }
         }
         Scene::MeetOnThreads => {
@@ -356,6 +468,12 @@ fn lists_are_forwarded_in_order(rt: HostRuntime) -> Result<(), Fail> {
 #[test]
 fn reports_are_gathered_in_every_order(rt: HostRuntime) -> Result<(), Fail> {
     assert_eq!(rt; play(&rt, rt.alloc(), Scene::GatherReports), Ok(()));
+    Ok(())
+}
+
+#[test]
+fn tallies_have_the_counts_of_their_reports(rt: HostRuntime) -> Result<(), Fail> {
+    assert_eq!(rt; play(&rt, rt.alloc(), Scene::CountTallies), Ok(()));
     Ok(())
 }
 

@@ -3,7 +3,7 @@ use Rattle.std.specs.Prelude.{replicate}
 use Rattle.frame_batch.proofs.places.empty_slots.Given as goal
 
 abbrev pub invariant-loop-k : goal.invariant-loop-k
-invariant-loop-k l = record {
+invariant-loop-k g l = record {
   room : l.count ≤ vec_capacity l.slots;
   len : vec_len l.slots ≡ l.k;
   free : l.slots.items ≡ replicate l.k None;
