@@ -1,0 +1,8 @@
+pub mod Applying
+pub mod Lines
+pub mod Working
+pub mod Zips
+pub mod Confirming
+pub mod Counting
+pub mod Running
+pub mod Learnt

@@ -1,0 +1,5 @@
+pub mod Trace
+pub mod Run
+pub mod Work
+pub mod Control
+pub mod Settling
