@@ -3,37 +3,77 @@
 
 mod answer;
 mod fault;
+mod files;
 mod lines;
 mod onu;
 mod pieces;
 mod replay;
 mod report;
+mod running;
 
-use fault::ReplayFault;
+use command_line::{Words, read_words, report_words};
 use replay::replay;
 use report::report_replay;
-use std::env;
+use running::run;
+use std::alloc::{AllocError, Global};
+use std::io::{ErrorKind, Write};
 use std::process::ExitCode;
 use std::rt::Env;
+use std::{env, io};
 
-/// Whether the words of the command line, the program's name among them, ask for a replay; None
-/// where there is no memory for them.
-fn asks_replay(rt: &(impl Env + Alloc)) -> Option<bool> {
-    let mut words = env::args(rt).ok()?.skip(1);
-    let first = words.next();
-    Some(first.is_some_and(|word| word.as_str() == "replay") && words.next().is_none())
+/// The words of the command line, the program's name first.
+fn words(rt: &(impl Env + Alloc<A = Global>)) -> io::Result<Vec<String>> {
+    let mut words = Vec::new(rt.alloc());
+    for word in env::args(rt)? {
+        words.push(word)?;
+    }
+    Ok(words)
+}
+
+/// The same, lent.
+fn lent(alloc: Global, words: &[String]) -> Result<Vec<&str>, AllocError> {
+    let mut lent = Vec::with_capacity(alloc, words.len())?;
+    for word in words {
+        lent.push(word.as_str())?;
+    }
+    Ok(lent)
+}
+
+/// Says why the words can't be taken: there is no memory for them, or one isn't UTF-8.
+fn without_words<E: Write>(error: &io::Error, err: &mut E) -> ExitCode {
+    let text = match error.kind() {
+        ErrorKind::OutOfMemory => "no memory\n",
+        _ => "error: a word is not UTF-8\n",
+    };
+    let _ = err.write_all(text.as_bytes());
+    ExitCode::from(1)
 }
 
 fn main(rt: HostRuntime) -> ExitCode {
-    let outcome = match asks_replay(&rt) {
-        Some(true) => replay(rt.alloc(), &mut rt.stdin(), &mut rt.stdout()),
-        Some(false) => {
-            let _ = eprintln!(rt; "usage: onuctl replay");
-            return ExitCode::from(1);
-        }
-        None => Err(ReplayFault::NoMemory),
+    let alloc = rt.alloc();
+    let (mut out, mut err) = (rt.stdout(), rt.stderr());
+    let words = match words(&rt) {
+        Ok(words) => words,
+        Err(error) => return without_words(&error, &mut err),
     };
-    ExitCode::from(report_replay(&outcome, &mut rt.stderr()))
+    let lent = match lent(alloc, &words) {
+        Ok(lent) => lent,
+        Err(error) => return without_words(&error.into(), &mut err),
+    };
+    ExitCode::from(match read_words(alloc, &lent) {
+        Ok(Words::Replay) => {
+            let outcome = replay(alloc, &mut rt.stdin(), &mut out);
+            report_replay(&outcome, &mut err)
+        }
+        Ok(
+            Words::Run {
+                trace,
+                frames,
+                settings,
+            },
+        ) => run(&rt, trace, frames, &settings, &mut out, &mut err),
+        Err(error) => report_words(&error, &mut out, &mut err),
+    })
 }
 
 #[cfg(test)]
@@ -44,5 +84,7 @@ mod frame_tests;
 mod get_next_tests;
 #[cfg(test)]
 mod message_tests;
+#[cfg(test)]
+mod run_tests;
 #[cfg(test)]
 mod tests;

@@ -1,0 +1,3 @@
+mod Outputs
+mod Parts
+mod Totals

@@ -1,0 +1,97 @@
+//! How far a run is, and a line that shows it.
+use frame_batch::Gate;
+use std::io::Write;
+use std::rt::Clock;
+use std::sync::atomic::{AtomicU64, Ordering};
+use std::thread::sleep;
+use std::time::Duration;
+
+/// How many milliseconds the end of a run may go unseen.
+const STEP: u64 = 20;
+
+/// After how many steps the line is written anew.
+const STEPS: u64 = 25;
+
+/// How far a run is. The numbers are for looking at, and may be a batch behind.
+#[derive(Drop)]
+pub(crate) struct Progress {
+    frames: AtomicU64,
+    asked: AtomicU64,
+    applied: AtomicU64,
+    ended: AtomicU64,
+}
+
+impl Progress {
+    /// Of a run that hasn't begun.
+    pub(crate) fn new() -> Progress {
+        Progress {
+            frames: AtomicU64::new(0),
+            asked: AtomicU64::new(0),
+            applied: AtomicU64::new(0),
+            ended: AtomicU64::new(0),
+        }
+    }
+
+    /// The capture was read, and has so many frames.
+    pub(crate) fn begin(&self, frames: usize) {
+        self.frames.store(frames as u64, Ordering::Relaxed);
+    }
+
+    /// The run has ended, in whatever way.
+    pub(crate) fn end(&self) {
+        self.ended.store(1, Ordering::Relaxed);
+    }
+
+    fn has_ended(&self) -> bool {
+        self.ended.load(Ordering::Relaxed) != 0
+    }
+}
+
+/// Lets each batch pass at once, and notes how far the run is.
+#[derive(Drop)]
+pub(crate) struct Watched<'p> {
+    pub progress: &'p Progress,
+    pub lanes: u16,
+}
+
+impl Gate for Watched<'_> {
+    fn pass(&self, lane: u16, batch: u32, _turns: u32) -> bool {
+        if lane == self.lanes {
+            let applied = &self.progress.applied;
+            applied.store(u64::from(batch), Ordering::Relaxed);
+        } else {
+            self.progress.asked.fetch_add(1, Ordering::Relaxed);
+        }
+        true
+    }
+}
+
+/// Writes how many frames were given to lanes, which ask twice for a batch, and how many messages are published.
+fn write_line<E: Write>(progress: &Progress, size: u32, err: &mut E) {
+    let frames = progress.frames.load(Ordering::Relaxed);
+    let batches = progress.asked.load(Ordering::Relaxed) / 2;
+    let forwarded = batches.saturating_mul(u64::from(size)).min(frames);
+    let applied = progress.applied.load(Ordering::Relaxed);
+    let _ = write!(
+        err,
+        "\r{forwarded} of {frames} frames forwarded, {applied} messages applied\x1b[K"
+    );
+}
+
+/// Shows how far a run is, on one line that is written anew about twice a second, until the run has ended. Then the line is gone.
+pub(crate) fn show<R: Clock, E: Write>(rt: &R, progress: &Progress, size: u32, err: &mut E) {
+    let mut is_shown = false;
+    for step in 1..u64::MAX {
+        if progress.has_ended() {
+            break;
+        }
+        if step % STEPS == 0 {
+            write_line(progress, size, err);
+            is_shown = true;
+        }
+        sleep(rt, Duration::from_millis(STEP));
+    }
+    if is_shown {
+        let _ = err.write_all(b"\r\x1b[K");
+    }
+}

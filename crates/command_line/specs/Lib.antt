@@ -1,0 +1,5 @@
+pub mod Asked
+pub mod Grammar
+pub mod Range
+pub mod Refused
+pub mod Report

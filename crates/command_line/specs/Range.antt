@@ -1,0 +1,17 @@
+-- What a run's settings may be.
+use Rattle.std.specs.Prelude.{◌≤◌}
+use Rattle.lane_run.specs.declared.job.RunSettings.{RunSettings}
+use Rattle.command_line.specs.declared.reading.Words.{Words}
+use Rattle.command_line.specs.declared.reading.Words.TheVariants.{Replay, Run}
+
+-- a port of 16 bits, 1 to 16 lanes, and batches of 1 to 65,536 frames
+pub record AreInRange (settings : RunSettings) : Type 0 where
+  pub port : settings.port ≤ 65535
+  pub some_lanes : 1 ≤ settings.lanes
+  pub few_lanes : settings.lanes ≤ 16
+  pub some_frames : 1 ≤ settings.batch
+  pub few_frames : settings.batch ≤ 65536
+
+abbrev pub IsInRange : Words → Type 0
+IsInRange Replay = Unit {0}
+IsInRange (Run trace frames settings) = AreInRange settings

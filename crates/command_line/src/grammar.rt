@@ -1,0 +1,144 @@
+//! The words that the program knows, with the texts of its help.
+
+ghost use Rattle.std.specs.Prelude.{◌≡◌, IfOk, Some, false, codes};
+ghost use Rattle.clap.specs.Words.{app_of, rule_of};
+ghost use Rattle.clap.specs.declared.builder.command.Command.TheViews.{out-Command as fields_of};
+ghost use Rattle.clap.specs.declared.builder.value_parser.ValueParser.TheVariants.{NonEmptyString};
+ghost use Rattle.command_line.specs.Grammar.{after, batch, lanes, onuctl, port, replay, run, valued};
+
+use clap::builder::ValueParser;
+use clap::{Arg, ArgAction, Command, value_parser};
+use std::alloc::{AllocError, Global};
+
+/// What `--version` shows.
+const VERSION: &str = "0.1.0";
+
+/// The most lanes of a run.
+pub const LANE_LIMIT: u16 = 16;
+
+/// The most frames of a batch.
+pub const BATCH_LIMIT: u32 = 65_536;
+
+/// A required option with a value, by its name, which is its id too.
+fn valued<'a>(
+    alloc: Global,
+    name: &'a str,
+    value: &'a str,
+    help: &'a str,
+    parser: ValueParser<'a>,
+) -> Arg<'a>
+    ensures rule { rule_of result ≡ valued name.entry.now parser.entry }
+    ensures local { result.global ≡ false }
+{
+    Arg::new(alloc, name)
+        .long(name)
+        .value_name(value)
+        .required(true)
+        .action(ArgAction::Set)
+        .value_parser(parser)
+        .help(help)
+}
+
+/// An option with the name of a file, which isn't empty.
+fn file<'a>(alloc: Global, name: &'a str, help: &'a str) -> Arg<'a>
+    ensures rule { rule_of result ≡ valued name.entry.now NonEmptyString }
+    ensures local { result.global ≡ false }
+{
+    valued(alloc, name, "FILE", help, ValueParser::NonEmptyString)
+}
+
+fn port<'a>(alloc: Global) -> Arg<'a>
+    ensures rule { rule_of result ≡ port }
+    ensures local { result.global ≡ false }
+{
+    valued(
+        alloc,
+        "port",
+        "PORT",
+        "Port at which all frames come in, 0 to 65535 [example: 257]",
+        value_parser!(u16),
+    )
+}
+
+fn lanes<'a>(alloc: Global) -> Arg<'a>
+    ensures rule { rule_of result ≡ lanes }
+    ensures local { result.global ≡ false }
+{
+    valued(
+        alloc,
+        "lanes",
+        "COUNT",
+        "Lanes that forward side by side, 1 to 16 [example: 4]",
+        value_parser!(u16).range(1..=i64::from(LANE_LIMIT)),
+    )
+}
+
+fn batch<'a>(alloc: Global) -> Arg<'a>
+    ensures rule { rule_of result ≡ batch }
+    ensures local { result.global ≡ false }
+{
+    valued(
+        alloc,
+        "batch",
+        "FRAMES",
+        "Frames of each batch but the last, 1 to 65536 [example: 1024]",
+        value_parser!(u32).range(1..=i64::from(BATCH_LIMIT)),
+    )
+}
+
+fn after<'a>(alloc: Global) -> Arg<'a>
+    ensures rule { rule_of result ≡ after }
+    ensures local { result.global ≡ false }
+{
+    Arg::new(alloc, "after")
+        .long("after")
+        .action(ArgAction::SetTrue)
+        .help("Forward only after the whole trace is applied; has no value [example: --after]")
+}
+
+fn replay<'a>(alloc: Global) -> Command<'a>
+    ensures app { app_of result ≡ replay }
+    ensures local { (fields_of result).has_globals ≡ false }
+{
+    Command::new(alloc, "replay")
+        .about("Answer the script on standard input, line by line, on standard output")
+        .after_help("Example: onuctl replay < examples/one_frame.script")
+}
+
+fn run<'a>(alloc: Global) -> Result<Command<'a>, AllocError>
+    ensures app { IfOk result (λ command. app_of command ≡ run) }
+    ensures local { IfOk result (λ command. (fields_of command).has_globals ≡ false) }
+{
+    Command::new(alloc, "run")
+        .about("Forward the frames of a capture on several lanes while a trace is applied")
+        .after_help(
+            "Example: onuctl run --trace up.script --frames up.pcap --port 257 --lanes 4 --batch 1024",
+        )
+        .arg(file(
+            alloc,
+            "trace",
+            "Script whose messages are applied, a file [example: up.script]",
+        ))?
+        .arg(file(
+            alloc,
+            "frames",
+            "Capture of the frames, a file in the classic format of libpcap [example: up.pcap]",
+        ))?
+        .arg(port(alloc))?
+        .arg(lanes(alloc))?
+        .arg(batch(alloc))?
+        .arg(after(alloc))
+}
+
+/// The program with all that it can be asked for.
+pub fn onuctl<'a>(alloc: Global) -> Result<Command<'a>, AllocError>
+    ensures { IfOk result (λ command. app_of command ≡ onuctl) }
+{
+    Command::new(alloc, "onuctl")
+        .version(VERSION)
+        .about("Answer OMCI messages and forward Ethernet frames, as an optical network unit does")
+        .subcommand_required(true)
+        .arg_required_else_help(true)
+        .subcommand(replay(alloc))?
+        .subcommand(run(alloc)?)
+}

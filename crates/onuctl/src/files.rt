@@ -1,0 +1,16 @@
+//! Files read whole.
+use std::alloc::Global;
+use std::fs::{File, OpenFile};
+use std::io;
+use std::io::Read;
+use std::rt::Files;
+
+/// The bytes of a file, read into room of its size and a byte more, by which its end is found. So nothing grows, and nothing is
+/// copied, while a file is read whose size is known before.
+pub fn read_whole<R: Files + Alloc<A = Global>>(rt: &R, path: &str) -> io::Result<Vec<u8>> {
+    let mut file = File::open(rt, path)?;
+    let size = usize::try_from(file.metadata()?.len()).unwrap_or(0);
+    let mut bytes = Vec::with_capacity(rt.alloc(), size.saturating_add(1))?;
+    file.read_to_end(&mut bytes)?;
+    Ok(bytes)
+}

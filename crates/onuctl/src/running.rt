@@ -1,0 +1,42 @@
+//! A run over two files.
+use crate::files::read_whole;
+use capture_run::{RunSettings, report_run, run_over, run_over_shown};
+use std::alloc::Global;
+use std::io;
+use std::io::{ErrorKind, IsTerminal, Write};
+use std::rt::{Clock, Files};
+use std::sync::Wait;
+use std::thread::Threads;
+
+/// Says why a file can't be had: there is no memory for it, or else these words.
+fn report_unread<E: Write>(error: &io::Error, words: &[u8], err: &mut E) -> u8 {
+    let words = match error.kind() {
+        ErrorKind::OutOfMemory => b"no memory\n",
+        _ => words,
+    };
+    let _ = err.write_all(words);
+    1
+}
+
+/// Reads the trace and then the capture whole, and forwards the frames of the capture while the trace is applied. What comes of it
+/// is written to `out`, and why nothing does to `err`, which shows how far the run is where it is a terminal. It gives the status.
+pub fn run<
+    R: Files + Alloc<A = Global> + Threads + Wait + Clock + Sync,
+    O: Write,
+    E: Write + IsTerminal + Send,
+>(rt: &R, trace: &str, frames: &str, settings: &RunSettings, out: &mut O, err: &mut E) -> u8 {
+    let trace = match read_whole(rt, trace) {
+        Ok(trace) => trace,
+        Err(error) => return report_unread(&error, b"cannot read trace\n", err),
+    };
+    let frames = match read_whole(rt, frames) {
+        Ok(frames) => frames,
+        Err(error) => return report_unread(&error, b"cannot read frames\n", err),
+    };
+    let outcome = if err.is_terminal() {
+        run_over_shown(rt, rt.alloc(), &trace, &frames, settings, out, err)
+    } else {
+        run_over(rt, rt.alloc(), &trace, &frames, settings, out)
+    };
+    report_run(&outcome, err)
+}
