@@ -1,0 +1,76 @@
+//! The entities, and the desk that answers messages.
+use crate::seen::{REFUSED_AGAIN, Seen, must, report};
+use draws::message;
+use mib_state::Mib;
+use mib_upload::{Desk, Shelf};
+use omci_msg::{read, write};
+use std::alloc::Global;
+
+/// The classes with instances that messages create.
+const CLASSES: [u16; 4] = [130, 171, 266, 268];
+
+/// A Get of the sync, and its answer by a new desk.
+const GET_SYNC: (&str, &str) = ("0003490a000200008000", "0003290a0002000000800000");
+
+/// Whether there is nothing but ONU data with sync 0.
+fn is_new(mib: &Mib) -> bool {
+    for class in CLASSES {
+        if mib.next_instance(class, 0).is_some() {
+            return false;
+        }
+    }
+    mib.sync() == 0 && mib.next_instance(2, 0) == Some(0)
+}
+
+/// Entities, made again where there was no memory.
+fn mib_of(alloc: Global) -> Result<Mib, &'static str> {
+    match Mib::new(alloc) {
+        Ok(mib) => Ok(mib),
+        Err(_) => Mib::new(alloc).map_err(|_| REFUSED_AGAIN),
+    }
+}
+
+/// A shelf, made again where there was no memory.
+fn shelf_of(alloc: Global) -> Result<Shelf, &'static str> {
+    match Shelf::new(alloc) {
+        Ok(shelf) => Ok(shelf),
+        Err(_) => Shelf::new(alloc).map_err(|_| REFUSED_AGAIN),
+    }
+}
+
+/// A desk, made again where there was no memory.
+fn desk_of(alloc: Global) -> Result<Desk, &'static str> {
+    match Desk::new(alloc) {
+        Ok(desk) => Ok(desk),
+        Err(_) => Desk::new(alloc).map_err(|_| REFUSED_AGAIN),
+    }
+}
+
+fn new_mib(alloc: Global) -> Seen {
+    let mib = mib_of(alloc)?;
+    must(is_new(&mib), "other entities than none")
+}
+
+fn new_shelf(alloc: Global) -> Seen {
+    let mut shelf = shelf_of(alloc)?;
+    must(shelf.row(0).is_none(), "a row on a new shelf")?;
+    let mib = mib_of(alloc)?;
+    must(shelf.fill(&mib) == 1, "other rows than that of ONU data")
+}
+
+fn new_desk(alloc: Global) -> Seen {
+    let mut desk = desk_of(alloc)?;
+    must(is_new(desk.mib()), "other entities than none")?;
+    let (asked, reply) = GET_SYNC;
+    let Ok(request) = read(&message(asked)) else {
+        return Err("the message isn't read");
+    };
+    let answer = desk.answer(&request);
+    must(write(&answer) == message(reply), "another reply")
+}
+
+pub(crate) fn make_calls<R: Print>(rt: &R, alloc: Global) {
+    report(rt, "Mib::new", new_mib(alloc));
+    report(rt, "Shelf::new", new_shelf(alloc));
+    report(rt, "Desk::new", new_desk(alloc));
+}
