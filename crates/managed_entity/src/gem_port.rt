@@ -4,12 +4,13 @@ ghost use Rattle.std.proofs.Common.{rules};
 
 use crate::attribute::Attribute;
 use crate::bytes::{Bytes, byte, number, one, two};
+use crate::description::{AttributeKind, Description};
 use crate::entity::ManagedEntity;
 use crate::refusal::Refusal;
 use pmapper::GemPort;
 use std::alloc::{AllocError, Global};
 
-static LAYOUT: [Attribute; 10] = [
+pub(crate) static LAYOUT: [Attribute; 10] = [
     Attribute::GIVEN_2, // port-ID
     Attribute::GIVEN_2, // T-CONT pointer
     Attribute::GIVEN_1, // direction
@@ -20,6 +21,50 @@ static LAYOUT: [Attribute; 10] = [
     Attribute::READ_ONLY_1, // encryption state
     Attribute::GIVEN_2, // traffic descriptor profile pointer for downstream
     Attribute::GIVEN_1, // encryption key ring
+];
+
+/// What its attributes are called, in the order of the layout.
+pub(crate) static DESCRIPTIONS: [Description; 10] = [
+    Description {
+        name: "Port-ID",
+        kind: AttributeKind::Number,
+    },
+    Description {
+        name: "T-CONT pointer",
+        kind: AttributeKind::Pointer,
+    },
+    Description {
+        name: "Direction",
+        kind: AttributeKind::Number,
+    },
+    Description {
+        name: "Traffic management pointer for upstream",
+        kind: AttributeKind::Pointer,
+    },
+    Description {
+        name: "Traffic descriptor profile pointer for upstream",
+        kind: AttributeKind::Pointer,
+    },
+    Description {
+        name: "UNI counter",
+        kind: AttributeKind::Number,
+    },
+    Description {
+        name: "Priority queue pointer for downstream",
+        kind: AttributeKind::Pointer,
+    },
+    Description {
+        name: "Encryption state",
+        kind: AttributeKind::Number,
+    },
+    Description {
+        name: "Traffic descriptor profile pointer for downstream",
+        kind: AttributeKind::Pointer,
+    },
+    Description {
+        name: "Encryption key ring",
+        kind: AttributeKind::Number,
+    },
 ];
 
 impl ManagedEntity for GemPort {

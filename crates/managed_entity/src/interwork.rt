@@ -4,12 +4,13 @@ ghost use Rattle.std.proofs.Common.{rules};
 
 use crate::attribute::Attribute;
 use crate::bytes::{Bytes, byte, number, one, two};
+use crate::description::{AttributeKind, Description};
 use crate::entity::ManagedEntity;
 use crate::refusal::Refusal;
 use pmapper::Interwork;
 use std::alloc::{AllocError, Global};
 
-static LAYOUT: [Attribute; 8] = [
+pub(crate) static LAYOUT: [Attribute; 8] = [
     Attribute::GIVEN_2, // GEM port network CTP connectivity pointer
     Attribute::GIVEN_1, // interworking option
     Attribute::GIVEN_2, // service profile pointer
@@ -18,6 +19,42 @@ static LAYOUT: [Attribute; 8] = [
     Attribute::READ_ONLY_1, // operational state
     Attribute::GIVEN_2, // GAL profile pointer
     Attribute::WRITABLE_1, // GAL loopback configuration
+];
+
+/// What its attributes are called, in the order of the layout.
+pub(crate) static DESCRIPTIONS: [Description; 8] = [
+    Description {
+        name: "GEM port network CTP connectivity pointer",
+        kind: AttributeKind::Pointer,
+    },
+    Description {
+        name: "Interworking option",
+        kind: AttributeKind::Number,
+    },
+    Description {
+        name: "Service profile pointer",
+        kind: AttributeKind::Pointer,
+    },
+    Description {
+        name: "Interworking termination point pointer",
+        kind: AttributeKind::Pointer,
+    },
+    Description {
+        name: "PPTP counter",
+        kind: AttributeKind::Number,
+    },
+    Description {
+        name: "Operational state",
+        kind: AttributeKind::Number,
+    },
+    Description {
+        name: "GAL profile pointer",
+        kind: AttributeKind::Pointer,
+    },
+    Description {
+        name: "GAL loopback configuration",
+        kind: AttributeKind::Number,
+    },
 ];
 
 impl ManagedEntity for Interwork {

@@ -12,12 +12,15 @@
 mod attribute;
 mod bytes;
 pub mod class;
+mod description;
 mod entity;
 mod gem_port;
 mod get;
 mod interwork;
+mod known;
 mod mapper;
 mod mask;
+mod onu_data;
 mod padding;
 mod refusal;
 mod setting;
@@ -26,8 +29,10 @@ mod write;
 
 pub use attribute::{Access, Attribute};
 pub use bytes::{Bytes, byte, one};
+pub use description::{AttributeKind, Description};
 pub use entity::ManagedEntity;
 pub use get::get_contents;
+pub use known::{class_name, descriptions_of, layout_of};
 pub use mask::{mask_of, names};
 pub use padding::padded;
 pub use refusal::Refusal;

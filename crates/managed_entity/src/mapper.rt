@@ -4,6 +4,7 @@ ghost use Rattle.std.proofs.Common.{rules};
 
 use crate::attribute::Attribute;
 use crate::bytes::{Bytes, byte, dscp_map, number, one, two, whole};
+use crate::description::{AttributeKind, Description};
 use crate::entity::ManagedEntity;
 use crate::refusal::Refusal;
 use pmapper::Mapper;
@@ -20,7 +21,7 @@ const NEW: Mapper = Mapper {
     tp_type: 0,
 };
 
-static LAYOUT: [Attribute; 13] = [
+pub(crate) static LAYOUT: [Attribute; 13] = [
     Attribute::GIVEN_2, // TP pointer
     Attribute::GIVEN_2, // interwork TP pointer for P-bit priority 0
     Attribute::GIVEN_2, // for 1
@@ -34,6 +35,62 @@ static LAYOUT: [Attribute; 13] = [
     Attribute::WRITABLE_24, // DSCP to P-bit mapping
     Attribute::GIVEN_1, // default P-bit assumption
     Attribute::GIVEN_1, // TP type
+];
+
+/// What its attributes are called, in the order of the layout.
+pub(crate) static DESCRIPTIONS: [Description; 13] = [
+    Description {
+        name: "TP pointer",
+        kind: AttributeKind::Pointer,
+    },
+    Description {
+        name: "Interwork TP pointer for P-bit priority 0",
+        kind: AttributeKind::Pointer,
+    },
+    Description {
+        name: "Interwork TP pointer for P-bit priority 1",
+        kind: AttributeKind::Pointer,
+    },
+    Description {
+        name: "Interwork TP pointer for P-bit priority 2",
+        kind: AttributeKind::Pointer,
+    },
+    Description {
+        name: "Interwork TP pointer for P-bit priority 3",
+        kind: AttributeKind::Pointer,
+    },
+    Description {
+        name: "Interwork TP pointer for P-bit priority 4",
+        kind: AttributeKind::Pointer,
+    },
+    Description {
+        name: "Interwork TP pointer for P-bit priority 5",
+        kind: AttributeKind::Pointer,
+    },
+    Description {
+        name: "Interwork TP pointer for P-bit priority 6",
+        kind: AttributeKind::Pointer,
+    },
+    Description {
+        name: "Interwork TP pointer for P-bit priority 7",
+        kind: AttributeKind::Pointer,
+    },
+    Description {
+        name: "Unmarked frame option",
+        kind: AttributeKind::Number,
+    },
+    Description {
+        name: "DSCP to P-bit mapping",
+        kind: AttributeKind::DscpMapping,
+    },
+    Description {
+        name: "Default P-bit assumption",
+        kind: AttributeKind::Number,
+    },
+    Description {
+        name: "TP type",
+        kind: AttributeKind::Number,
+    },
 ];
 
 impl ManagedEntity for Mapper {

@@ -4,6 +4,7 @@ ghost use Rattle.std.proofs.Common.{rules};
 
 use crate::attribute::{Access, Attribute};
 use crate::bytes::{Bytes, byte, dscp_map, four, number, one, two, whole};
+use crate::description::{AttributeKind, Description};
 use crate::entity::ManagedEntity;
 use crate::refusal::Refusal;
 use std::alloc::{AllocError, Global};
@@ -29,7 +30,7 @@ pub struct VlanConfig {
 /// What both TPIDs are after Create: that of a customer's tag (IEEE 802.1Q, 9.6), which is a choice of this project.
 const TPID: u16 = 0x8100;
 
-static LAYOUT: [Attribute; 8] = [
+pub(crate) static LAYOUT: [Attribute; 8] = [
     Attribute::GIVEN_1, // association type
     // received frame VLAN tagging operation table max size
     Attribute {
@@ -58,6 +59,42 @@ static LAYOUT: [Attribute; 8] = [
     },
     Attribute::GIVEN_2, // associated ME pointer
     Attribute::WRITABLE_24, // DSCP to P-bit mapping
+];
+
+/// What its attributes are called, in the order of the layout.
+pub(crate) static DESCRIPTIONS: [Description; 8] = [
+    Description {
+        name: "Association type",
+        kind: AttributeKind::Number,
+    },
+    Description {
+        name: "Received frame VLAN tagging operation table max size",
+        kind: AttributeKind::Number,
+    },
+    Description {
+        name: "Input TPID",
+        kind: AttributeKind::Tpid,
+    },
+    Description {
+        name: "Output TPID",
+        kind: AttributeKind::Tpid,
+    },
+    Description {
+        name: "Downstream mode",
+        kind: AttributeKind::Number,
+    },
+    Description {
+        name: "Received frame VLAN tagging operation table",
+        kind: AttributeKind::Table,
+    },
+    Description {
+        name: "Associated ME pointer",
+        kind: AttributeKind::Pointer,
+    },
+    Description {
+        name: "DSCP to P-bit mapping",
+        kind: AttributeKind::DscpMapping,
+    },
 ];
 
 /// The settings after Create.

@@ -2,9 +2,10 @@
 ghost use Rattle.std.specs.Prelude.{◌∷◌, [], refl};
 ghost use Rattle.std.proofs.Common.{rules};
 
+use managed_entity::class::ONU_DATA;
 use managed_entity::{
-    Attribute, Bytes, ManagedEntity, Refusal, byte, check_set, get_contents, mask_of, one, set,
-    set_values,
+    Attribute, Bytes, ManagedEntity, Refusal, byte, check_set, get_contents, layout_of, mask_of,
+    one, set, set_values,
 };
 use omci_msg::Request;
 use std::alloc::{AllocError, Global};
@@ -78,8 +79,6 @@ impl OnuData {
     }
 }
 
-static LAYOUT: [Attribute; 1] = [Attribute::WRITABLE_1];
-
 impl ManagedEntity for OnuData {
     ghost use Rattle.managed_entity.specs.Class.{onu_data_layout};
 
@@ -110,7 +109,7 @@ impl ManagedEntity for OnuData {
     ghost given_fits = { Prim.search rules };
 
     fn layout() -> &'static [Attribute] {
-        &LAYOUT
+        layout_of(ONU_DATA)
     }
 
     fn new(_alloc: Global) -> Result<Self, AllocError> {
