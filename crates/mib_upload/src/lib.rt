@@ -23,7 +23,7 @@ mod shelf;
 
 pub use desk::Desk;
 pub use row::Row;
-pub use shelf::Shelf;
+pub use shelf::{CLASSES, Shelf};
 
 /// Entities whose attributes each fit a row have one list of rows, and it is the computed one.
 pub fn law_of_rows()

@@ -12,7 +12,7 @@ use std::mem::replace;
 
 /// The classes, by number: ONU data, 802.1p mapper service profile, extended VLAN tagging operation configuration data,
 /// GEM interworking termination point, GEM port network CTP.
-const CLASSES: [u16; 5] = [2, 130, 171, 266, 268];
+pub const CLASSES: [u16; 5] = [2, 130, 171, 266, 268];
 
 /// The most rows that there may be: one of ONU data, two each of 32 mappers and of 16 tables, and one each of 256 points
 /// and of 256 GEM ports.

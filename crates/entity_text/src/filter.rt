@@ -1,0 +1,70 @@
+//! The filter of a rule in words.
+use std::fmt;
+use vlan_rule::{EthertypeFilter, Filter, PriorityFilter, Rule, TagFilter, TpidFilter, VidFilter};
+
+/// What a rule asks of a frame, in words: `one tag (priority any, VID 100, TPID 0x8100), Ethertype any`.
+#[derive(Clone, Copy, Debug)]
+pub struct FilterWords<'a>(pub &'a Rule);
+
+impl fmt::Display for FilterWords<'_> {
+    fn fmt<W: fmt::Write>(&self, f: &mut fmt::Formatter<W>) -> fmt::Result {
+        match &self.0.filter {
+            Filter::NoTag => write!(f, "no tag")?,
+            Filter::OneTagDefault => write!(f, "any one tag")?,
+            Filter::TwoTagDefault => write!(f, "any two tags")?,
+            Filter::OneTag(tag) => {
+                let tag = TagFilterWords(tag);
+                write!(f, "one tag ({tag})")?
+            }
+            Filter::TwoTag { outer, inner } => {
+                let outer = TagFilterWords(outer);
+                let inner = TagFilterWords(inner);
+                write!(f, "two tags (outer: {outer}; inner: {inner})")?
+            }
+        }
+        let ethertype = ethertype_words(self.0.ethertype);
+        write!(f, ", Ethertype {ethertype}")
+    }
+}
+
+/// What a tag must be.
+#[derive(Clone, Copy)]
+struct TagFilterWords<'a>(&'a TagFilter);
+
+impl fmt::Display for TagFilterWords<'_> {
+    fn fmt<W: fmt::Write>(&self, f: &mut fmt::Formatter<W>) -> fmt::Result {
+        match self.0.priority {
+            PriorityFilter::Any => write!(f, "priority any")?,
+            PriorityFilter::Exactly(priority) => write!(f, "priority {priority}")?,
+        }
+        match self.0.vid {
+            VidFilter::Any => write!(f, ", VID any")?,
+            VidFilter::Exactly(vid) => write!(f, ", VID {vid}")?,
+        }
+        let tpid = tpid_words(self.0.tpid);
+        write!(f, ", TPID {tpid}")
+    }
+}
+
+/// What the TPID of a tag must be, and its drop eligible indicator.
+fn tpid_words(filter: TpidFilter) -> &'static str {
+    match filter {
+        TpidFilter::Any => "any",
+        TpidFilter::Standard => "0x8100",
+        TpidFilter::Input => "input",
+        TpidFilter::InputNotEligible => "input with DEI 0",
+        TpidFilter::InputEligible => "input with DEI 1",
+    }
+}
+
+/// What the type behind the tags must be.
+fn ethertype_words(filter: EthertypeFilter) -> &'static str {
+    match filter {
+        EthertypeFilter::Any => "any",
+        EthertypeFilter::Ipv4 => "0x0800 (IPv4)",
+        EthertypeFilter::Pppoe => "0x8863 or 0x8864 (PPPoE)",
+        EthertypeFilter::Arp => "0x0806 (ARP)",
+        EthertypeFilter::Ipv6 => "0x86dd (IPv6)",
+        EthertypeFilter::Eapol => "0x888e (EAPOL)",
+    }
+}

@@ -1,0 +1,41 @@
+//! Managed entities as text: what a rule of a VLAN table says in words, what the value of an attribute is, and all that a
+//! MIB holds, for one who reads it and, as JSON (RFC 8259), for other programs.
+//!
+//! **Nothing is written out by hand for a class.** What attributes a class has, what they are called and what their values
+//! are, is data of `managed_entity`.
+//!
+//! **What is promised.** Every call returns, and nothing is undefined. What stands in a text is shown by tests.
+#![tactic(auto)]
+
+mod bytes;
+mod dscp;
+mod entity;
+mod entry;
+mod fault;
+mod filter;
+mod json_text;
+mod mib;
+mod mib_json;
+mod rule;
+mod tag;
+mod treatment;
+mod value;
+
+pub use bytes::HexWords;
+pub use dscp::DscpMapWords;
+pub use entity::EntityWords;
+pub use entry::EntryWords;
+pub use fault::TextFault;
+pub use filter::FilterWords;
+pub use json_text::{JsonText, put_number, put_text, put_words};
+pub use mib::write_mib;
+pub use mib_json::write_mib_json;
+pub use rule::RuleWords;
+pub use tag::TagWords;
+pub use treatment::{AddedTagWords, TreatmentWords};
+pub use value::ValueWords;
+
+#[cfg(test)]
+mod mib_tests;
+#[cfg(test)]
+mod tests;
