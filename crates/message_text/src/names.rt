@@ -1,0 +1,44 @@
+//! The names of actions, results and faults.
+use omci_msg::Action;
+
+/// What an action is called (ITU-T G.988, clause 11.2), or None where it isn't known.
+pub fn action_name(action: Action) -> Option<&'static str> {
+    match action {
+        Action::Create => Some("Create"),
+        Action::Delete => Some("Delete"),
+        Action::Set => Some("Set"),
+        Action::Get => Some("Get"),
+        Action::GetNext => Some("Get next"),
+        Action::MibUpload => Some("MIB upload"),
+        Action::MibUploadNext => Some("MIB upload next"),
+        Action::MibReset => Some("MIB reset"),
+        Action::Other(_) => None,
+    }
+}
+
+/// What the result of an answer is called (ITU-T G.988, annex A).
+pub fn result_name(code: u8) -> &'static str {
+    match code {
+        0 => "success",
+        1 => "command processing error",
+        2 => "command not supported",
+        3 => "parameter error",
+        4 => "unknown managed entity",
+        5 => "unknown managed entity instance",
+        6 => "device busy",
+        7 => "instance exists",
+        9 => "attributes failed or unknown",
+        _ => "not a result",
+    }
+}
+
+/// What fault of a message has a number, or None where none has.
+pub fn message_fault_words(number: u8) -> Option<&'static str> {
+    match number {
+        1 => Some("the message has neither 48 bytes nor 44"),
+        2 => Some("the destination bit is 1, expected 0"),
+        3 => Some("the acknowledgement bit is 1, expected 0 of a request"),
+        4 => Some("the device identifier isn't 10"),
+        _ => None,
+    }
+}

@@ -1,0 +1,83 @@
+//! A request as text.
+use crate::attributes::{TableValue, given_mask, put_contents, put_names, put_rest, put_values};
+use crate::names::action_name;
+use byteorder::{BigEndian, ByteOrder};
+use entity_text::EntityWords;
+use managed_entity::{class_name, mask_of};
+use omci_msg::{Action, Request};
+use std::alloc::AllocError;
+
+/// Puts a request as text: a line with the transaction correlation identifier, the action, the class, the instance and whether
+/// an answer is wanted; and below it lines with what the contents say (ITU-T G.988, clause 11.2 and annex A).
+pub fn put_request(text: &mut String, request: &Request) -> Result<(), AllocError> {
+    let tci = request.tci;
+    write!(text, "request 0x{tci:04x}: ")?;
+    put_action(text, request.action)?;
+    let entity = EntityWords {
+        class: request.class,
+        instance: request.instance,
+    };
+    let wish = if request.wants_answer {
+        "answer wanted"
+    } else {
+        "no answer wanted"
+    };
+    writeln!(text, ", {entity}, {wish}")?;
+    put_asked(text, request)
+}
+
+/// Puts the name of an action, or its number.
+pub(crate) fn put_action(text: &mut String, action: Action) -> Result<(), AllocError> {
+    match action_name(action) {
+        Some(name) => text.push_str(name),
+        None => write!(text, "unknown action ({})", action.code()),
+    }
+}
+
+/// Puts what the contents of a request say.
+fn put_asked(text: &mut String, request: &Request) -> Result<(), AllocError> {
+    let contents = &request.contents;
+    match request.action {
+        Action::Delete | Action::MibUpload | Action::MibReset => put_rest(text, contents),
+        Action::MibUploadNext => {
+            put_sequence(text, &contents[..2])?;
+            put_rest(text, &contents[2..])
+        }
+        Action::Other(_) => put_contents(text, contents),
+        _ if class_name(request.class).is_none() => put_contents(text, contents),
+        Action::Create | Action::Set => put_given(text, request),
+        Action::Get | Action::GetNext => put_named(text, request),
+    }
+}
+
+/// Puts the attributes that a Create or a Set gives.
+fn put_given(text: &mut String, request: &Request) -> Result<(), AllocError> {
+    let contents = &request.contents;
+    let (mask, values) = match request.action {
+        Action::Create => (given_mask(request.class), &contents[..]),
+        _ => (mask_of(contents), &contents[2..]),
+    };
+    let rest = put_values(text, request.class, mask, TableValue::Entry, values)?;
+    put_rest(text, rest)
+}
+
+/// Puts the names of the attributes that a Get or a Get next asks for.
+fn put_named(text: &mut String, request: &Request) -> Result<(), AllocError> {
+    let contents = &request.contents;
+    put_names(text, "attributes", request.class, mask_of(contents))?;
+    let (_, behind) = contents.split_at(2);
+    if request.action != Action::GetNext {
+        return put_rest(text, behind);
+    }
+    put_sequence(text, &contents[2..4])?;
+    put_rest(text, &contents[4..])
+}
+
+/// Puts the sequence number that two bytes are.
+fn put_sequence(text: &mut String, bytes: &[u8]) -> Result<(), AllocError> {
+    let number = match bytes {
+        [high, low] => u16::from_be_bytes([*high, *low]),
+        _ => 0,
+    };
+    writeln!(text, "  sequence number: {number}")
+}
