@@ -1,14 +1,12 @@
 -- What requests leave of a control, one after the other.
 use Rattle.std.proofs.Common.{◌≡◌, [], ◌∷◌, ◌++◌, List, refl, true, false, cond, ap, sym, ◌∙◌, append_assoc, append-nil, ℕ, length, arith}
 use Rattle.omci_msg.specs.declared.Request.{Request}
-use Rattle.omci_msg.specs.declared.Action.{Action}
-use Rattle.omci_msg.specs.declared.Action.TheVariants.{Create, Delete, Set, Get, GetNext, MibUpload, MibUploadNext, MibReset, Other}
 use Rattle.capture.specs.Line.{asked_by}
 use Rattle.capture.specs.Text.{lines_of}
 use Rattle.mib_state.specs.Entities.{Entities}
 use Rattle.mib_state.specs.Step.{left}
 use Rattle.mib_state.specs.After.{is_accepted, after_from, accepted_from, accepted}
-use Rattle.mib_upload.specs.Upload.{DeskState, answered_as}
+use Rattle.mib_upload.proofs.Left.{desk_left}
 use Rattle.plan_publish.specs.Control.{Progress, accepted_of, carried_out}
 use Rattle.lane_run.specs.Control.{IsNewControl, Applied}
 use Rattle.lane_run.specs.Trace.{request_in, requests_of}
@@ -50,18 +48,6 @@ applied_more a b c qs rs x y =
 
 -- ---- one request
 
--- what an action leaves of a desk's entities
-left_as : (a : Action) (s : DeskState) (q : Request) → q.action ≡ a → (answered_as a s q).1.mib.entities ≡ left q.action s.mib.entities q
-left_as Create s q e = refl
-left_as Delete s q e = refl
-left_as Set s q e = refl
-left_as Get s q e = refl
-left_as GetNext s q e = refl
-left_as MibUpload s q e = ap (λ (a : Action). left a s.mib.entities q) (sym e)
-left_as MibUploadNext s q e = ap (λ (a : Action). left a s.mib.entities q) (sym e)
-left_as MibReset s q e = refl
-left_as (Other code) s q e = refl
-
 pub applied_one : (p : Progress) (q : Request) → Applied p (carried_out p q) (q ∷ [])
 applied_one p q = record {
   joined =
@@ -69,7 +55,7 @@ applied_one p q = record {
         | true ↦ sym (append_assoc p.published p.pending (q ∷ []))
         | false ↦ sym (append-nil (p.published ++ p.pending))
       ];
-  entities = left_as q.action p.desk q refl;
+  entities = desk_left p.desk q;
   home = refl;
 }
 

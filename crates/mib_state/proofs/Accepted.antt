@@ -27,7 +27,7 @@ action_refused MibUploadNext e q h = refl
 action_refused MibReset e q h = absurd (false≢true (sym h))
 action_refused (Other code) e q h = refl
 
-left_by_refused : (e : Entities) (q : Request) → is_accepted e q ≡ false → left q.action e q ≡ e
+pub left_by_refused : (e : Entities) (q : Request) → is_accepted e q ≡ false → left q.action e q ≡ e
 left_by_refused e q h = action_refused q.action e q h
 
 -- a request that isn't accepted can be left out anywhere

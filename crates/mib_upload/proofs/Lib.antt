@@ -5,4 +5,5 @@ pub mod Reading
 pub mod Joined
 pub mod Walk
 pub mod Classes
+pub mod Left
 mod Examples
