@@ -17,8 +17,8 @@ fn mapper_at(mib: &Mib, port: u16) -> Option<&Mapper>
     mib.mapper(mib.mapper_of_port(port)?)
 }
 
-/// The GEM interworking termination point of the frames of a priority.
-fn pointer_of(mapper: &Mapper, priority: u8) -> Option<u16>
+/// The GEM interworking termination point of the frames of a priority, under 8, or None where the mapper's pointer is null.
+pub fn pointer_of(mapper: &Mapper, priority: u8) -> Option<u16>
     requires { priority < 8 }
     ensures { (n : ℕ) → result ≡ pointer_of (pointers_at (mapper_instance n mapper.now)) priority }
 {
@@ -34,9 +34,9 @@ fn carries_upstream(gem: &GemPort) -> bool
     gem.direction == 1 || gem.direction == 3
 }
 
-/// The GEM port of the frames that a GEM port network CTP carries.
+/// The port-ID of the frames that a GEM port network CTP carries, or `Direction` where it carries none upstream.
 #[tactic(auto, unfolding(crate::specs::Meaning::port_id_of))]
-fn port_id_of(gem: &GemPort) -> Result<u16, Reason>
+pub fn port_id_of(gem: &GemPort) -> Result<u16, Reason>
     ensures { (n : ℕ) → result ≡ port_id_of (gem_port_instance n gem.now) }
 {
     let port_id = carries_upstream(gem).then_some(gem.port_id);

@@ -22,11 +22,11 @@ mod table;
 mod verdict;
 mod walk;
 
-pub use gem_port::gem_port_of;
+pub use gem_port::{gem_port_of, pointer_of, port_id_of};
 pub use out_frame::OutFrame;
 pub use reason::Reason;
 pub use spelling::NoMemory;
-pub use table::settings_of;
+pub use table::{PortTable, input_tpid, settings_of};
 pub use verdict::Verdict;
 pub use walk::plain_walk;
 

@@ -33,8 +33,8 @@ impl<'a> OutFrame<'a> {
     ghost use Rattle.std.specs.Prelude.{◌≡◌, ◌≤◌, ◌+◌, ◌*◌, length, take, drop, map};
     ghost use Rattle.tag_view.specs.Word.{tag_of};
 
-    /// A frame that was read, with other tags.
-    pub(crate) fn new(frame: &FrameView<'a>, tags: ArrayVec<Tag, 4>) -> Self
+    /// A frame that was read, with other tags, outermost first.
+    pub fn new(frame: &FrameView<'a>, tags: ArrayVec<Tag, 4>) -> Self
         ensures { result ≡ record frame.now { tags = tags.items } }
     {
         OutFrame {

@@ -15,9 +15,9 @@ const CUSTOMER_TPID: u16 = 0x8100;
 
 /// The table of a port: its rules, and what they are applied with.
 #[derive(Drop)]
-pub(crate) struct PortTable<'m> {
-    settings: TableSettings,
-    rules: &'m RuleTable,
+pub struct PortTable<'m> {
+    pub settings: TableSettings,
+    pub rules: &'m RuleTable,
 }
 
 impl<'m> Model for PortTable<'m> {
@@ -47,7 +47,7 @@ impl<'m> PortTable<'m> {
 
     /// The table of a port, if it has one.
     #[tactic(auto, using(crate::proofs::Tables::at_none, crate::proofs::Tables::at_absent))]
-    pub(crate) fn at(mib: &'m Mib, port: u16) -> Option<Self>
+    pub fn at(mib: &'m Mib, port: u16) -> Option<Self>
         ensures { result ≡ table_at mib.now.entities port }
     {
         let instance = mib.table_of_port(port)?;
@@ -55,9 +55,9 @@ impl<'m> PortTable<'m> {
         Some(Self::of(vlan))
     }
 
-    /// The rule of the entry that is used for a frame.
+    /// The rule of the entry that is used for a frame, if one is.
     #[tactic(auto, unfolding(crate::specs::Meaning::entry_for))]
-    fn rule_for(&self, frame: &FrameView) -> Option<&'m Rule>
+    pub fn rule_for(&self, frame: &FrameView) -> Option<&'m Rule>
         ensures { MatchOption result
             (entry_for self.now frame.now ≡ None)
             (λ rule. (entry : List ℕ) × (entry_for self.now frame.now ≡ Some entry) × IsRuleOf entry rule.now) }
@@ -94,7 +94,7 @@ pub fn settings_of(input_tpid: u16, output_tpid: u16, dscp_map: DscpMap) -> Tabl
 
 /// The type that begins a tag, beside the two of IEEE 802.1Q, at a port with this table.
 #[tactic(auto, unfolding(crate::specs::Meaning::input_tpid_of))]
-pub(crate) fn input_tpid(table: &Option<PortTable>) -> u16
+pub fn input_tpid(table: &Option<PortTable>) -> u16
     ensures { result ≡ input_tpid_of table.now }
 {
     match table {

@@ -4,7 +4,7 @@ ghost use Rattle.std.specs.Option.{option_and_then};
 ghost use Rattle.managed_entity.specs.Class.{attributes_of, room_of, width_at};
 ghost use Rattle.mib_state.specs.Entities.{nothing, unlatched, instances_of, find, next, place_in};
 ghost use Rattle.managed_entity.specs.Instance.{attribute_of};
-ghost use Rattle.mib_state.specs.Attached.{mapper_of_port, table_of_port};
+ghost use Rattle.mib_state.specs.Attached.{is_table_of, least_instance, mapper_of_port, table_of_port};
 ghost use Rattle.managed_entity.specs.Shown.{mapper_instance, vlan_instance, interwork_instance, gem_port_instance};
 
 use crate::held::{HeldEntity, HeldInstance};
@@ -208,13 +208,21 @@ impl Mib {
         self.mappers.attached(TP_TYPE_UNI, port)
     }
 
+    /// The number of the extended VLAN tagging operation configuration data that points to a port, of association type 2 (ITU-T
+    /// G.988, clause 9.3.13). Of several, it is the one of least number, which is a choice of this project.
+    pub fn own_table_of_port(&self, port: u16) -> Option<u16>
+        ensures { result ≡ least_instance (is_table_of 2 port) self.now.entities.vlans }
+    {
+        self.vlans.attached(ASSOCIATION_UNI, port)
+    }
+
     /// The number of the extended VLAN tagging operation configuration data of a port: the one of association type 2 that
     /// points to it, and where there is none, the one of association type 1 that points to its mapper (ITU-T G.988, clause
     /// 9.3.13). Of several, it is the one of least number. That and the order are choices of this project.
     pub fn table_of_port(&self, port: u16) -> Option<u16>
         ensures { result ≡ table_of_port self.now.entities port }
     {
-        match self.vlans.attached(ASSOCIATION_UNI, port) {
+        match self.own_table_of_port(port) {
             Some(table) => Some(table),
             None => self
                 .vlans

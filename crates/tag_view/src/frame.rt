@@ -7,7 +7,7 @@ use std::marker::Model;
 
 /// A frame that was read: 12 bytes of addresses, at most two tags, and the rest, which begins with
 /// a type. The slices are lent by the frame's bytes, and live as long as these.
-#[derive(Debug, Drop)]
+#[derive(Clone, Debug, Drop)]
 pub struct FrameView<'a> {
     pub(crate) addresses: &'a [u8],
     pub(crate) tags: ArrayVec<Tag, 2>,

@@ -15,8 +15,10 @@ const MISSING: Tag = Tag {
     vid: 0,
 };
 
-/// The tag that is added.
-pub(crate) fn tag(added: &AddedTag, settings: &TableSettings, frame: &FrameView<'_>) -> Tag
+/// The tag that a treatment adds to a frame, with the settings of its table. Copies are of the tags that were received, before
+/// any is removed; what a frame lacks is copied as 0x8100 with priority, indicator and VID 0, and without a DSCP the priority that
+/// is copied from it is 0 (choices of this project).
+pub fn added_tag(added: &AddedTag, settings: &TableSettings, frame: &FrameView<'_>) -> Tag
     requires { IsTrue (addition_fits (Some added.now)) }
     ensures { result ≡ tag_from added.now settings.now frame.now.tags (dscp_of frame.now.rest) }
 {

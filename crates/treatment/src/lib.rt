@@ -28,6 +28,7 @@ pub mod treated;
 pub mod treating;
 
 pub use compiled::Treat;
+pub use copy::added_tag;
 pub use treated::Treated;
 pub use treating::treat;
 

@@ -7,7 +7,7 @@ ghost use Rattle.vlan_rule.specs.declared.treatment.Treatment.TheVariants.{Retag
 ghost use Rattle.treatment.specs.Treated.{shown};
 ghost use Rattle.treatment.specs.Treatment.{additions_from, treated, treated_by};
 
-use crate::copy;
+use crate::copy::added_tag;
 use crate::treated::Treated;
 use arrayvec::ArrayVec;
 use tag_view::{FrameView, Tag};
@@ -51,10 +51,10 @@ fn added(retag: &Retag, settings: &TableSettings, frame: &FrameView<'_>) -> Arra
 {
     let mut tags = ArrayVec::new();
     if let Some(outer) = &retag.outer {
-        tags.push(copy::tag(outer, settings, frame));
+        tags.push(added_tag(outer, settings, frame));
     }
     if let Some(inner) = &retag.inner {
-        tags.push(copy::tag(inner, settings, frame));
+        tags.push(added_tag(inner, settings, frame));
     }
     tags
 }

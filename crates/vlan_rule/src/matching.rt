@@ -46,7 +46,8 @@ impl TagFilter {
 }
 
 impl PriorityFilter {
-    fn is(&self, tag: &Tag) -> bool
+    /// Whether the priority of a tag is as it asks.
+    pub fn is(&self, tag: &Tag) -> bool
         ensures { result ≡ has_priority self.now tag.now }
     {
         match *self {
@@ -57,7 +58,8 @@ impl PriorityFilter {
 }
 
 impl VidFilter {
-    fn is(&self, tag: &Tag) -> bool
+    /// Whether the VID of a tag is as it asks.
+    pub fn is(&self, tag: &Tag) -> bool
         ensures { result ≡ has_vid self.now tag.now }
     {
         match *self {
@@ -68,7 +70,8 @@ impl VidFilter {
 }
 
 impl TpidFilter {
-    fn is(&self, tag: &Tag, input_tpid: u16) -> bool
+    /// Whether the TPID of a tag, and its drop eligible indicator, are as it asks.
+    pub fn is(&self, tag: &Tag, input_tpid: u16) -> bool
         ensures { result ≡ has_tpid input_tpid self.now tag.now }
     {
         match *self {
@@ -82,7 +85,8 @@ impl TpidFilter {
 }
 
 impl EthertypeFilter {
-    fn is(&self, ethertype: u16) -> bool
+    /// Whether the type behind a frame's tags is as it asks.
+    pub fn is(&self, ethertype: u16) -> bool
         ensures { result ≡ has_type self.now ethertype }
     {
         match self {
