@@ -1,0 +1,12 @@
+pub mod Appended
+pub mod Kept
+pub mod Orders
+pub mod Stages
+pub mod Tries
+pub mod Shadows
+pub mod Admits
+pub mod Covers
+pub mod Cloned
+pub mod Origins
+pub mod Priorities
+pub mod Ends
