@@ -1,5 +1,7 @@
 -- Figures of more verdicts.
-use Rattle.std.proofs.Common.{◌≡◌, ℕ, ◌+◌, ◌<◌, ◌≤◌, ◌^◌, List, [], ◌∷◌, ◌++◌, take, length, get_or, ap, arith, refl, Bool, true, false}
+use Rattle.std.proofs.Common.{◌≡◌, ◌≢◌, ℕ, ◌+◌, ◌<◌, ◌≤◌, ◌^◌, List, [], ◌∷◌, ◌++◌, take, length, length-take, get_or, ap, ⊎_elim, add-one, arith, refl, Bool, true, false}
+use Rattle.std.proofs.lemmas.Bool.{cases_eq}
+use Rattle.std.proofs.lemmas.Bool.Decides.{nat_tests}
 use Rattle.std.specs.Prelude.{cond, filter, Err, IsErrOf, zero, suc}
 use Rattle.std.specs.List.{sum_by}
 use Rattle.std.proofs.lemmas.List.Sums.{sum_by-cons, sum_by-append, sum_by_more, sum_by_more_le, length-filter, count_by-le-length}
@@ -8,6 +10,8 @@ use Rattle.frame_meaning.specs.declared.reason.Reason.TheVariants.{Runt, CutTag,
 use Rattle.frame_meaning.specs.declared.verdict.Verdict.{Verdict}
 use Rattle.frame_meaning.specs.declared.verdict.Verdict.TheVariants.{Forward, Drop}
 use Rattle.frame_meaning.specs.Reason.{number_of_reason}
+use Rattle.frame_stats.specs.declared.fault.CountFault.{CountFault}
+use Rattle.frame_stats.specs.declared.fault.CountFault.TheVariants.{CountFull, NoMemory}
 use Rattle.frame_stats.specs.Tallies.{weight}
 use Rattle.frame_stats.specs.Figures.{Figure, Frames, Bytes, DropsFor, FramesTo, bytes_leaving, is_drop_for, leaves_by_port, figure, NamesPort}
 
@@ -69,43 +73,60 @@ past_whole f n vs i v bound lt is so_far past =
 
 -- ---- none but the bytes is more than the frames
 
-within_frames : (f : Figure) (vs : List Verdict) (bound : ℕ) → length vs < bound → figure Bytes vs < bound → figure f vs < bound
-within_frames Frames vs bound frames bytes = frames
-within_frames Bytes vs bound frames bytes = bytes
-within_frames (DropsFor reason) vs bound frames bytes =
+pub drops_within : (reason : Reason) (vs : List Verdict) → figure (DropsFor reason) vs ≤ length vs
+drops_within reason vs =
     let count = length-filter (is_drop_for reason) vs in
     let least = count_by-le-length (is_drop_for reason) vs in
-    omega (arith, count, least, frames)
-within_frames (FramesTo port) vs bound frames bytes =
+    omega (arith, count, least)
+
+pub frames_within : (port : ℕ) (vs : List Verdict) → figure (FramesTo port) vs ≤ length vs
+frames_within port vs =
     let count = length-filter (leaves_by_port port) vs in
     let least = count_by-le-length (leaves_by_port port) vs in
-    omega (arith, count, least, frames)
+    omega (arith, count, least)
 
-one_frame : (v : Verdict) → weight Frames v ≡ 1
-one_frame (Forward gem frame) = refl
-one_frame (Drop found) = refl
+all_within : (f : Figure) (vs : List Verdict) (bound : ℕ) → length vs < bound → figure Bytes vs < bound → figure f vs < bound
+all_within Frames vs bound frames bytes = frames
+all_within Bytes vs bound frames bytes = bytes
+all_within (DropsFor reason) vs bound frames bytes = omega (arith, drops_within reason vs, frames)
+all_within (FramesTo port) vs bound frames bytes = omega (arith, frames_within port vs, frames)
 
--- a verdict that is the first of its port, with no sum up to it that passes 64 bits
-pub names_port : (vs : List Verdict) (i : ℕ) (v : Verdict) (port frames bytes before : ℕ) → i < length vs → v ≡ get_or vs i v
-    → frames ≡ figure Frames (take i vs) → bytes ≡ figure Bytes (take i vs) → before ≡ figure (FramesTo port) (take i vs)
-    → frames + 1 < 2 ^ 64 → bytes + weight Bytes v < 2 ^ 64
-    → before ≡ 0 → weight (FramesTo port) v ≡ 1 → NamesPort vs i
-names_port vs i v port frames bytes before lt is frames_are bytes_are before_is frames_fit bytes_fit none named =
-    let all = figure_more Frames vs i v lt in
-    let one = one_frame (get_or vs i v) in
-    let sent = figure_more Bytes vs i v lt in
-    let sent_same = ap (weight Bytes) is in
-    let by_port = figure_more (FramesTo port) vs i v lt in
-    let by_port_same = ap (weight (FramesTo port)) is in
-    let frames_below : length (take (i + 1) vs) < 2 ^ 64 = omega (arith, all, one, frames_are, frames_fit) in
-    let bytes_below : figure Bytes (take (i + 1) vs) < 2 ^ 64 = omega (arith, sent, sent_same, bytes_are, bytes_fit) in
+-- ---- the first frame of a port
+
+one_at_most : (port : ℕ) (v : Verdict) → weight (FramesTo port) v ≤ 1
+one_at_most port (Forward gem frame) = grind (arith, nat_tests)
+one_at_most port (Drop found) = omega arith
+
+-- a verdict with which a port has its first frame, where no sum up to it passes 64 bits
+names_port : (vs : List Verdict) (i port : ℕ) (d : Verdict) → i < length vs → length vs < 2 ^ 64 → figure Bytes (take (i + 1) vs) < 2 ^ 64
+    → figure (FramesTo port) (take i vs) ≡ 0 → 0 < figure (FramesTo port) (take (i + 1) vs) → NamesPort vs i
+names_port vs i port d lt few bytes none some =
+    let more = figure_more (FramesTo port) vs i d lt in
+    let most = one_at_most port (get_or vs i d) in
+    let len = length-take (i + 1) vs in
+    let frames : length (take (i + 1) vs) < 2 ^ 64 = omega (arith, len, few) in
     record {
       inside = lt;
       port = port;
-      first = omega (arith, before_is, none);
-      named = omega (arith, by_port, by_port_same, before_is, none, named);
-      fits = λ f. within_frames f (take (i + 1) vs) (2 ^ 64) frames_below bytes_below;
+      first = none;
+      named = omega (arith, more, most, none, some);
+      fits = λ f. all_within f (take (i + 1) vs) (2 ^ 64) frames bytes;
     }
+
+-- where a port has frames among the first n verdicts, one of them names it
+pub some_names_port : (vs : List Verdict) (n port : ℕ) (d : Verdict) → n ≤ length vs → length vs < 2 ^ 64 → figure Bytes (take n vs) < 2 ^ 64
+    → 0 < figure (FramesTo port) (take n vs) → (place : ℕ) × NamesPort vs place
+some_names_port vs zero port d le few bytes some = absurd (omega (arith, frames_within port (take 0 vs), length-take 0 vs, some))
+some_names_port vs (suc n) port d le few bytes some =
+    let lt : n < length vs = omega (arith, le) in
+    let fewer = figure_more Bytes vs n d lt in
+    let bytes_here : figure Bytes (take (n + 1) vs) < 2 ^ 64 = rw add-one bytes in
+    let some_here : 0 < figure (FramesTo port) (take (n + 1) vs) = rw add-one some in
+    ⊎_elim
+    (λ (none : figure (FramesTo port) (take n vs) ≡ 0). (n, names_port vs n port d lt few bytes_here none some_here))
+    (λ (before : figure (FramesTo port) (take n vs) ≢ 0).
+    some_names_port vs n port d (omega (arith, le)) few (omega (arith, bytes_here, fewer)) (omega (arith, before)))
+    (cases_eq (figure (FramesTo port) (take n vs)) 0)
 
 -- ---- reasons and places
 
@@ -125,3 +146,8 @@ reason_at (suc (suc (suc (suc (suc (suc (suc (suc (suc k))))))))) lt = absurd (o
 -- a fault is the same in another result
 pub same_fault : {A B E : Type 0} (e x : E) → IsErrOf {T = A} (Err e) x → IsErrOf {T = B} (Err e) x
 same_fault e x h = let same : e ≡ x = cc in ap Err same
+
+-- what holds for either fault
+pub by_fault : {P : Type 0} (fault : CountFault) → (fault ≡ CountFull → P) → (fault ≡ NoMemory → P) → P
+by_fault CountFull full memory = full refl
+by_fault NoMemory full memory = memory refl

@@ -1,11 +1,11 @@
 -- Counts on the way.
-use Rattle.std.specs.Prelude.{◌≡◌, ℕ, ◌+◌, ◌-◌, ◌==◌, length, slice_index, if◌then◌else◌}
+use Rattle.std.specs.Prelude.{ℕ, ◌+◌, ◌==◌, length, if◌then◌else◌}
 use Rattle.tag_view.specs.Frame.{spelled}
 use Rattle.frame_meaning.specs.declared.reason.Reason.{Reason}
 use Rattle.frame_meaning.specs.declared.verdict.Verdict.{Verdict}
 use Rattle.frame_meaning.specs.declared.verdict.Verdict.TheVariants.{Forward, Drop}
 use Rattle.frame_meaning.specs.Reason.{number_of_reason}
-use Rattle.frame_stats.specs.declared.tally.Tally.{Tally}
+use Rattle.frame_stats.specs.declared.port_tally.PortTally.{PortTally}
 use Rattle.frame_stats.specs.Figures.{Figure, Frames, Bytes, DropsFor, FramesTo, at_port}
 use Rattle.frame_stats.specs.Runs.{in_runs}
 
@@ -30,18 +30,8 @@ abbrev pub weight : Figure → Verdict → ℕ
 weight f (Forward gem frame) = leaving f gem (length (spelled frame.addresses frame.tags frame.rest))
 weight f (Drop found) = dropping f found
 
--- ---- a tally
+-- ---- ports
 
--- the figure that a tally shows
-abbrev pub tallied : Tally → Figure → ℕ
-tallied t Frames = t.frames
-tallied t Bytes = t.bytes
-tallied t (DropsFor reason) = slice_index t.drops (number_of_reason reason - 1)
-tallied t (FramesTo port) = at_port t.ports port + in_runs port t.runs
-
--- one more frame of a port, and nothing else
-pub record AddsFrame (gem : ℕ) (old new : Tally) : Type 0 where
-  pub ports : (port : ℕ) → tallied new (FramesTo port) ≡ tallied old (FramesTo port) + (if gem == port then 1 else 0)
-  pub frames : new.frames ≡ old.frames
-  pub bytes : new.bytes ≡ old.bytes
-  pub drops : new.drops ≡ old.drops
+-- the frames of a port that a tally shows
+abbrev pub frames_of : PortTally → ℕ → ℕ
+frames_of t port = at_port t.ports port + in_runs port t.runs

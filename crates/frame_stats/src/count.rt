@@ -1,15 +1,19 @@
 //! Counts of a list of verdicts.
-ghost use Rattle.std.specs.Prelude.{ℕ, IfOk, IsErrOf};
-ghost use Rattle.frame_stats.specs.Figures.{AreCountsOf, NamesPort, SomePasses};
+ghost use Rattle.std.specs.Prelude.{◌≡◌, ◌+◌, ◌-◌, ◌≤◌, ◌<◌, ◌^◌, ℕ, IfOk, OnOk, IsErrOf, MatchOption, length, slice_index};
+ghost use Rattle.tag_view.specs.Frame.{spelled};
+ghost use Rattle.frame_meaning.specs.Reason.{number_of_reason};
+ghost use Rattle.frame_meaning.specs.declared.reason.Reason.{Reason};
+ghost use Rattle.frame_stats.specs.Figures.{AreCountsOf, Bytes, DropsFor, FramesTo, NamesPort, SomePasses};
+ghost use Rattle.frame_stats.specs.Tallies.{frames_of, weight};
 
 use crate::counts::Counts;
 use crate::fault::CountFault;
-use crate::tally::Tally;
-use frame_meaning::Verdict;
+use crate::port_tally::PortTally;
+use frame_meaning::{OutFrame, Verdict};
 use std::alloc::Global;
 
 /// The counts of these verdicts, without an entry for a GEM port that has no frames. It takes memory for the entry of each GEM
-/// port, at the first frame that leaves by it.
+/// port.
 ///
 /// [`CountFault::CountFull`] where a sum passes 64 bits, [`CountFault::NoMemory`] where there is no memory for an entry. Verdict
 /// by verdict, the sums are looked at before memory is asked for.
@@ -18,11 +22,86 @@ pub fn count_of(alloc: Global, verdicts: &[Verdict<'_>]) -> Result<Counts, Count
     ensures full { IsErrOf result CountFault.CountFull → SomePasses verdicts.now }
     ensures memory { IsErrOf result CountFault.NoMemory → (place : ℕ) × NamesPort verdicts.now place }
 {
-    let mut tally = Tally::new(alloc);
+    let frames = verdicts.len() as u64;
+    let mut bytes = 0;
+    let mut drops = [0; 9];
+    let mut ports = PortTally::new(alloc);
     for verdict in verdicts {
-        if let Err(fault) = tally.note(verdict) {
-            return Err(fault);
+        match note(verdict, &mut bytes, &mut drops, &mut ports) {
+            Ok(()) => {}
+            Err(CountFault::CountFull) => return Err(full_behind(ports)),
+            Err(CountFault::NoMemory) => return Err(CountFault::NoMemory),
         }
     }
-    tally.finish()
+    match ports.finish() {
+        Ok(ports) => Ok(Counts {
+            frames,
+            bytes,
+            drops,
+            ports,
+        }),
+        Err(_) => Err(CountFault::NoMemory),
+    }
+}
+
+/// Counts a verdict in the bytes, the drops and the frames of GEM ports.
+#[inline(always)]
+fn note(
+    verdict: &Verdict<'_>,
+    bytes: &mut u64,
+    drops: &mut [u64; 9],
+    ports: &mut PortTally,
+) -> Result<(), CountFault>
+    requires few_drops { (reason : Reason) → slice_index drops.old (number_of_reason reason - 1) + 1 < 2 ^ 64 }
+    requires few_frames { (port : ℕ) → frames_of ports.old port + 1 < 2 ^ 64 }
+    ensures bytes { OnOk result (bytes.new ≡ bytes.old + weight Bytes verdict.now) }
+    ensures fits { OnOk result (bytes.new < 2 ^ 64) }
+    ensures drops { OnOk result ((reason : Reason) →
+        slice_index drops.new (number_of_reason reason - 1) ≡ slice_index drops.old (number_of_reason reason - 1) + weight (DropsFor reason) verdict.now) }
+    ensures ports { OnOk result ((port : ℕ) → frames_of ports.new port ≡ frames_of ports.old port + weight (FramesTo port) verdict.now) }
+    ensures full { IsErrOf result CountFault.CountFull → (2 ^ 64 ≤ bytes.old + weight Bytes verdict.now) × (ports.new ≡ ports.old) }
+    ensures memory { IsErrOf result CountFault.NoMemory → (port : ℕ) × (0 < frames_of ports.old port) }
+{
+    let so_far = *bytes;
+    match verdict {
+        Verdict::Forward { gem, frame } => {
+            let Some(sum) = with_frame(so_far, frame) else {
+                return Err(CountFault::CountFull);
+            };
+            *bytes = sum;
+            match ports.note(*gem) {
+                Ok(()) => Ok(()),
+                Err(_) => Err(CountFault::NoMemory),
+            }
+        }
+        Verdict::Drop(reason) => {
+            drops[usize::from(reason.code() - 1)] += 1;
+            Ok(())
+        }
+    }
+}
+
+/// The bytes so far and those of a frame, if the sum has 64 bits.
+#[inline(always)]
+#[tactic(auto, using(frame_meaning::proofs::Spellings::spelled_lengths))]
+fn with_frame(bytes: u64, frame: &OutFrame<'_>) -> Option<u64>
+    ensures { MatchOption result (2 ^ 64 ≤ bytes + length (spelled frame.now.addresses frame.now.tags frame.now.rest))
+        (λ sum. sum ≡ bytes + length (spelled frame.now.addresses frame.now.tags frame.now.rest)) }
+{
+    let before_rest = frame.addresses().len() + 4 * frame.tags().len();
+    let len = before_rest.checked_add(frame.rest().len())?;
+    bytes.checked_add(len as u64)
+}
+
+/// The fault where a sum passes 64 bits: memory for the entries of the frames before is asked for first.
+#[cold]
+#[inline(never)]
+fn full_behind(ports: PortTally) -> CountFault
+    requires { (port : ℕ) → frames_of ports port < 2 ^ 64 }
+    ensures { result ≡ CountFault.NoMemory → (port : ℕ) × (0 < frames_of ports port) }
+{
+    match ports.finish() {
+        Ok(_) => CountFault::CountFull,
+        Err(_) => CountFault::NoMemory,
+    }
 }

@@ -4,9 +4,8 @@
 //! verdicts are a drop for each reason and leave by each GEM port. [`count_of`] gives all of them. Every claim about counts is
 //! made figure by figure, where a GEM port that is absent counts 0.
 //!
-//! **A count per port costs little.** A map entry is touched only where the port changes: the frames of a port gather in one of
-//! 16 places, which its number chooses, and go to the map when another port takes that place, and at the end. An entry is made
-//! at the first frame of its port, so want of memory comes there or nowhere.
+//! **A count per port costs little.** The frames of a port gather in one of 16 places, which its number chooses, and go to the map
+//! when another port takes that place, or at the end. So the map is mostly made once, entry by entry, of what is counted.
 //!
 //! **A book** keeps a part for each lane and their total. Its type says that the total is the sum of the parts, so whoever holds
 //! the lock round it finds it so. An addition is made aside and then put in place, so a refused one changes nothing.
@@ -16,10 +15,10 @@ mod book;
 mod count;
 mod counts;
 mod fault;
+mod port_tally;
 mod ports;
 mod run;
 mod sums;
-mod tally;
 
 pub use book::StatBook;
 pub use count::count_of;

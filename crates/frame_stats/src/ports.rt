@@ -8,7 +8,7 @@ use crate::fault::CountFault;
 use std::collections::BTreeMap;
 
 /// Adds frames of a port. Only the first of a port take memory.
-#[inline(never)]
+#[inline(always)]
 pub(crate) fn add_frames(
     ports: &mut BTreeMap<u16, u64>,
     gem: u16,
@@ -17,40 +17,46 @@ pub(crate) fn add_frames(
     ensures added { OnOk result ((port : ℕ) → at_port ports.new port ≡ at_port ports.old port + (if gem == port then frames else 0)) }
     ensures full { IsErrOf result CountFault.CountFull → 2 ^ 64 ≤ at_port ports.old gem + frames }
     ensures absent { IsErrOf result CountFault.NoMemory → (0 < frames) × (get nat_cmp ports.old gem ≡ None) }
-    ensures stay { (port : ℕ) → IsSome (get nat_cmp ports.old port) → IsSome (get nat_cmp ports.new port) }
-    ensures there { OnOk result (0 < frames → IsSome (get nat_cmp ports.new gem)) }
     ensures no_zeros { HasNoZeros ports.old → HasNoZeros ports.new }
 {
     if frames == 0 {
         return Ok(());
     }
-    if let Some(before) = ports.get_mut(&gem) {
-        let Some(sum) = before.checked_add(frames) else {
-            return Err(CountFault::CountFull);
-        };
-        *before = sum;
-        return Ok(());
-    }
-    let Ok(_) = ports.insert(gem, frames) else {
-        return Err(CountFault::NoMemory);
-    };
-    Ok(())
+    add_some(ports, gem, frames)
 }
 
-/// Adds one frame of a port, with one look at the map where it is the first.
-pub(crate) fn add_first(ports: &mut BTreeMap<u16, u64>, gem: u16) -> Result<(), CountFault>
-    ensures added { OnOk result ((port : ℕ) → at_port ports.new port ≡ at_port ports.old port + (if gem == port then 1 else 0)) }
-    ensures full { IsErrOf result CountFault.CountFull → 2 ^ 64 ≤ at_port ports.old gem + 1 }
+/// Adds some frames of a port, with one look at the map where they are the first.
+#[inline(never)]
+fn add_some(ports: &mut BTreeMap<u16, u64>, gem: u16, frames: u64) -> Result<(), CountFault>
+    requires { 0 < frames }
+    ensures added { OnOk result ((port : ℕ) → at_port ports.new port ≡ at_port ports.old port + (if gem == port then frames else 0)) }
+    ensures full { IsErrOf result CountFault.CountFull → 2 ^ 64 ≤ at_port ports.old gem + frames }
     ensures absent { IsErrOf result CountFault.NoMemory → get nat_cmp ports.old gem ≡ None }
-    ensures stay { (port : ℕ) → IsSome (get nat_cmp ports.old port) → IsSome (get nat_cmp ports.new port) }
-    ensures there { OnOk result (IsSome (get nat_cmp ports.new gem)) }
     ensures no_zeros { HasNoZeros ports.old → HasNoZeros ports.new }
 {
-    match ports.insert(gem, 1) {
+    match ports.insert(gem, frames) {
         Ok(None) => Ok(()),
-        Ok(Some(before)) => add_frames(ports, gem, before),
+        Ok(Some(before)) => add_before(ports, gem, before),
         Err(_) => Err(CountFault::NoMemory),
     }
+}
+
+/// Adds the frames that a port of the map had before.
+#[cold]
+#[inline(never)]
+fn add_before(ports: &mut BTreeMap<u16, u64>, gem: u16, before: u64) -> Result<(), CountFault>
+    requires { IsSome (get nat_cmp ports.old gem) }
+    ensures added { OnOk result ((port : ℕ) → at_port ports.new port ≡ at_port ports.old port + (if gem == port then before else 0)) }
+    ensures full { IsErrOf result CountFault.CountFull → 2 ^ 64 ≤ at_port ports.old gem + before }
+    ensures no_memory { ¬ (IsErrOf result CountFault.NoMemory) }
+    ensures no_zeros { HasNoZeros ports.old → HasNoZeros ports.new }
+{
+    let frames = ports.get_mut(&gem).unwrap();
+    let Some(sum) = frames.checked_add(before) else {
+        return Err(CountFault::CountFull);
+    };
+    *frames = sum;
+    Ok(())
 }
 
 /// Adds all frames of other ports.

@@ -86,6 +86,14 @@ fn verdicts_are_counted(rt: HostRuntime) -> Result<(), Fail> {
 }
 
 #[test]
+fn ports_that_share_a_place_are_counted(rt: HostRuntime) -> Result<(), Fail> {
+    let both = [leaves(1024, 1), leaves(1295, 0), leaves(1024, 1)];
+    let both = count_of(rt.alloc(), &both)?;
+    assert!(rt; show(&both, 3, 56, [0; 9], &[(1024, 2), (1295, 1)]));
+    Ok(())
+}
+
+#[test]
 fn a_batch_of_65536_frames_is_counted(rt: HostRuntime) -> Result<(), Fail> {
     let mut verdicts = Vec::new(rt.alloc());
     for _ in 0..65_536 {
