@@ -1,0 +1,68 @@
+//! Which entities a trace leaves, and which traces are refused.
+use crate::apply_trace;
+use mib_state::Mib;
+use std::alloc::{AllocError, Global};
+use std::test::Fail;
+
+/// A line with a message: the digits that it begins with, zeros up to byte 40, and the trailer.
+fn push_message(text: &mut String, digits: &str) -> Result<(), AllocError> {
+    text.push_str("o ")?;
+    text.push_str(digits)?;
+    for _ in digits.len()..80 {
+        text.push('0')?;
+    }
+    text.push_str("0000002800000000\n")
+}
+
+/// A trace of the messages that begin with these digits.
+fn trace_of(alloc: Global, messages: &[&str]) -> Result<String, AllocError> {
+    let mut text = String::from_str(alloc, "# a trace\n\n")?;
+    for digits in messages {
+        push_message(&mut text, digits)?;
+    }
+    Ok(text)
+}
+
+#[test]
+fn a_trace_leaves_what_its_accepted_messages_leave(rt: HostRuntime) -> Result<(), Fail> {
+    let mut mib = Mib::new(rt.alloc())?;
+    // A Create, the same again, which is refused, one with a fault, a Set of the port-ID, and a Get.
+    let trace = trace_of(
+        rt.alloc(),
+        &[
+            "0001440a010c04010400800103",
+            "0002440a010c04010500800103",
+            "0003440b010c04020400800103",
+            "0004480a010c040180000401",
+            "0005490a010c04018000",
+        ],
+    )?;
+    assert_eq!(rt; apply_trace(&mut mib, trace.as_bytes()), Ok(()));
+    assert_eq!(rt; mib.sync(), 2);
+    let port_id = mib.gem_port(0x0401).map(|port| port.port_id);
+    assert_eq!(rt; port_id, Some(1025));
+    assert!(rt; mib.gem_port(0x0402).is_none());
+    Ok(())
+}
+
+#[test]
+fn a_trace_with_a_frame_or_a_bad_line_is_refused_whole(rt: HostRuntime) -> Result<(), Fail> {
+    for (behind, line) in [
+        ("f 1 00\nx\n", 4),
+        ("x\nf 1 00", 4),
+        ("-\n", 4),
+        ("\no 0\n", 5),
+    ] {
+        let mut mib = Mib::new(rt.alloc())?;
+        let mut trace = trace_of(rt.alloc(), &["0001440a010c04010400800103"])?;
+        trace.push_str(behind)?;
+        assert_eq!(rt;
+            apply_trace(&mut mib, trace.as_bytes()),
+            Err(line),
+            "{behind}"
+        );
+        assert_eq!(rt; mib.sync(), 0);
+        assert!(rt; mib.gem_port(0x0401).is_none());
+    }
+    Ok(())
+}
