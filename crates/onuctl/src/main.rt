@@ -1,20 +1,12 @@
 //! onuctl answers OMCI messages, and forwards Ethernet frames upstream, as an optical network unit does.
 #![tactic(auto)]
 
-mod answer;
-mod fault;
 mod files;
-mod lines;
-mod onu;
-mod pieces;
-mod replay;
-mod report;
 mod running;
 
 use command_line::{Words, read_words, report_words};
-use replay::replay;
-use report::report_replay;
 use running::run;
+use script_replay::{replay, report_replay};
 use std::alloc::{AllocError, Global};
 use std::io::{ErrorKind, Write};
 use std::process::ExitCode;
@@ -77,14 +69,4 @@ fn main(rt: HostRuntime) -> ExitCode {
 }
 
 #[cfg(test)]
-mod dialogue;
-#[cfg(test)]
-mod frame_tests;
-#[cfg(test)]
-mod get_next_tests;
-#[cfg(test)]
-mod message_tests;
-#[cfg(test)]
 mod run_tests;
-#[cfg(test)]
-mod tests;

@@ -1,16 +1,10 @@
 //! Runs, and a replay of the same frames.
 
-use crate::replay::replay;
-use crate::tests::{PORT_257, messages};
 use capture_run::{RunSettings, run_over, run_over_shown};
+use draws::{PORT_257, message};
+use script_replay::replay;
 use std::alloc::{AllocError, Global};
 use std::test::Fail;
-
-/// A table of port 257, and an entry of it that pushes a tag of VID 100.
-const TABLE: [&str; 2] = [
-    "0004440a00ab0701 020101",
-    "0005480a00ab0701 0400 f8000000f8000000 000f000000000324",
-];
 
 /// A frame without a tag, one that is too short for a type, one that is cut within its tag, and the first again.
 const FRAMES: [(&str, &[u8]); 4] = [
@@ -47,10 +41,14 @@ fn count_lines(text: &[u8], start: &[u8]) -> usize {
         .count()
 }
 
-/// The messages, each a line.
+/// The messages that make port 257 with a table that pushes a tag, each a line.
 fn trace(alloc: Global) -> Result<String, AllocError> {
-    let mut text = messages(alloc, "o ", &PORT_257)?;
-    text.push_str(messages(alloc, "o ", &TABLE)?.as_str())?;
+    let mut text = String::new(alloc);
+    for digits in &PORT_257 {
+        text.push_str("o ")?;
+        text.push_str(hex::encode(alloc, message(digits))?.as_str())?;
+        text.push_str("\n")?;
+    }
     Ok(text)
 }
 

@@ -1,7 +1,0 @@
-use Rattle.std.proofs.Common.{arith}
-use Rattle.std.proofs.lemmas.Grind.{common_steps}
-use Rattle.onuctl.proofs.Messages.{fault_digit}
-use Rattle.onuctl.proofs.answer.put_fault.Goals as goal
-
-pub returns-clause-items : goal.returns-clause-items
-returns-clause-items c = rw (fault_digit c.args.fault) (grind (arith, common_steps))

@@ -1,0 +1,23 @@
+-- The words and the status with which a replay ends.
+use Rattle.std.specs.Prelude.{ℕ, List, [], ◌∷◌, ◌++◌, Result, Ok, Err, codes}
+use Rattle.std.specs.Fmt.{decimal}
+use Rattle.script_replay.specs.declared.fault.ReplayFault.{ReplayFault}
+use Rattle.script_replay.specs.declared.fault.ReplayFault.TheVariants.{BadLine, Read, Write, NoMemory}
+
+abbrev pub words_of : ReplayFault → List ℕ
+words_of (BadLine n) = codes "line " ++ decimal n ++ codes " is bad" ++ 10 ∷ []
+words_of (Read n) = codes "read failed" ++ 10 ∷ []
+words_of Write = codes "write failed" ++ 10 ∷ []
+words_of NoMemory = codes "no memory" ++ 10 ∷ []
+
+-- nothing where there was no fault
+abbrev pub words_at : Result (Unit {0}) ReplayFault → List ℕ
+words_at (Ok done) = []
+words_at (Err fault) = words_of fault
+
+abbrev pub status_of : Result (Unit {0}) ReplayFault → ℕ
+status_of (Ok done) = 0
+status_of (Err (BadLine n)) = 2
+status_of (Err (Read n)) = 1
+status_of (Err Write) = 1
+status_of (Err NoMemory) = 1
