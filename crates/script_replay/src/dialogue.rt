@@ -95,6 +95,11 @@ impl Dialogue {
         }
     }
 
+    /// The script, and its answers.
+    pub(crate) fn texts(self) -> (String, String) {
+        (self.script, self.answers)
+    }
+
     /// What is written, and what is to be.
     pub(crate) fn answered(self, alloc: Global) -> Result<(Vec<u8>, String), Fail> {
         let mut written = Vec::new(alloc);

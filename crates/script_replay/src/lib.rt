@@ -25,6 +25,10 @@ pub use report::report_replay;
 pub use script::replay;
 
 #[cfg(test)]
+mod device_tests;
+#[cfg(test)]
+mod devices;
+#[cfg(test)]
 mod dialogue;
 #[cfg(test)]
 mod frame_tests;

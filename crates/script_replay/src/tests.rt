@@ -1,11 +1,10 @@
-//! Scripts and their answers, by hand; and readers and writers that fail or dribble.
+//! Scripts and their answers, by hand.
 
+use crate::devices::Sink;
 use crate::fault::ReplayFault;
 use crate::report::report_replay;
 use crate::script::replay;
 use std::alloc::{AllocError, Global};
-use std::io;
-use std::io::{ErrorKind, Read, Write};
 use std::test::Fail;
 
 const CREATE_GEM_PORT: &str = "0001440a010c0401 0400800103";
@@ -35,61 +34,6 @@ pub(crate) fn messages(alloc: Global, mark: &str, all: &[&str]) -> Result<String
         push_message(&mut text, mark, digits)?;
     }
     Ok(text)
-}
-
-/// Hands over at most so many bytes a read, and fails once all are handed over, where it is to.
-#[derive(Drop)]
-struct Source<'a> {
-    bytes: &'a [u8],
-    most: usize,
-    fails: bool,
-}
-
-impl Read for Source<'_> {
-    fn read(&mut self, buf: &mut [u8]) -> io::Result<usize> {
-        if self.bytes.is_empty() && self.fails {
-            return Err(io::Error::from(ErrorKind::Interrupted));
-        }
-        let count = self.most.min(buf.len()).min(self.bytes.len());
-        let (given, rest) = self.bytes.split_at(count);
-        buf[..count].copy_from_slice(given);
-        self.bytes = rest;
-        Ok(count)
-    }
-}
-
-/// Takes at most so many bytes a write, and so many in all.
-#[derive(Drop)]
-struct Sink {
-    bytes: Vec<u8>,
-    most: usize,
-    room: usize,
-    fails: bool,
-}
-
-impl Write for Sink {
-    fn write(&mut self, buf: &[u8]) -> io::Result<usize> {
-        if self.room == 0 && self.fails {
-            return Err(io::Error::from(ErrorKind::Interrupted));
-        }
-        let count = self.most.min(buf.len()).min(self.room);
-        self.bytes.extend_from_slice(&buf[..count])?;
-        self.room -= count;
-        Ok(count)
-    }
-
-    fn flush(&mut self) -> io::Result<()> {
-        Ok(())
-    }
-}
-
-fn make_sink(alloc: Global, most: usize, room: usize, fails: bool) -> Sink {
-    Sink {
-        bytes: Vec::new(alloc),
-        most,
-        room,
-        fails,
-    }
 }
 
 #[test]
@@ -185,80 +129,6 @@ fn a_line_has_at_most_20000_bytes(rt: HostRuntime) -> Result<(), Fail> {
 }
 
 #[test]
-fn pieces_of_one_byte_make_no_difference(rt: HostRuntime) -> Result<(), Fail> {
-    let alloc = rt.alloc();
-    let script = messages(
-        alloc,
-        "o ",
-        &[CREATE_GEM_PORT, "0004490a010c0401 ffff", CREATE_GEM_PORT],
-    )?;
-    let mut whole = Vec::new(alloc);
-    let mut reader = script.as_bytes();
-    assert_eq!(rt; replay(alloc, &mut reader, &mut whole), Ok(()));
-    assert_eq!(rt; whole.len(), 3 * 99);
-    let mut source = Source {
-        bytes: script.as_bytes(),
-        most: 1,
-        fails: false,
-    };
-    let mut sink = make_sink(alloc, 1, usize::MAX, false);
-    assert_eq!(rt; replay(alloc, &mut source, &mut sink), Ok(()));
-    assert_eq!(rt; sink.bytes.as_slice(), whole.as_slice());
-    Ok(())
-}
-
-#[test]
-fn a_reader_that_fails_loses_no_answer(rt: HostRuntime) -> Result<(), Fail> {
-    let alloc = rt.alloc();
-    let script = messages(alloc, "o ", &[CREATE_GEM_PORT, CREATE_GEM_PORT])?;
-    let answers = messages(alloc, "r ", &[CREATED, "0001240a010c0401 07"])?;
-    for (handed_over, answered) in [(0, 0), (1, 0), (98, 0), (99, 1), (197, 1), (198, 2)] {
-        let (given, _) = script
-            .as_bytes()
-            .split_at_checked(handed_over)
-            .ok_or("short")?;
-        let (wanted, _) = answers
-            .as_bytes()
-            .split_at_checked(99 * answered)
-            .ok_or("short")?;
-        for most in [1, 7, 1000] {
-            let mut source = Source {
-                bytes: given,
-                most,
-                fails: true,
-            };
-            let mut written = Vec::new(alloc);
-            let result = replay(alloc, &mut source, &mut written);
-            assert_eq!(rt; result, Err(ReplayFault::Read(handed_over as u64)));
-            assert_eq!(rt;
-                written.as_slice(),
-                wanted,
-                "after {handed_over} bytes by {most}"
-            );
-        }
-    }
-    Ok(())
-}
-
-#[test]
-fn a_writer_that_fails_has_a_front_of_the_answers(rt: HostRuntime) -> Result<(), Fail> {
-    let alloc = rt.alloc();
-    let script = messages(alloc, "o ", &[CREATE_GEM_PORT, CREATE_GEM_PORT])?;
-    let answers = messages(alloc, "r ", &[CREATED, "0001240a010c0401 07"])?;
-    for taken in [0, 1, 98, 99, 100, 197] {
-        let (wanted, _) = answers.as_bytes().split_at_checked(taken).ok_or("short")?;
-        for fails in [false, true] {
-            let mut sink = make_sink(alloc, 10, taken, fails);
-            let mut reader = script.as_bytes();
-            let result = replay(alloc, &mut reader, &mut sink);
-            assert_eq!(rt; result, Err(ReplayFault::Write), "after {taken} bytes");
-            assert_eq!(rt; sink.bytes.as_slice(), wanted, "after {taken} bytes");
-        }
-    }
-    Ok(())
-}
-
-#[test]
 fn a_report_has_the_words_and_the_status(rt: HostRuntime) -> Result<(), Fail> {
     let alloc = rt.alloc();
     for (outcome, words, status) in [
@@ -271,8 +141,11 @@ fn a_report_has_the_words_and_the_status(rt: HostRuntime) -> Result<(), Fail> {
         let mut written = Vec::new(alloc);
         assert_eq!(rt; report_replay(&outcome, &mut written), status, "{words}");
         assert_eq!(rt; written.as_slice(), words.as_bytes());
-        let mut full = make_sink(alloc, 1, 0, true);
-        assert_eq!(rt; report_replay(&outcome, &mut full), status, "{words}");
+        for room in 0..words.len() {
+            let mut short = Sink::new(alloc, 100, room, true);
+            assert_eq!(rt; report_replay(&outcome, &mut short), status, "{words}");
+            assert_eq!(rt; short.bytes.as_slice(), &words.as_bytes()[..room]);
+        }
     }
     Ok(())
 }
