@@ -1,6 +1,7 @@
 //! Frames in batches, and their reports gathered.
 use crate::counts::are_counts;
 use crate::forwarding::{Became, what_became};
+use crate::memory::Memory;
 use crate::seen::{REFUSED_AGAIN, Seen, must, report};
 use draws::UNTAGGED;
 use forward_plan::{Reason, Verdict};
@@ -9,7 +10,6 @@ use frame_batch::{
     gather_tallies, run_batch,
 };
 use plan_publish::Held;
-use std::alloc::Global;
 use std::thread::Threads;
 
 /// A frame that is too short.
@@ -40,19 +40,19 @@ fn are_verdicts(verdicts: &[Verdict<'_>]) -> bool {
 /// The verdicts on the frames, asked for again where there was no memory.
 pub(crate) fn verdicts_of<R: Threads + Sync>(
     rt: &R,
-    alloc: Global,
+    memory: &Memory,
     held: &Held<'_>,
 ) -> Result<Vec<Verdict<'static>>, BatchFault> {
-    match forward_all(rt, alloc, held, 257, &FRAMES) {
-        Err(BatchFault::NoMemory) => forward_all(rt, alloc, held, 257, &FRAMES),
+    match forward_all(rt, memory.first(), held, 257, &FRAMES) {
+        Err(BatchFault::NoMemory) => forward_all(rt, memory.again(), held, 257, &FRAMES),
         verdicts => verdicts,
     }
 }
 
 /// The report of a batch, which is run again where there was no memory.
-fn report_of(alloc: Global, held: &Held<'_>, batch: u32) -> Result<Report<'static>, BatchFault> {
-    match run_batch(alloc, held, batch, 257, &FRAMES, 1, &Open) {
-        Err(BatchFault::NoMemory) => run_batch(alloc, held, batch, 257, &FRAMES, 1, &Open),
+fn report_of(memory: &Memory, held: &Held<'_>, batch: u32) -> Result<Report<'static>, BatchFault> {
+    match run_batch(memory.first(), held, batch, 257, &FRAMES, 1, &Open) {
+        Err(BatchFault::NoMemory) => run_batch(memory.again(), held, batch, 257, &FRAMES, 1, &Open),
         report => report,
     }
 }
@@ -66,33 +66,33 @@ fn is_report(report: &Report<'_>, batch: u32) -> bool {
 }
 
 /// Room for two, asked for again where there was no memory.
-fn room_for_two<T>(alloc: Global) -> Result<Vec<T>, GatherFault> {
-    match Vec::with_capacity(alloc, 2) {
+fn room_for_two<T>(memory: &Memory) -> Result<Vec<T>, GatherFault> {
+    match Vec::with_capacity(memory.first(), 2) {
         Ok(room) => Ok(room),
-        Err(_) => Vec::with_capacity(alloc, 2).map_err(|_| GatherFault::NoMemory),
+        Err(_) => Vec::with_capacity(memory.again(), 2).map_err(|_| GatherFault::NoMemory),
     }
 }
 
 /// The reports of batches 1 and 0, gathered.
-fn gathered(alloc: Global, held: &Held<'_>) -> Result<Gathered<'static>, GatherFault> {
-    let mut reports = room_for_two(alloc)?;
+fn gathered(memory: &Memory, held: &Held<'_>) -> Result<Gathered<'static>, GatherFault> {
+    let mut reports = room_for_two(memory)?;
     for batch in [1, 0] {
-        if let Ok(report) = report_of(alloc, held, batch) {
+        if let Ok(report) = report_of(memory, held, batch) {
             let _ = reports.push(report);
         }
     }
-    gather(alloc, reports, 2)
+    gather(memory.first(), reports, 2)
 }
 
 /// The tallies of batches 1 and 0, gathered.
-fn tallied(alloc: Global, held: &Held<'_>) -> Result<GatheredTallies, GatherFault> {
-    let mut tallies = room_for_two(alloc)?;
+fn tallied(memory: &Memory, held: &Held<'_>) -> Result<GatheredTallies, GatherFault> {
+    let mut tallies = room_for_two(memory)?;
     for batch in [1, 0] {
-        if let Ok(report) = report_of(alloc, held, batch) {
+        if let Ok(report) = report_of(memory, held, batch) {
             let _ = tallies.push(report.tally());
         }
     }
-    gather_tallies(alloc, tallies, 2)
+    gather_tallies(memory.first(), tallies, 2)
 }
 
 /// Whether it is the tally of a batch of this number.
@@ -100,23 +100,26 @@ fn is_tally(tally: &Tally, batch: u32) -> bool {
     tally.batch == batch && tally.version == 5 && are_counts(&tally.counts, 1)
 }
 
-fn call_forward_all<R: Threads + Sync>(rt: &R, alloc: Global, held: &Held<'_>) -> Seen {
-    match verdicts_of(rt, alloc, held) {
+fn call_forward_all<R: Threads + Sync>(rt: &R, memory: &Memory, held: &Held<'_>) -> Seen {
+    match verdicts_of(rt, memory, held) {
         Ok(verdicts) => must(are_verdicts(&verdicts), "other verdicts"),
         Err(_) => Err(REFUSED_AGAIN),
     }
 }
 
-fn call_run_batch(alloc: Global, held: &Held<'_>) -> Seen {
-    match report_of(alloc, held, 7) {
+fn call_run_batch(memory: &Memory, held: &Held<'_>) -> Seen {
+    match report_of(memory, held, 7) {
         Ok(report) => must(is_report(&report, 7), "another report"),
         Err(_) => Err(REFUSED_AGAIN),
     }
 }
 
-fn call_gather(alloc: Global, held: &Held<'_>) -> Seen {
-    let all = match gathered(alloc, held) {
-        Err(GatherFault::NoMemory) => gathered(alloc, held),
+fn call_gather(memory: &Memory, held: &Held<'_>) -> Seen {
+    let all = match gathered(memory, held) {
+        Err(GatherFault::NoMemory) => {
+            memory.again();
+            gathered(memory, held)
+        }
         all => all,
     };
     let Ok(all) = all else {
@@ -129,9 +132,12 @@ fn call_gather(alloc: Global, held: &Held<'_>) -> Seen {
     must(in_order && are_counts(&all.counts, 2), "other reports")
 }
 
-fn call_gather_tallies(alloc: Global, held: &Held<'_>) -> Seen {
-    let all = match tallied(alloc, held) {
-        Err(GatherFault::NoMemory) => tallied(alloc, held),
+fn call_gather_tallies(memory: &Memory, held: &Held<'_>) -> Seen {
+    let all = match tallied(memory, held) {
+        Err(GatherFault::NoMemory) => {
+            memory.again();
+            tallied(memory, held)
+        }
         all => all,
     };
     let Ok(all) = all else {
@@ -144,9 +150,19 @@ fn call_gather_tallies(alloc: Global, held: &Held<'_>) -> Seen {
     must(in_order && are_counts(&all.counts, 2), "other tallies")
 }
 
-pub(crate) fn make_calls<R: Threads + Sync + Print>(rt: &R, alloc: Global, held: &Held<'_>) {
-    report(rt, "forward_all", call_forward_all(rt, alloc, held));
-    report(rt, "run_batch", call_run_batch(alloc, held));
-    report(rt, "gather", call_gather(alloc, held));
-    report(rt, "gather_tallies", call_gather_tallies(alloc, held));
+pub(crate) fn make_calls<R: Threads + Sync + Print>(rt: &R, memory: &Memory, held: &Held<'_>) {
+    report(
+        rt,
+        memory,
+        "forward_all",
+        call_forward_all(rt, memory, held),
+    );
+    report(rt, memory, "run_batch", call_run_batch(memory, held));
+    report(rt, memory, "gather", call_gather(memory, held));
+    report(
+        rt,
+        memory,
+        "gather_tallies",
+        call_gather_tallies(memory, held),
+    );
 }

@@ -1,10 +1,10 @@
 //! A control with its lanes, and the messages that it takes.
 use crate::forwarding::{Became, what_became};
+use crate::memory::Memory;
 use crate::seen::{REFUSED_AGAIN, Seen, must, report};
 use crate::{batches, counts};
 use draws::{PORT_257, UNTAGGED, message};
 use plan_publish::{Control, ControlFault, Lane, OpenFault, open};
-use std::alloc::Global;
 use std::sync::Wait;
 use std::thread::Threads;
 
@@ -26,9 +26,9 @@ struct Step {
 }
 
 /// A control with two lanes, opened again where there was no memory.
-pub(crate) fn opened<R: Wait>(rt: &R, alloc: Global) -> Result<(Control, Vec<Lane>), OpenFault> {
-    match open(rt, alloc, 2) {
-        Err(OpenFault::NoMemory | OpenFault::Refused) => open(rt, alloc, 2),
+pub(crate) fn opened<R: Wait>(rt: &R, memory: &Memory) -> Result<(Control, Vec<Lane>), OpenFault> {
+    match open(rt, memory.first(), 2) {
+        Err(OpenFault::NoMemory | OpenFault::Refused) => open(rt, memory.again(), 2),
         opened => opened,
     }
 }
@@ -65,12 +65,20 @@ fn replies(control: &mut Control, step: &Step) -> bool {
 }
 
 /// A message behind so many others. Where there is no memory for it, nothing of it shows, and it is sent again.
-fn send<R: Wait>(rt: &R, control: &mut Control, lane: &mut Lane, step: &Step, version: u8) -> Seen {
+fn send<R: Wait>(
+    rt: &R,
+    memory: &Memory,
+    control: &mut Control,
+    lane: &mut Lane,
+    step: &Step,
+    version: u8,
+) -> Seen {
     match control.message(&message(step.message)) {
         Ok(Some(reply)) => must(reply == message(step.reply), "another reply"),
         Err(ControlFault::NoMemory) => {
             let same = shows(rt, control, lane, version, step.before);
             must(same, "a refused message shows")?;
+            memory.again();
             must(replies(control, step), REFUSED_AGAIN)
         }
         _ => Err("another fault"),
@@ -78,7 +86,7 @@ fn send<R: Wait>(rt: &R, control: &mut Control, lane: &mut Lane, step: &Step, ve
 }
 
 /// All messages, one after the other.
-fn send_all<R: Wait>(rt: &R, control: &mut Control, lane: &mut Lane) -> Seen {
+fn send_all<R: Wait>(rt: &R, memory: &Memory, control: &mut Control, lane: &mut Lane) -> Seen {
     let mut version = 0;
     for (message, (reply, before)) in PORT_257.iter().zip(&REPLIES) {
         let step = Step {
@@ -86,7 +94,7 @@ fn send_all<R: Wait>(rt: &R, control: &mut Control, lane: &mut Lane) -> Seen {
             reply: *reply,
             before: *before,
         };
-        send(rt, control, lane, &step, version)?;
+        send(rt, memory, control, lane, &step, version)?;
         version = version.saturating_add(1);
     }
     let all = shows(rt, control, lane, 5, Became::Tagged);
@@ -104,30 +112,35 @@ fn is_new<R: Wait>(rt: &R, control: &mut Control, lane: &mut Lane) -> Seen {
 /// The calls on a control with a lane, and those on what the lane holds.
 fn make_calls_with<R: Threads + Wait + Sync + Print>(
     rt: &R,
-    alloc: Global,
+    memory: &Memory,
     control: &mut Control,
     lane: &mut Lane,
 ) {
-    report(rt, "open", is_new(rt, control, lane));
-    report(rt, "Control::message", send_all(rt, control, lane));
+    report(rt, memory, "open", is_new(rt, control, lane));
+    report(
+        rt,
+        memory,
+        "Control::message",
+        send_all(rt, memory, control, lane),
+    );
     match lane.enter() {
         Some(held) => {
-            batches::make_calls(rt, alloc, &held);
-            counts::make_calls(rt, alloc, &held);
+            batches::make_calls(rt, memory, &held);
+            counts::make_calls(rt, memory, &held);
         }
-        None => report(rt, "Lane::enter", Err("it holds nothing")),
+        None => report(rt, memory, "Lane::enter", Err("it holds nothing")),
     }
 }
 
-pub(crate) fn make_calls<R: Threads + Wait + Sync + Print>(rt: &R, alloc: Global) {
-    match opened(rt, alloc) {
+pub(crate) fn make_calls<R: Threads + Wait + Sync + Print>(rt: &R, memory: &Memory) {
+    match opened(rt, memory) {
         Ok((mut control, mut lanes)) => {
             match lanes.pop() {
-                Some(mut lane) => make_calls_with(rt, alloc, &mut control, &mut lane),
-                None => report(rt, "open", Err("no lane")),
+                Some(mut lane) => make_calls_with(rt, memory, &mut control, &mut lane),
+                None => report(rt, memory, "open", Err("no lane")),
             }
             control.close(rt);
         }
-        Err(_) => report(rt, "open", Err(REFUSED_AGAIN)),
+        Err(_) => report(rt, memory, "open", Err(REFUSED_AGAIN)),
     }
 }

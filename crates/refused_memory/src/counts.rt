@@ -1,10 +1,10 @@
 //! Counts of verdicts, and the book of them.
 use crate::batches::verdicts_of;
+use crate::memory::Memory;
 use crate::seen::{REFUSED_AGAIN, Seen, must, report};
 use forward_plan::Verdict;
 use frame_stats::{CountFault, Counts, StatBook, StatFault, count_of};
 use plan_publish::Held;
-use std::alloc::Global;
 use std::thread::Threads;
 
 /// Whether these are the counts of so many batches, each with a runt and two frames of 20 bytes that leave by GEM port 1024.
@@ -19,18 +19,18 @@ pub(crate) fn are_counts(counts: &Counts, batches: u64) -> bool {
 }
 
 /// The counts of verdicts, asked for again where there was no memory.
-fn counts_of(alloc: Global, verdicts: &[Verdict<'_>]) -> Result<Counts, &'static str> {
-    let counts = match count_of(alloc, verdicts) {
-        Err(CountFault::NoMemory) => count_of(alloc, verdicts),
+fn counts_of(memory: &Memory, verdicts: &[Verdict<'_>]) -> Result<Counts, &'static str> {
+    let counts = match count_of(memory.first(), verdicts) {
+        Err(CountFault::NoMemory) => count_of(memory.again(), verdicts),
         counts => counts,
     };
     counts.map_err(|_| REFUSED_AGAIN)
 }
 
 /// A book of two lanes, made again where there was no memory.
-pub(crate) fn book_of(alloc: Global) -> Result<StatBook, &'static str> {
-    let book = match StatBook::new(alloc, 2) {
-        Err(StatFault::NoMemory) => StatBook::new(alloc, 2),
+pub(crate) fn book_of(memory: &Memory) -> Result<StatBook, &'static str> {
+    let book = match StatBook::new(memory.first(), 2) {
+        Err(StatFault::NoMemory) => StatBook::new(memory.again(), 2),
         book => book,
     };
     book.map_err(|_| REFUSED_AGAIN)
@@ -49,43 +49,50 @@ pub(crate) fn has(book: &StatBook, lanes: [u64; 2]) -> bool {
 }
 
 /// Adds the counts of a batch to a lane of a book, which is as it was where there was no memory.
-pub(crate) fn add(book: &mut StatBook, lane: u16, counts: &Counts, before: [u64; 2]) -> Seen {
+pub(crate) fn add(
+    memory: &Memory,
+    book: &mut StatBook,
+    lane: u16,
+    counts: &Counts,
+    before: [u64; 2],
+) -> Seen {
     match book.add(lane, counts) {
         Ok(()) => Ok(()),
         Err(StatFault::NoMemory) => {
             must(has(book, before), "the book was changed")?;
+            memory.again();
             must(book.add(lane, counts).is_ok(), REFUSED_AGAIN)
         }
         Err(_) => Err("another fault"),
     }
 }
 
-fn call_count_of(alloc: Global, verdicts: &[Verdict<'_>]) -> Seen {
-    let counts = counts_of(alloc, verdicts)?;
+fn call_count_of(memory: &Memory, verdicts: &[Verdict<'_>]) -> Seen {
+    let counts = counts_of(memory, verdicts)?;
     must(are_counts(&counts, 1), "other counts")
 }
 
-fn new_book(alloc: Global) -> Seen {
-    let book = book_of(alloc)?;
+fn new_book(memory: &Memory) -> Seen {
+    let book = book_of(memory)?;
     must(has(&book, [0, 0]), "a new book has counts")
 }
 
-fn add_to_book(alloc: Global, verdicts: &[Verdict<'_>]) -> Seen {
-    let counts = counts_of(alloc, verdicts)?;
-    let mut book = book_of(alloc)?;
-    add(&mut book, 1, &counts, [0, 0])?;
+fn add_to_book(memory: &Memory, verdicts: &[Verdict<'_>]) -> Seen {
+    let counts = counts_of(memory, verdicts)?;
+    let mut book = book_of(memory)?;
+    add(memory, &mut book, 1, &counts, [0, 0])?;
     must(has(&book, [0, 1]), "other sums")?;
-    add(&mut book, 0, &counts, [0, 1])?;
+    add(memory, &mut book, 0, &counts, [0, 1])?;
     must(has(&book, [1, 1]), "other sums")
 }
 
-pub(crate) fn make_calls<R: Threads + Sync + Print>(rt: &R, alloc: Global, held: &Held<'_>) {
-    match verdicts_of(rt, alloc, held) {
+pub(crate) fn make_calls<R: Threads + Sync + Print>(rt: &R, memory: &Memory, held: &Held<'_>) {
+    match verdicts_of(rt, memory, held) {
         Ok(verdicts) => {
-            report(rt, "count_of", call_count_of(alloc, &verdicts));
-            report(rt, "StatBook::new", new_book(alloc));
-            report(rt, "StatBook::add", add_to_book(alloc, &verdicts));
+            report(rt, memory, "count_of", call_count_of(memory, &verdicts));
+            report(rt, memory, "StatBook::new", new_book(memory));
+            report(rt, memory, "StatBook::add", add_to_book(memory, &verdicts));
         }
-        Err(_) => report(rt, "count_of", Err("no verdicts")),
+        Err(_) => report(rt, memory, "count_of", Err("no verdicts")),
     }
 }

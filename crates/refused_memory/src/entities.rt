@@ -1,10 +1,10 @@
 //! The entities, and the desk that answers messages.
+use crate::memory::Memory;
 use crate::seen::{REFUSED_AGAIN, Seen, must, report};
 use draws::message;
 use mib_state::Mib;
 use mib_upload::{Desk, Shelf};
 use omci_msg::{read, write};
-use std::alloc::Global;
 
 /// The classes with instances that messages create.
 const CLASSES: [u16; 4] = [130, 171, 266, 268];
@@ -23,43 +23,43 @@ fn is_new(mib: &Mib) -> bool {
 }
 
 /// Entities, made again where there was no memory.
-fn mib_of(alloc: Global) -> Result<Mib, &'static str> {
-    match Mib::new(alloc) {
+fn mib_of(memory: &Memory) -> Result<Mib, &'static str> {
+    match Mib::new(memory.first()) {
         Ok(mib) => Ok(mib),
-        Err(_) => Mib::new(alloc).map_err(|_| REFUSED_AGAIN),
+        Err(_) => Mib::new(memory.again()).map_err(|_| REFUSED_AGAIN),
     }
 }
 
 /// A shelf, made again where there was no memory.
-fn shelf_of(alloc: Global) -> Result<Shelf, &'static str> {
-    match Shelf::new(alloc) {
+fn shelf_of(memory: &Memory) -> Result<Shelf, &'static str> {
+    match Shelf::new(memory.first()) {
         Ok(shelf) => Ok(shelf),
-        Err(_) => Shelf::new(alloc).map_err(|_| REFUSED_AGAIN),
+        Err(_) => Shelf::new(memory.again()).map_err(|_| REFUSED_AGAIN),
     }
 }
 
 /// A desk, made again where there was no memory.
-fn desk_of(alloc: Global) -> Result<Desk, &'static str> {
-    match Desk::new(alloc) {
+fn desk_of(memory: &Memory) -> Result<Desk, &'static str> {
+    match Desk::new(memory.first()) {
         Ok(desk) => Ok(desk),
-        Err(_) => Desk::new(alloc).map_err(|_| REFUSED_AGAIN),
+        Err(_) => Desk::new(memory.again()).map_err(|_| REFUSED_AGAIN),
     }
 }
 
-fn new_mib(alloc: Global) -> Seen {
-    let mib = mib_of(alloc)?;
+fn new_mib(memory: &Memory) -> Seen {
+    let mib = mib_of(memory)?;
     must(is_new(&mib), "other entities than none")
 }
 
-fn new_shelf(alloc: Global) -> Seen {
-    let mut shelf = shelf_of(alloc)?;
+fn new_shelf(memory: &Memory) -> Seen {
+    let mut shelf = shelf_of(memory)?;
     must(shelf.row(0).is_none(), "a row on a new shelf")?;
-    let mib = mib_of(alloc)?;
+    let mib = mib_of(memory)?;
     must(shelf.fill(&mib) == 1, "other rows than that of ONU data")
 }
 
-fn new_desk(alloc: Global) -> Seen {
-    let mut desk = desk_of(alloc)?;
+fn new_desk(memory: &Memory) -> Seen {
+    let mut desk = desk_of(memory)?;
     must(is_new(desk.mib()), "other entities than none")?;
     let (asked, reply) = GET_SYNC;
     let Ok(request) = read(&message(asked)) else {
@@ -69,8 +69,8 @@ fn new_desk(alloc: Global) -> Seen {
     must(write(&answer) == message(reply), "another reply")
 }
 
-pub(crate) fn make_calls<R: Print>(rt: &R, alloc: Global) {
-    report(rt, "Mib::new", new_mib(alloc));
-    report(rt, "Shelf::new", new_shelf(alloc));
-    report(rt, "Desk::new", new_desk(alloc));
+pub(crate) fn make_calls<R: Print>(rt: &R, memory: &Memory) {
+    report(rt, memory, "Mib::new", new_mib(memory));
+    report(rt, memory, "Shelf::new", new_shelf(memory));
+    report(rt, memory, "Desk::new", new_desk(memory));
 }

@@ -1,9 +1,9 @@
 //! The entities with their plan, and the bytes of a frame that leaves.
+use crate::memory::Memory;
 use crate::seen::{REFUSED_AGAIN, Seen, must, report};
 use draws::{PORT_257, UNTAGGED, message};
 use forward_plan::{Live, OutFrame, Reason, Verdict};
 use omci_msg::read;
-use std::alloc::Global;
 
 /// What stands in a vector before a frame is appended.
 const BEFORE: [u8; 1] = [0xee];
@@ -48,10 +48,10 @@ fn left(frame: &OutFrame<'_>) -> Became {
 }
 
 /// Entities with their plan, made again where there was no memory.
-pub(crate) fn live_of(alloc: Global) -> Result<Live, &'static str> {
-    match Live::new(alloc) {
+pub(crate) fn live_of(memory: &Memory) -> Result<Live, &'static str> {
+    match Live::new(memory.first()) {
         Ok(live) => Ok(live),
-        Err(_) => Live::new(alloc).map_err(|_| REFUSED_AGAIN),
+        Err(_) => Live::new(memory.again()).map_err(|_| REFUSED_AGAIN),
     }
 }
 
@@ -76,15 +76,15 @@ fn new_live(live: &Live) -> Seen {
 }
 
 /// A vector with one byte, made again where there was no memory.
-fn begun(alloc: Global) -> Result<Vec<u8>, &'static str> {
-    match BEFORE.to_vec(alloc) {
+fn begun(memory: &Memory) -> Result<Vec<u8>, &'static str> {
+    match BEFORE.to_vec(memory.first()) {
         Ok(bytes) => Ok(bytes),
-        Err(_) => BEFORE.to_vec(alloc).map_err(|_| REFUSED_AGAIN),
+        Err(_) => BEFORE.to_vec(memory.again()).map_err(|_| REFUSED_AGAIN),
     }
 }
 
 /// Appends a frame to a vector, which is as it was where there was no memory.
-fn append(frame: &OutFrame<'_>, bytes: &mut Vec<u8>) -> Seen {
+fn append(memory: &Memory, frame: &OutFrame<'_>, bytes: &mut Vec<u8>) -> Seen {
     if frame.append_to(bytes).is_ok() {
         return Ok(());
     }
@@ -92,25 +92,31 @@ fn append(frame: &OutFrame<'_>, bytes: &mut Vec<u8>) -> Seen {
         bytes.as_slice() == BEFORE.as_slice(),
         "the vector was changed",
     )?;
+    memory.again();
     must(frame.append_to(bytes).is_ok(), REFUSED_AGAIN)
 }
 
-fn append_to(alloc: Global, live: &mut Live) -> Seen {
+fn append_to(memory: &Memory, live: &mut Live) -> Seen {
     apply_all(live);
-    let mut bytes = begun(alloc)?;
+    let mut bytes = begun(memory)?;
     let Verdict::Forward { gem: 1024, frame } = live.forward(257, &UNTAGGED) else {
         return Err("another verdict");
     };
-    append(&frame, &mut bytes)?;
+    append(memory, &frame, &mut bytes)?;
     must(bytes.as_slice() == AFTER.as_slice(), "other bytes")
 }
 
-pub(crate) fn make_calls<R: Print>(rt: &R, alloc: Global) {
-    match live_of(alloc) {
+pub(crate) fn make_calls<R: Print>(rt: &R, memory: &Memory) {
+    match live_of(memory) {
         Ok(mut live) => {
-            report(rt, "Live::new", new_live(&live));
-            report(rt, "OutFrame::append_to", append_to(alloc, &mut live));
+            report(rt, memory, "Live::new", new_live(&live));
+            report(
+                rt,
+                memory,
+                "OutFrame::append_to",
+                append_to(memory, &mut live),
+            );
         }
-        Err(wrong) => report(rt, "Live::new", Err(wrong)),
+        Err(wrong) => report(rt, memory, "Live::new", Err(wrong)),
     }
 }

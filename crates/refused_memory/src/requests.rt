@@ -4,22 +4,10 @@ use std::alloc::Global;
 /// The most requests that are made to find one that is refused.
 const MOST: u32 = 10_000;
 
-/// Whether a request is refused.
-fn is_refused(alloc: Global) -> bool {
-    Vec::<u8>::with_capacity(alloc, 1).is_err()
-}
-
-/// Makes so many requests.
-pub(crate) fn take_requests(alloc: Global, count: u32) {
-    for _ in 0..count {
-        let _ = is_refused(alloc);
-    }
-}
-
 /// How many requests there are until one is refused, which counts too; None where none is.
 pub(crate) fn requests_until_refusal(alloc: Global) -> Option<u32> {
     for count in 1..=MOST {
-        if is_refused(alloc) {
+        if Vec::<u8>::with_capacity(alloc, 1).is_err() {
             return Some(count);
         }
     }

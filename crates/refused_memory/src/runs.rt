@@ -1,4 +1,5 @@
-//! A run over a capture, and the words of a command line.
+//! A replay of a script, a run over a capture, and the words of a command line.
+use crate::memory::Memory;
 use crate::seen::{REFUSED_AGAIN, Seen, must, report};
 use capture_run::{RunFault, RunSettings, run_over};
 use clap::Error;
@@ -6,12 +7,16 @@ use clap::error::ErrorKind;
 use command_line::{Words, read_words};
 use draws::{PORT_257, message};
 use hex::encode_to_slice;
+use script_replay::{ReplayFault, replay};
 use std::alloc::Global;
 use std::sync::Wait;
 use std::thread::Threads;
 
-/// A line of a trace: `o `, the digits of 48 bytes, and the line feed.
+/// A line with a message or a reply: its mark and a space, the digits of 48 bytes, and the line feed.
 const LINE: usize = 99;
+
+/// The reply to the message that creates a GEM port, by its digits.
+const CREATED: &str = "0001240a010c040100";
 
 /// A capture of two untagged frames, and of one that is cut in its tag.
 const FILE: [u8; 118] = [
@@ -56,17 +61,44 @@ struct Ended {
     count: usize,
 }
 
+/// A line with a message or a reply.
+fn line(mark: u8, digits: &str) -> [u8; LINE] {
+    let mut text = [b' '; LINE];
+    text[0] = mark;
+    let _ = encode_to_slice(message(digits), &mut text[2..98]);
+    text[98] = b'\n';
+    text
+}
+
 /// The trace that makes port 257, with a table that pushes a tag.
 fn trace() -> [u8; 495] {
     let mut text = [0; 495];
     for (place, digits) in PORT_257.iter().enumerate() {
         let begin = LINE * place;
-        text[begin] = b'o';
-        text[begin + 1] = b' ';
-        let _ = encode_to_slice(message(digits), &mut text[begin + 2..begin + 98]);
-        text[begin + 98] = b'\n';
+        text[begin..begin + LINE].copy_from_slice(&line(b'o', digits));
     }
     text
+}
+
+/// A replay of the script that creates a GEM port, which has read and written nothing where there was no memory, and is made again.
+fn call_replay(memory: &Memory) -> Seen {
+    let script = line(b'o', PORT_257[0]);
+    let mut page = [0; LINE];
+    let (mut reader, mut room) = (script.as_slice(), page.as_mut_slice());
+    let outcome = match replay(memory.first(), &mut reader, &mut room) {
+        Err(ReplayFault::NoMemory) => {
+            let same = reader.len() == LINE && room.len() == LINE;
+            must(same, "a refused replay reads or writes")?;
+            replay(memory.again(), &mut reader, &mut room)
+        }
+        outcome => outcome,
+    };
+    must(outcome.is_ok(), REFUSED_AGAIN)?;
+    must(
+        reader.is_empty() && room.is_empty(),
+        "not all is read and written",
+    )?;
+    must(page == line(b'r', CREATED), "another answer")
 }
 
 /// Runs.
@@ -88,13 +120,13 @@ fn is_whole(ended: &Ended) -> bool {
 }
 
 /// A run, which has written nothing where there was no memory or a lane found no place, and is made again.
-fn call_run_over<R: Threads + Wait + Sync>(rt: &R, alloc: Global) -> Seen {
-    let ended = run(rt, alloc);
+fn call_run_over<R: Threads + Wait + Sync>(rt: &R, memory: &Memory) -> Seen {
+    let ended = run(rt, memory.first());
     match ended.outcome {
         Ok(()) => must(is_whole(&ended), "other lines"),
         Err(RunFault::NoMemory | RunFault::Refused) => {
             must(ended.count == 0, "a refused run writes")?;
-            must(is_whole(&run(rt, alloc)), REFUSED_AGAIN)
+            must(is_whole(&run(rt, memory.again())), REFUSED_AGAIN)
         }
         Err(_) => Err("another fault"),
     }
@@ -115,17 +147,18 @@ fn is_asked(read: &Result<Words<'_>, Error>) -> bool {
     }
 }
 
-fn call_read_words(alloc: Global) -> Seen {
-    let read = read_words(alloc, &WORDS);
+fn call_read_words(memory: &Memory) -> Seen {
+    let read = read_words(memory.first(), &WORDS);
     match &read {
         Err(error) if error.kind() == ErrorKind::OutOfMemory => {
-            must(is_asked(&read_words(alloc, &WORDS)), REFUSED_AGAIN)
+            must(is_asked(&read_words(memory.again(), &WORDS)), REFUSED_AGAIN)
         }
         read => must(is_asked(read), "the words ask for something else"),
     }
 }
 
-pub(crate) fn make_calls<R: Threads + Wait + Sync + Print>(rt: &R, alloc: Global) {
-    report(rt, "run_over", call_run_over(rt, alloc));
-    report(rt, "read_words", call_read_words(alloc));
+pub(crate) fn make_calls<R: Threads + Wait + Sync + Print>(rt: &R, memory: &Memory) {
+    report(rt, memory, "replay", call_replay(memory));
+    report(rt, memory, "run_over", call_run_over(rt, memory));
+    report(rt, memory, "read_words", call_read_words(memory));
 }

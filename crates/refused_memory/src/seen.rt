@@ -1,4 +1,5 @@
 //! What was seen of a call.
+use crate::memory::Memory;
 
 /// That a call did what it must, or what was wrong.
 pub(crate) type Seen = Result<(), &'static str>;
@@ -11,11 +12,16 @@ pub(crate) fn must(holds: bool, wrong: &'static str) -> Seen {
     if holds { Ok(()) } else { Err(wrong) }
 }
 
-/// Prints the line of a call.
-pub(crate) fn report<R: Print>(rt: &R, call: &str, seen: Seen) {
+/// Prints the line of a call, and whether it said on the way that there was no memory.
+pub(crate) fn report<R: Print>(rt: &R, memory: &Memory, call: &str, seen: Seen) {
     let words = match seen {
         Ok(()) => "as expected",
         Err(wrong) => wrong,
     };
-    let _ = println!(rt; "{call}: {words}");
+    let behind = if memory.was_wanted() {
+        ", after a want of memory"
+    } else {
+        ""
+    };
+    let _ = println!(rt; "{call}: {words}{behind}");
 }

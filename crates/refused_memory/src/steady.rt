@@ -2,6 +2,7 @@
 use crate::control::{opened, shows};
 use crate::counts::{add, book_of, has};
 use crate::forwarding::{Became, live_of, what_became};
+use crate::memory::Memory;
 use crate::requests::requests_until_refusal;
 use crate::seen::{REFUSED_AGAIN, Seen, must};
 use draws::{PORT_257, UNTAGGED, message, request, set};
@@ -10,7 +11,6 @@ use frame_stats::{StatBook, count_of};
 use mib_upload::Desk;
 use omci_msg::{Action, Request, read};
 use plan_publish::{Control, Lane};
-use std::alloc::Global;
 use std::sync::Wait;
 
 /// How many frames are forwarded.
@@ -29,15 +29,15 @@ struct Room {
 }
 
 impl Room {
-    fn new(alloc: Global) -> Result<Room, &'static str> {
-        let mut book = book_of(alloc)?;
-        let counts = count_of(alloc, &[]).map_err(|_| REFUSED_AGAIN)?;
-        add(&mut book, 0, &counts, [0, 0])?;
+    fn new(memory: &Memory) -> Result<Room, &'static str> {
+        let mut book = book_of(memory)?;
+        let counts = count_of(memory.first(), &[]).map_err(|_| REFUSED_AGAIN)?;
+        add(memory, &mut book, 0, &counts, [0, 0])?;
         Ok(Room {
-            desk: Desk::new(alloc).map_err(|_| REFUSED_AGAIN)?,
-            live: live_of(alloc)?,
+            desk: Desk::new(memory.first()).map_err(|_| REFUSED_AGAIN)?,
+            live: live_of(memory)?,
             book,
-            verdicts: Vec::with_capacity(alloc, FRAMES).map_err(|_| REFUSED_AGAIN)?,
+            verdicts: Vec::with_capacity(memory.first(), FRAMES).map_err(|_| REFUSED_AGAIN)?,
         })
     }
 }
@@ -143,27 +143,27 @@ fn go_on<R: Wait>(rt: &R, control: &mut Control, lane: &mut Lane, room: &mut Roo
 /// The set-up, then all that needs no memory where it is wanted, and then requests until one is refused.
 fn set_up<R: Wait>(
     rt: &R,
-    alloc: Global,
+    memory: &Memory,
     control: &mut Control,
     lane: &mut Lane,
     goes_on: bool,
 ) -> Result<Option<u32>, &'static str> {
     send_pending(control)?;
-    let mut room = Room::new(alloc)?;
+    let mut room = Room::new(memory)?;
     if goes_on {
         go_on(rt, control, lane, &mut room)?;
     }
-    Ok(requests_until_refusal(alloc))
+    Ok(requests_until_refusal(memory.first()))
 }
 
 /// Prints how many requests there were until one was refused, or what was wrong.
-pub(crate) fn report<R: Wait + Print>(rt: &R, alloc: Global, goes_on: bool) {
-    let Ok((mut control, mut lanes)) = opened(rt, alloc) else {
+pub(crate) fn report<R: Wait + Print>(rt: &R, memory: &Memory, goes_on: bool) {
+    let Ok((mut control, mut lanes)) = opened(rt, memory) else {
         let _ = println!(rt; "no control");
         return;
     };
     if let Some(mut lane) = lanes.pop() {
-        let _ = match set_up(rt, alloc, &mut control, &mut lane, goes_on) {
+        let _ = match set_up(rt, memory, &mut control, &mut lane, goes_on) {
             Ok(Some(count)) => println!(rt; "requests until one is refused: {count}"),
             Ok(None) => println!(rt; "no request is refused"),
             Err(wrong) => println!(rt; "{wrong}"),

@@ -1,8 +1,8 @@
 //! A table, and its index.
+use crate::memory::Memory;
 use crate::seen::{REFUSED_AGAIN, Seen, must, report};
 use draws::UNTAGGED;
 use rule_index::Index;
-use std::alloc::Global;
 use tag_view::view;
 use vlan_rule::{Entry, RuleTable};
 
@@ -24,33 +24,33 @@ fn is_new(table: &RuleTable) -> bool {
 }
 
 /// A table, made again where there was no memory.
-fn table_of(alloc: Global) -> Result<RuleTable, &'static str> {
-    match RuleTable::new(alloc) {
+fn table_of(memory: &Memory) -> Result<RuleTable, &'static str> {
+    match RuleTable::new(memory.first()) {
         Ok(table) => Ok(table),
-        Err(_) => RuleTable::new(alloc).map_err(|_| REFUSED_AGAIN),
+        Err(_) => RuleTable::new(memory.again()).map_err(|_| REFUSED_AGAIN),
     }
 }
 
 /// An index, made again where there was no memory.
-fn index_of(alloc: Global) -> Result<Index, &'static str> {
-    match Index::new(alloc) {
+fn index_of(memory: &Memory) -> Result<Index, &'static str> {
+    match Index::new(memory.first()) {
         Ok(index) => Ok(index),
-        Err(_) => Index::new(alloc).map_err(|_| REFUSED_AGAIN),
+        Err(_) => Index::new(memory.again()).map_err(|_| REFUSED_AGAIN),
     }
 }
 
-fn new_table(alloc: Global) -> Seen {
-    let table = table_of(alloc)?;
+fn new_table(memory: &Memory) -> Seen {
+    let table = table_of(memory)?;
     must(is_new(&table), "other entries than the predefined ones")
 }
 
-fn new_index(alloc: Global) -> Seen {
-    let mut index = index_of(alloc)?;
+fn new_index(memory: &Memory) -> Seen {
+    let mut index = index_of(memory)?;
     let Ok(frame) = view(&UNTAGGED, 0x8100) else {
         return Err("the frame isn't read");
     };
     must(index.find(&frame, 0x8100).is_none(), "an entry is found")?;
-    let table = table_of(alloc)?;
+    let table = table_of(memory)?;
     index.rebuild(&table);
     must(
         index.find(&frame, 0x8100) == Some(0),
@@ -58,7 +58,7 @@ fn new_index(alloc: Global) -> Seen {
     )
 }
 
-pub(crate) fn make_calls<R: Print>(rt: &R, alloc: Global) {
-    report(rt, "RuleTable::new", new_table(alloc));
-    report(rt, "Index::new", new_index(alloc));
+pub(crate) fn make_calls<R: Print>(rt: &R, memory: &Memory) {
+    report(rt, memory, "RuleTable::new", new_table(memory));
+    report(rt, memory, "Index::new", new_index(memory));
 }
