@@ -3,13 +3,15 @@ use Rattle.std.proofs.Common.{◌≡◌, ◌∙◌, ◌<◌, ◌^◌, ◌≤◌,
 use Rattle.std.specs.Prelude.{IfNone}
 use Rattle.std.specs.Str.Parse.{ParsesUnsigned, ExplainsUnsignedError, HasUnsignedDigitsIfOk, digits_value, without_leading_plus}
 use Rattle.std.specs.declared.num.ParseIntError.{ParseIntError}
-use Rattle.clap.specs.Words.{ReadsOne, Row, Text, first_value, one_text, rows_of}
+use Rattle.clap.specs.Words.{ReadsOne, Row, Text, first_of, first_value, one_text, rows_of}
 use Rattle.clap.specs.declared.parser.matches.Found.{Found}
 use Rattle.clap.proofs.WalkLemmas.{first_value-rows, one_text-rows}
-use Rattle.command_line.specs.Asked.{IsNumber, IsRunBy}
-use Rattle.command_line.specs.Range.{IsInRange}
-use Rattle.command_line.specs.declared.reading.Words.{Words}
-use Rattle.command_line.specs.declared.reading.Words.TheVariants.{Replay, Run}
+use Rattle.command_line.specs.Asked.{IsExplain, IsMib, IsNumber, IsRules, IsRun}
+use Rattle.command_line.specs.Range.{AreInRange}
+use Rattle.command_line.specs.declared.words.RunWords.{RunWords}
+use Rattle.command_line.specs.declared.words.MibWords.{MibWords}
+use Rattle.command_line.specs.declared.words.RulesWords.{RulesWords}
+use Rattle.command_line.specs.declared.words.ExplainWords.{ExplainWords}
 
 -- how a whole number of so many bits is read
 abbrev pub Reads : ℕ → Text → Result ℕ ParseIntError → Type 0
@@ -45,40 +47,58 @@ number_same name rows n m a b =
     a.number ∙ subst (λ text. digits_value 10 (without_leading_plus a.text) ≡ digits_value 10 (without_leading_plus text)) same refl ∙ sym b.number
 
 -- words that were not read ask for no run in its range
-abbrev pub AsksForNone : List Row → Type 0
-AsksForNone rows = (words : Words) → IsRunBy rows words → IsInRange words → ⊥
+abbrev pub AsksForNoRun : List Row → Type 0
+AsksForNoRun rows = (words : RunWords) → IsRun rows words → AreInRange words.settings → ⊥
+
+-- a required option that was not read has no value
+missing : (f : Found) (name : Text) (value : Text) → first_value f name ≡ None → first_of name (rows_of f) ≡ Some value → ⊥
+missing f name value none is = let bad : None ≡ Some value = sym none ∙ first_value-rows f name ∙ is in absurd (cc)
 
 module _ (f : Found) where
-  pub port_unread : ((text : Text) → one_text f (codes "port") ≡ Some text → ReadsOne (Reads 16) text None) → AsksForNone (rows_of f)
-  port_unread value Replay is fits = is
-  port_unread value (Run trace frames settings) is fits = number_unread 16 f (codes "port") settings.port value is.port (omega (arith, fits.port))
+  pub port_unread : ((text : Text) → one_text f (codes "port") ≡ Some text → ReadsOne (Reads 16) text None) → AsksForNoRun (rows_of f)
+  port_unread value words is fits = number_unread 16 f (codes "port") words.settings.port value is.port (omega (arith, fits.port))
 
-  pub lanes_unread : ((text : Text) → one_text f (codes "lanes") ≡ Some text → ReadsOne (Reads 16) text None) → AsksForNone (rows_of f)
-  lanes_unread value Replay is fits = is
-  lanes_unread value (Run trace frames settings) is fits = number_unread 16 f (codes "lanes") settings.lanes value is.lanes (omega (arith, fits.few_lanes))
+  pub lanes_unread : ((text : Text) → one_text f (codes "lanes") ≡ Some text → ReadsOne (Reads 16) text None) → AsksForNoRun (rows_of f)
+  lanes_unread value words is fits = number_unread 16 f (codes "lanes") words.settings.lanes value is.lanes (omega (arith, fits.few_lanes))
 
-  pub batch_unread : ((text : Text) → one_text f (codes "batch") ≡ Some text → ReadsOne (Reads 32) text None) → AsksForNone (rows_of f)
-  batch_unread value Replay is fits = is
-  batch_unread value (Run trace frames settings) is fits = number_unread 32 f (codes "batch") settings.batch value is.batch (omega (arith, fits.few_frames))
+  pub batch_unread : ((text : Text) → one_text f (codes "batch") ≡ Some text → ReadsOne (Reads 32) text None) → AsksForNoRun (rows_of f)
+  batch_unread value words is fits = number_unread 32 f (codes "batch") words.settings.batch value is.batch (omega (arith, fits.few_frames))
 
-  pub trace_missing : first_value f (codes "trace") ≡ None → AsksForNone (rows_of f)
-  trace_missing none Replay is fits = is
-  trace_missing none (Run trace frames settings) is fits = let bad : None ≡ Some trace.now = sym none ∙ first_value-rows f (codes "trace") ∙ is.trace in absurd (cc)
+  pub trace_missing : first_value f (codes "trace") ≡ None → AsksForNoRun (rows_of f)
+  trace_missing none words is fits = missing f (codes "trace") words.trace.now none is.trace
 
-  pub frames_missing : first_value f (codes "frames") ≡ None → AsksForNone (rows_of f)
-  frames_missing none Replay is fits = is
-  frames_missing none (Run trace frames settings) is fits = let bad : None ≡ Some frames.now = sym none ∙ first_value-rows f (codes "frames") ∙ is.frames in absurd (cc)
+  pub frames_missing : first_value f (codes "frames") ≡ None → AsksForNoRun (rows_of f)
+  frames_missing none words is fits = missing f (codes "frames") words.frames.now none is.frames
 
   -- lanes that were read, and aren't 1 to 16
-  pub lanes_apart : (n : ℕ) → IsNumber (codes "lanes") (rows_of f) n → ((1 ≤ n) → (n ≤ 16) → ⊥) → AsksForNone (rows_of f)
-  lanes_apart n read out Replay is fits = is
-  lanes_apart n read out (Run trace frames settings) is fits =
-      let same = number_same (codes "lanes") (rows_of f) settings.lanes n is.lanes read in
+  pub lanes_apart : (n : ℕ) → IsNumber (codes "lanes") (rows_of f) n → ((1 ≤ n) → (n ≤ 16) → ⊥) → AsksForNoRun (rows_of f)
+  lanes_apart n read out words is fits =
+      let same = number_same (codes "lanes") (rows_of f) words.settings.lanes n is.lanes read in
       out (subst (λ m. 1 ≤ m) same fits.some_lanes) (subst (λ m. m ≤ 16) same fits.few_lanes)
 
   -- and so of a batch
-  pub batch_apart : (n : ℕ) → IsNumber (codes "batch") (rows_of f) n → ((1 ≤ n) → (n ≤ 65536) → ⊥) → AsksForNone (rows_of f)
-  batch_apart n read out Replay is fits = is
-  batch_apart n read out (Run trace frames settings) is fits =
-      let same = number_same (codes "batch") (rows_of f) settings.batch n is.batch read in
+  pub batch_apart : (n : ℕ) → IsNumber (codes "batch") (rows_of f) n → ((1 ≤ n) → (n ≤ 65536) → ⊥) → AsksForNoRun (rows_of f)
+  batch_apart n read out words is fits =
+      let same = number_same (codes "batch") (rows_of f) words.settings.batch n is.batch read in
       out (subst (λ m. 1 ≤ m) same fits.some_frames) (subst (λ m. m ≤ 65536) same fits.few_frames)
+
+  -- a mib without a trace
+  pub mib_missing : first_value f (codes "trace") ≡ None → (words : MibWords) → IsMib (rows_of f) words → ⊥
+  mib_missing none words is = missing f (codes "trace") words.trace.now none is.trace
+
+  pub rules_missing : first_value f (codes "trace") ≡ None → (words : RulesWords) → IsRules (rows_of f) words → words.port ≤ 65535 → ⊥
+  rules_missing none words is fits = missing f (codes "trace") words.trace.now none is.trace
+
+  pub rules_unread : ((text : Text) → one_text f (codes "port") ≡ Some text → ReadsOne (Reads 16) text None)
+      → (words : RulesWords) → IsRules (rows_of f) words → words.port ≤ 65535 → ⊥
+  rules_unread value words is fits = number_unread 16 f (codes "port") words.port value is.port (omega (arith, fits))
+
+  pub explain_missing : first_value f (codes "trace") ≡ None → (words : ExplainWords) → IsExplain (rows_of f) words → words.port ≤ 65535 → ⊥
+  explain_missing none words is fits = missing f (codes "trace") words.trace.now none is.trace
+
+  pub explain_unread : ((text : Text) → one_text f (codes "port") ≡ Some text → ReadsOne (Reads 16) text None)
+      → (words : ExplainWords) → IsExplain (rows_of f) words → words.port ≤ 65535 → ⊥
+  explain_unread value words is fits = number_unread 16 f (codes "port") words.port value is.port (omega (arith, fits))
+
+  pub frame_missing : first_value f (codes "frame") ≡ None → (words : ExplainWords) → IsExplain (rows_of f) words → words.port ≤ 65535 → ⊥
+  frame_missing none words is fits = missing f (codes "frame") words.frame.now none is.frame

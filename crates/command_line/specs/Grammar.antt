@@ -15,6 +15,17 @@ valued name parser = record (new_rule name) {
   required = true;
 }
 
+-- an option that names a file
+abbrev pub file : Text → Rule
+file name = valued name NonEmptyString
+
+abbrev pub trace : Rule
+trace = file (codes "trace")
+
+-- an option without a value
+abbrev pub flag : Text → Rule
+flag name = record (new_rule name) { long = Some name; action = Some SetTrue }
+
 abbrev pub port : Rule
 port = valued (codes "port") (Signed (pos 0) (pos 65535))
 
@@ -25,17 +36,45 @@ abbrev pub batch : Rule
 batch = valued (codes "batch") (Signed (pos 1) (pos 65536))
 
 abbrev pub after : Rule
-after = record (new_rule (codes "after")) { long = Some (codes "after"); action = Some SetTrue }
+after = flag (codes "after")
+
+abbrev pub json : Rule
+json = flag (codes "json")
+
+-- a frame, which no option's name stands before
+abbrev pub frame : Rule
+frame = record (new_rule (codes "frame")) {
+  action = Some Set;
+  value_names = 1;
+  parser = Some NonEmptyString;
+  required = true;
+}
 
 abbrev pub replay : App
 replay = new_app (codes "replay")
 
 -- what names the two files
 abbrev pub over_files : App
-over_files = with_rule (with_rule (new_app (codes "run")) (valued (codes "trace") NonEmptyString)) (valued (codes "frames") NonEmptyString)
+over_files = with_rule (with_rule (new_app (codes "run")) trace) (file (codes "frames"))
 
 abbrev pub run : App
 run = with_rule (with_rule (with_rule (with_rule over_files port) lanes) batch) after
+
+abbrev pub decode : App
+decode = new_app (codes "decode")
+
+abbrev pub mib : App
+mib = with_rule (with_rule (new_app (codes "mib")) trace) json
+
+-- what names a trace and a port, and whether objects are shown
+abbrev pub at_port : Text → App
+at_port name = with_rule (with_rule (with_rule (new_app name) trace) port) json
+
+abbrev pub rules : App
+rules = at_port (codes "rules")
+
+abbrev pub explain : App
+explain = with_rule (at_port (codes "explain")) frame
 
 -- the program alone, which shows its help where no word follows
 abbrev pub alone : App
@@ -43,5 +82,13 @@ alone = record (new_app (codes "onuctl")) {
   top = record (new_app (codes "onuctl")).top { has_version = true; subcommand_required = true; arg_required_else_help = true };
 }
 
+-- what answers and forwards
+abbrev pub with_doing : App → App
+with_doing app = with_subcommand (with_subcommand app replay.top) run.top
+
+-- what looks inside
+abbrev pub with_looking : App → App
+with_looking app = with_subcommand (with_subcommand (with_subcommand (with_subcommand app decode.top) mib.top) rules.top) explain.top
+
 abbrev pub onuctl : App
-onuctl = with_subcommand (with_subcommand alone replay.top) run.top
+onuctl = with_looking (with_doing alone)

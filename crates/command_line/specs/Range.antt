@@ -1,8 +1,8 @@
--- What a run's settings may be.
+-- What the numbers of the words may be.
 use Rattle.std.specs.Prelude.{◌≤◌}
 use Rattle.lane_run.specs.declared.job.RunSettings.{RunSettings}
-use Rattle.command_line.specs.declared.reading.Words.{Words}
-use Rattle.command_line.specs.declared.reading.Words.TheVariants.{Replay, Run}
+use Rattle.command_line.specs.declared.words.Words.{Words}
+use Rattle.command_line.specs.declared.words.Words.TheVariants.{Replay, Run, Decode, Mib, Rules, Explain}
 
 -- a port of 16 bits, 1 to 16 lanes, and batches of 1 to 65,536 frames
 pub record AreInRange (settings : RunSettings) : Type 0 where
@@ -12,6 +12,11 @@ pub record AreInRange (settings : RunSettings) : Type 0 where
   pub some_frames : 1 ≤ settings.batch
   pub few_frames : settings.batch ≤ 65536
 
+-- a port is one of 16 bits
 abbrev pub IsInRange : Words → Type 0
 IsInRange Replay = Unit {0}
-IsInRange (Run trace frames settings) = AreInRange settings
+IsInRange (Run words) = AreInRange words.settings
+IsInRange Decode = Unit {0}
+IsInRange (Mib words) = Unit {0}
+IsInRange (Rules words) = words.port ≤ 65535
+IsInRange (Explain words) = words.port ≤ 65535

@@ -4,9 +4,11 @@
 mod grammar;
 mod reading;
 mod report;
+mod words;
 
-pub use reading::{Words, read_words};
+pub use reading::read_words;
 pub use report::report_words;
+pub use words::{ExplainWords, MibWords, RulesWords, RunWords, Words};
 
 #[cfg(test)]
 mod tests;

@@ -1,6 +1,6 @@
 //! Words and what they ask for; the texts of help, and of words that are refused.
 
-use crate::{Words, read_words, report_words};
+use crate::{ExplainWords, MibWords, RulesWords, RunWords, Words, read_words, report_words};
 use clap::Error;
 use lane_run::RunSettings;
 use std::alloc::AllocError;
@@ -12,9 +12,13 @@ Answer OMCI messages and forward Ethernet frames, as an optical network unit doe
 Usage: onuctl <COMMAND>
 
 Commands:
-  replay  Answer the script on standard input, line by line, on standard output
-  run     Forward the frames of a capture on several lanes while a trace is applied
-  help    Print this message or the help of the given subcommand(s)
+  replay   Answer the script on standard input, line by line, on standard output
+  run      Forward the frames of a capture on several lanes while a trace is applied
+  decode   Say what each line of the script or of the answers on standard input means
+  mib      Show the managed entities after a trace
+  rules    Show the VLAN tagging table in force at a port after a trace
+  explain  Say step by step what becomes of one frame after a trace
+  help     Print this message or the help of the given subcommand(s)
 
 Options:
   -h, --help     Print help
@@ -40,13 +44,68 @@ Usage: onuctl run [OPTIONS] --trace <FILE> --frames <FILE> --port <PORT> --lanes
 Options:
       --trace <FILE>    Script whose messages are applied, a file [example: up.script]
       --frames <FILE>   Capture of the frames, a file in the classic format of libpcap [example: up.pcap]
-      --port <PORT>     Port at which all frames come in, 0 to 65535 [example: 257]
+      --port <PORT>     Port at which frames come in, 0 to 65535 [example: 257]
       --lanes <COUNT>   Lanes that forward side by side, 1 to 16 [example: 4]
       --batch <FRAMES>  Frames of each batch but the last, 1 to 65536 [example: 1024]
       --after           Forward only after the whole trace is applied; has no value [example: --after]
   -h, --help            Print help
 
 Example: onuctl run --trace up.script --frames up.pcap --port 257 --lanes 4 --batch 1024
+";
+
+const DECODE_HELP: &str = "\
+Say what each line of the script or of the answers on standard input means
+
+Usage: onuctl decode
+
+Options:
+  -h, --help  Print help
+
+Example: onuctl decode < examples/one_frame.script
+";
+
+const MIB_HELP: &str = "\
+Show the managed entities after a trace
+
+Usage: onuctl mib [OPTIONS] --trace <FILE>
+
+Options:
+      --trace <FILE>  Script whose messages are applied, a file [example: up.script]
+      --json          Show it as JSON, for other programs; has no value [example: --json]
+  -h, --help          Print help
+
+Example: onuctl mib --trace up.script
+";
+
+const RULES_HELP: &str = "\
+Show the VLAN tagging table in force at a port after a trace
+
+Usage: onuctl rules [OPTIONS] --trace <FILE> --port <PORT>
+
+Options:
+      --trace <FILE>  Script whose messages are applied, a file [example: up.script]
+      --port <PORT>   Port at which frames come in, 0 to 65535 [example: 257]
+      --json          Show it as JSON, for other programs; has no value [example: --json]
+  -h, --help          Print help
+
+Example: onuctl rules --trace up.script --port 257
+";
+
+const EXPLAIN_HELP: &str = "\
+Say step by step what becomes of one frame after a trace
+
+Usage: onuctl explain [OPTIONS] --trace <FILE> --port <PORT> <HEX>
+
+Arguments:
+  <HEX>  Bytes of the frame, from the destination address on, in hexadecimal digits
+
+Options:
+      --trace <FILE>  Script whose messages are applied, a file [example: up.script]
+      --port <PORT>   Port at which frames come in, 0 to 65535 [example: 257]
+      --json          Show it as JSON, for other programs; has no value [example: --json]
+  -h, --help          Print help
+
+Example: onuctl explain --trace up.script --port 257 0200000000010200000000028100a0640800
 ";
 
 /// A run's words as far as its batch, with three values that a case gives.
@@ -58,7 +117,7 @@ fn run_words<'w>(port: &'w str, lanes: &'w str, batch: &'w str) -> [&'w str; 12]
 }
 
 fn run(port: u16, lanes: u16, batch: u32, after: bool) -> Words<'static> {
-    Words::Run {
+    Words::Run(RunWords {
         trace: "t",
         frames: "f",
         settings: RunSettings {
@@ -67,7 +126,7 @@ fn run(port: u16, lanes: u16, batch: u32, after: bool) -> Words<'static> {
             batch,
             after,
         },
-    }
+    })
 }
 
 #[test]
@@ -109,6 +168,56 @@ fn words_ask_for_a_replay_or_a_run(rt: HostRuntime) -> Result<(), Fail> {
     Ok(())
 }
 
+#[test]
+fn words_ask_to_look_inside(rt: HostRuntime) -> Result<(), Fail> {
+    for (words, asked) in [
+        (&["onuctl", "decode"][..], Words::Decode),
+        (
+            &["onuctl", "mib", "--trace", "t"][..],
+            Words::Mib(MibWords {
+                trace: "t",
+                json: false,
+            }),
+        ),
+        (
+            &["onuctl", "mib", "--json", "--trace", "t"][..],
+            Words::Mib(MibWords {
+                trace: "t",
+                json: true,
+            }),
+        ),
+        (
+            &["onuctl", "rules", "--trace", "t", "--port", "65535"][..],
+            Words::Rules(RulesWords {
+                trace: "t",
+                port: 65_535,
+                json: false,
+            }),
+        ),
+        (
+            &["onuctl", "explain", "0800", "--trace=t", "--port=257"][..],
+            Words::Explain(ExplainWords {
+                trace: "t",
+                port: 257,
+                frame: "0800",
+                json: false,
+            }),
+        ),
+        (
+            &["onuctl", "explain", "--json", "--trace=t", "--port=0", "f"][..],
+            Words::Explain(ExplainWords {
+                trace: "t",
+                port: 0,
+                frame: "f",
+                json: true,
+            }),
+        ),
+    ] {
+        assert_eq!(rt; read_words(rt.alloc(), words)?, asked, "{words:?}");
+    }
+    Ok(())
+}
+
 /// What is written to the output and to the errors, and the status, where words ask for nothing that can be done.
 fn reported(rt: &HostRuntime, words: &[&str]) -> Result<(Vec<u8>, Vec<u8>, u8), Fail> {
     let (mut out, mut err) = (Vec::new(rt.alloc()), Vec::new(rt.alloc()));
@@ -130,6 +239,10 @@ fn help_and_the_version_go_to_the_output(rt: HostRuntime) -> Result<(), Fail> {
         (&["onuctl", "replay", "--help"][..], REPLAY_HELP),
         (&["onuctl", "run", "--help"][..], RUN_HELP),
         (&["onuctl", "help", "run"][..], RUN_HELP),
+        (&["onuctl", "decode", "--help"][..], DECODE_HELP),
+        (&["onuctl", "mib", "-h"][..], MIB_HELP),
+        (&["onuctl", "rules", "--help"][..], RULES_HELP),
+        (&["onuctl", "explain", "--help"][..], EXPLAIN_HELP),
         (&["onuctl", "--version"][..], "onuctl 0.1.0\n"),
         (&["onuctl", "-V"][..], "onuctl 0.1.0\n"),
     ] {
@@ -248,6 +361,17 @@ error: the following required arguments were not provided:
   --batch <FRAMES>
 
 Usage: onuctl run --trace <FILE> --frames <FILE> --port <PORT> --lanes <COUNT> --batch <FRAMES>
+
+For more information, try '--help'.
+",
+        ),
+        (
+            &["onuctl", "explain", "--trace", "t", "--port", "1"][..],
+            "\
+error: the following required arguments were not provided:
+  <HEX>
+
+Usage: onuctl explain --trace <FILE> --port <PORT> <HEX>
 
 For more information, try '--help'.
 ",

@@ -57,13 +57,7 @@ fn main(rt: HostRuntime) -> ExitCode {
             let outcome = replay(alloc, &mut rt.stdin(), &mut out);
             report_replay(&outcome, &mut err)
         }
-        Ok(
-            Words::Run {
-                trace,
-                frames,
-                settings,
-            },
-        ) => run(&rt, trace, frames, &settings, &mut out, &mut err),
+        Ok(Words::Run(words)) => run(&rt, &words, &mut out, &mut err),
         Err(error) => report_words(&error, &mut out, &mut err),
     })
 }

@@ -1,6 +1,7 @@
 //! A run over two files.
 use crate::files::read_whole;
-use capture_run::{RunSettings, report_run, run_over, run_over_shown};
+use capture_run::{report_run, run_over, run_over_shown};
+use command_line::RunWords;
 use std::alloc::Global;
 use std::io;
 use std::io::{ErrorKind, IsTerminal, Write};
@@ -24,19 +25,19 @@ pub fn run<
     R: Files + Alloc<A = Global> + Threads + Wait + Clock + Sync,
     O: Write,
     E: Write + IsTerminal + Send,
->(rt: &R, trace: &str, frames: &str, settings: &RunSettings, out: &mut O, err: &mut E) -> u8 {
-    let trace = match read_whole(rt, trace) {
+>(rt: &R, words: &RunWords, out: &mut O, err: &mut E) -> u8 {
+    let trace = match read_whole(rt, words.trace) {
         Ok(trace) => trace,
         Err(error) => return report_unread(&error, b"cannot read trace\n", err),
     };
-    let frames = match read_whole(rt, frames) {
+    let frames = match read_whole(rt, words.frames) {
         Ok(frames) => frames,
         Err(error) => return report_unread(&error, b"cannot read frames\n", err),
     };
     let outcome = if err.is_terminal() {
-        run_over_shown(rt, rt.alloc(), &trace, &frames, settings, out, err)
+        run_over_shown(rt, rt.alloc(), &trace, &frames, &words.settings, out, err)
     } else {
-        run_over(rt, rt.alloc(), &trace, &frames, settings, out)
+        run_over(rt, rt.alloc(), &trace, &frames, &words.settings, out)
     };
     report_run(&outcome, err)
 }

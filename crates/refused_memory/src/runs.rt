@@ -4,7 +4,7 @@ use crate::seen::{REFUSED_AGAIN, Seen, must, report};
 use capture_run::{RunFault, RunSettings, run_over};
 use clap::Error;
 use clap::error::ErrorKind;
-use command_line::{Words, read_words};
+use command_line::{RunWords, Words, read_words};
 use draws::{PORT_257, message};
 use hex::encode_to_slice;
 use script_replay::{ReplayFault, replay};
@@ -137,11 +137,11 @@ fn is_asked(read: &Result<Words<'_>, Error>) -> bool {
     match read {
         Ok(words) => {
             *words
-                == Words::Run {
+                == Words::Run(RunWords {
                     trace: "T",
                     frames: "F",
                     settings: SETTINGS,
-                }
+                })
         }
         Err(_) => false,
     }

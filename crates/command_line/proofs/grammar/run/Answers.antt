@@ -10,8 +10,8 @@ use Rattle.command_line.proofs.grammar.run.Goals as goal
 made : (c : goal.After-arg-6) → IfOk c.arg-6.result (λ command. (app_of command ≡ run) × ((fields_of command).has_globals ≡ false))
 made c =
     let alone : app_of c.after_help.result ≡ new_app (codes "run") = search rules in
-    let with_trace = with_arg _ _ _ _ _ c.in_ok-arg.ensures c.file.ensures.rule c.file.ensures.local (alone, search rules) in
-    let with_frames = with_arg _ _ _ _ _ c.in_ok-arg-2.ensures c.file-2.ensures.rule c.file-2.ensures.local with_trace in
+    let with_trace = with_arg _ _ _ _ _ c.in_ok-arg.ensures c.trace.ensures.rule c.trace.ensures.local (alone, search rules) in
+    let with_frames = with_arg _ _ _ _ _ c.in_ok-arg-2.ensures c.file.ensures.rule c.file.ensures.local with_trace in
     let with_port = with_arg _ _ _ _ _ c.in_ok-arg-3.ensures c.port.ensures.rule c.port.ensures.local with_frames in
     let with_lanes = with_arg _ _ _ _ _ c.in_ok-arg-4.ensures c.lanes.ensures.rule c.lanes.ensures.local with_port in
     let with_batch = with_arg _ _ _ _ _ c.in_ok-arg-5.ensures c.batch.ensures.rule c.batch.ensures.local with_lanes in

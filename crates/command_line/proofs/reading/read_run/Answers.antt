@@ -14,8 +14,10 @@ returns-clause-asked c =
       port = number_read 16 found (codes "port") _ c.in_ok-get_one.ensures.none c.in_ok-get_one.ensures.value;
       lanes = number_read 16 found (codes "lanes") _ c.in_ok-lanes.ensures.none c.in_ok-lanes.ensures.value;
       batch = number_read 32 found (codes "batch") _ c.in_ok-batch.ensures.none c.in_ok-batch.ensures.value;
-      after = λ e. c.get_flag.ensures.value (one_text-rows found (codes "after") ∙ e);
-      beside = λ e. c.get_flag.ensures.other (one_text-rows found (codes "after") ∙ e);
+      after = record {
+        with = λ e. c.get_flag.ensures.value (one_text-rows found (codes "after") ∙ e);
+        without = λ e. c.get_flag.ensures.other (one_text-rows found (codes "after") ∙ e);
+      };
     }
 
 pub returns-in_err-lanes-clause-none : goal.returns-in_err-lanes-clause-none
