@@ -2,7 +2,7 @@
 use std::alloc::Global;
 use std::fs::{File, OpenFile};
 use std::io;
-use std::io::Read;
+use std::io::{ErrorKind, Read, Write};
 use std::rt::Files;
 
 /// The bytes of a file, read into room of its size and a byte more, by which its end is found. So nothing grows, and nothing is
@@ -13,4 +13,14 @@ pub fn read_whole<R: Files + Alloc<A = Global>>(rt: &R, path: &str) -> io::Resul
     let mut bytes = Vec::with_capacity(rt.alloc(), size.saturating_add(1))?;
     file.read_to_end(&mut bytes)?;
     Ok(bytes)
+}
+
+/// Says why a file can't be had: there is no memory for it, or else these words.
+pub fn report_unread<E: Write>(error: &io::Error, words: &[u8], err: &mut E) -> u8 {
+    let words = match error.kind() {
+        ErrorKind::OutOfMemory => b"no memory\n",
+        _ => words,
+    };
+    let _ = err.write_all(words);
+    1
 }

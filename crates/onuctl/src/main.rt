@@ -2,9 +2,11 @@
 #![tactic(auto)]
 
 mod files;
+mod looking;
 mod running;
 
 use command_line::{Words, read_words, report_words};
+use looking::{decode_lines, explain_frame, show_mib, show_rules};
 use running::run;
 use script_replay::{replay, report_replay};
 use std::alloc::{AllocError, Global};
@@ -58,6 +60,10 @@ fn main(rt: HostRuntime) -> ExitCode {
             report_replay(&outcome, &mut err)
         }
         Ok(Words::Run(words)) => run(&rt, &words, &mut out, &mut err),
+        Ok(Words::Decode) => decode_lines(alloc, &mut rt.stdin(), &mut out, &mut err),
+        Ok(Words::Mib(words)) => show_mib(&rt, &words, &mut out, &mut err),
+        Ok(Words::Rules(words)) => show_rules(&rt, &words, &mut out, &mut err),
+        Ok(Words::Explain(words)) => explain_frame(&rt, &words, &mut out, &mut err),
         Err(error) => report_words(&error, &mut out, &mut err),
     })
 }

@@ -1,23 +1,12 @@
 //! A run over two files.
-use crate::files::read_whole;
+use crate::files::{read_whole, report_unread};
 use capture_run::{report_run, run_over, run_over_shown};
 use command_line::RunWords;
 use std::alloc::Global;
-use std::io;
-use std::io::{ErrorKind, IsTerminal, Write};
+use std::io::{IsTerminal, Write};
 use std::rt::{Clock, Files};
 use std::sync::Wait;
 use std::thread::Threads;
-
-/// Says why a file can't be had: there is no memory for it, or else these words.
-fn report_unread<E: Write>(error: &io::Error, words: &[u8], err: &mut E) -> u8 {
-    let words = match error.kind() {
-        ErrorKind::OutOfMemory => b"no memory\n",
-        _ => words,
-    };
-    let _ = err.write_all(words);
-    1
-}
 
 /// Reads the trace and then the capture whole, and forwards the frames of the capture while the trace is applied. What comes of it
 /// is written to `out`, and why nothing does to `err`, which shows how far the run is where it is a terminal. It gives the status.

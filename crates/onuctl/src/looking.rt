@@ -1,0 +1,143 @@
+//! What looks inside: the managed entities after a trace, a table, and what becomes of one frame.
+use crate::files::{read_whole, report_unread};
+use capture_run::{RunFault, report_run};
+use command_line::{ExplainWords, MibWords, RulesWords};
+use entity_text::{TextFault, write_mib, write_mib_json};
+use explain_text::{write_explanation, write_explanation_json, write_rules, write_rules_json};
+use message_text::{DecodeFault, decode};
+use mib_state::Mib;
+use mib_trace::apply_trace;
+use script_replay::{ReplayFault, report_replay};
+use std::alloc::Global;
+use std::io::{Read, Write};
+use std::rt::Files;
+
+/// Why a text isn't written, as a run says it.
+fn run_fault(fault: TextFault) -> RunFault {
+    match fault {
+        TextFault::Write => RunFault::Write,
+        TextFault::NoMemory => RunFault::NoMemory,
+    }
+}
+
+/// Why a script isn't decoded, as a replay says it.
+fn replay_fault(fault: DecodeFault) -> ReplayFault {
+    match fault {
+        DecodeFault::BadLine(line) => ReplayFault::BadLine(line),
+        DecodeFault::Read => ReplayFault::Read(0),
+        DecodeFault::Write => ReplayFault::Write,
+        DecodeFault::NoMemory => ReplayFault::NoMemory,
+    }
+}
+
+/// Says how a text ended, and gives the status.
+fn report_text<E: Write>(outcome: Result<(), TextFault>, err: &mut E) -> u8 {
+    report_run(&outcome.map_err(run_fault), err)
+}
+
+/// The managed entities after the trace in a file, or the status where there are none; why is written to `err`.
+fn entities_after<R: Files + Alloc<A = Global>, E: Write>(
+    rt: &R,
+    trace: &str,
+    err: &mut E,
+) -> Result<Mib, u8> {
+    let trace = match read_whole(rt, trace) {
+        Ok(trace) => trace,
+        Err(error) => return Err(report_unread(&error, b"cannot read trace\n", err)),
+    };
+    let Ok(mut mib) = Mib::new(rt.alloc()) else {
+        return Err(report_run(&Err(RunFault::NoMemory), err));
+    };
+    match apply_trace(&mut mib, &trace) {
+        Ok(()) => Ok(mib),
+        Err(line) => Err(report_run(&Err(RunFault::BadTrace(line)), err)),
+    }
+}
+
+/// Writes what each line of the input means to `out`, and why not all of them to `err`. It gives the status.
+pub fn decode_lines<I: Read, O: Write, E: Write>(
+    alloc: Global,
+    reader: &mut I,
+    out: &mut O,
+    err: &mut E,
+) -> u8 {
+    let outcome = decode(alloc, reader, out);
+    report_replay(&outcome.map_err(replay_fault), err)
+}
+
+/// Writes the managed entities after a trace to `out`, and why nothing, or not all, to `err`. It gives the status.
+pub fn show_mib<R: Files + Alloc<A = Global>, O: Write, E: Write>(
+    rt: &R,
+    words: &MibWords,
+    out: &mut O,
+    err: &mut E,
+) -> u8 {
+    let mib = match entities_after(rt, words.trace, err) {
+        Ok(mib) => mib,
+        Err(status) => return status,
+    };
+    let outcome = if words.json {
+        write_mib_json(rt.alloc(), &mib, out)
+    } else {
+        write_mib(rt.alloc(), &mib, out)
+    };
+    report_text(outcome, err)
+}
+
+/// Writes the table in force at a port after a trace to `out`, and why nothing, or not all, to `err`. It gives the status.
+pub fn show_rules<R: Files + Alloc<A = Global>, O: Write, E: Write>(
+    rt: &R,
+    words: &RulesWords,
+    out: &mut O,
+    err: &mut E,
+) -> u8 {
+    let mib = match entities_after(rt, words.trace, err) {
+        Ok(mib) => mib,
+        Err(status) => return status,
+    };
+    let outcome = if words.json {
+        write_rules_json(rt.alloc(), &mib, words.port, out)
+    } else {
+        write_rules(rt.alloc(), &mib, words.port, out)
+    };
+    report_text(outcome, err)
+}
+
+/// The bytes that hexadecimal digits spell, or the status where they spell none; why is written to `err`.
+fn frame_of<E: Write>(alloc: Global, digits: &str, err: &mut E) -> Result<Vec<u8>, u8> {
+    let Ok(mut bytes) = vec![in alloc; 0u8; digits.len() / 2] else {
+        return Err(report_run(&Err(RunFault::NoMemory), err));
+    };
+    match hex::decode_to_slice(digits.as_bytes(), &mut bytes) {
+        Ok(()) => Ok(bytes),
+        Err(_) => {
+            let _ = err
+                .write_all(b"error: the frame is not an even number of hexadecimal digits\n");
+            Err(1)
+        }
+    }
+}
+
+/// Writes what becomes of a frame after a trace, step by step, to `out`, and why nothing, or not all, to `err`. It gives the status.
+pub fn explain_frame<R: Files + Alloc<A = Global>, O: Write, E: Write>(
+    rt: &R,
+    words: &ExplainWords,
+    out: &mut O,
+    err: &mut E,
+) -> u8 {
+    let alloc = rt.alloc();
+    let frame = match frame_of(alloc, words.frame, err) {
+        Ok(frame) => frame,
+        Err(status) => return status,
+    };
+    let mib = match entities_after(rt, words.trace, err) {
+        Ok(mib) => mib,
+        Err(status) => return status,
+    };
+    let outcome = if words.json {
+        write_explanation_json(alloc, &mib, words.port, &frame, out)
+    } else {
+        write_explanation(alloc, &mib, words.port, &frame, out)
+    };
+    report_text(outcome, err)
+}
