@@ -72,6 +72,7 @@ fn lines_are_the_same_on_one_lane_and_on_eight(rt: HostRuntime) -> Result<(), Fa
             bytes: Vec::new(alloc),
             most: 1,
             room: 1000,
+            fails: true,
         };
         run_over(&rt, alloc, trace.as_bytes(), &file, &settings, &mut dribble)?;
         assert_eq!(rt; dribble.bytes.as_slice(), LINES.as_bytes(), "{lanes} lanes");
@@ -80,23 +81,26 @@ fn lines_are_the_same_on_one_lane_and_on_eight(rt: HostRuntime) -> Result<(), Fa
 }
 
 #[test]
-fn a_writer_that_fails_has_a_front_of_the_lines(rt: HostRuntime) -> Result<(), Fail> {
+fn a_writer_that_fails_at_any_byte_has_a_front_of_the_lines(rt: HostRuntime) -> Result<(), Fail> {
     let alloc = rt.alloc();
     let trace = tagging(alloc)?;
     let file = three_frames(alloc)?;
     let settings = applied_first(1, 2);
     for room in 0..LINES.len() {
-        let mut sink = Sink {
-            bytes: Vec::new(alloc),
-            most: 1000,
-            room,
-        };
-        assert_eq!(rt;
-            run_over(&rt, alloc, trace.as_bytes(), &file, &settings, &mut sink),
-            Err(RunFault::Write),
-            "{room} bytes"
-        );
-        assert_eq!(rt; sink.bytes.as_slice(), &LINES.as_bytes()[..room]);
+        for fails in [false, true] {
+            let mut sink = Sink {
+                bytes: Vec::new(alloc),
+                most: 10,
+                room,
+                fails,
+            };
+            assert_eq!(rt;
+                run_over(&rt, alloc, trace.as_bytes(), &file, &settings, &mut sink),
+                Err(RunFault::Write),
+                "{room} bytes"
+            );
+            assert_eq!(rt; sink.bytes.as_slice(), &LINES.as_bytes()[..room]);
+        }
     }
     Ok(())
 }

@@ -54,17 +54,18 @@ pub(crate) fn applied_first(lanes: u16, batch: u32) -> RunSettings {
     }
 }
 
-/// Takes at most so many bytes a write, and so many in all.
+/// Takes at most so many bytes a write, and so many in all; then it fails, or takes none.
 #[derive(Drop)]
 pub(crate) struct Sink {
     pub(crate) bytes: Vec<u8>,
     pub(crate) most: usize,
     pub(crate) room: usize,
+    pub(crate) fails: bool,
 }
 
 impl Write for Sink {
     fn write(&mut self, buf: &[u8]) -> io::Result<usize> {
-        if self.room == 0 {
+        if self.room == 0 && self.fails {
             return Err(io::Error::from(ErrorKind::Interrupted));
         }
         let count = self.most.min(buf.len()).min(self.room);
@@ -197,6 +198,7 @@ fn a_report_has_the_words_and_the_status(rt: HostRuntime) -> Result<(), Fail> {
                 bytes: Vec::new(alloc),
                 most: 100,
                 room,
+                fails: true,
             };
             assert_eq!(rt; report_run(&outcome, &mut short), status, "{words}");
             assert_eq!(rt; short.bytes.as_slice(), &words.as_bytes()[..room]);
