@@ -1,4 +1,5 @@
 pub mod Cutting
 pub mod Captures
 pub mod Examples
+mod Unlisted
 pub mod Walk

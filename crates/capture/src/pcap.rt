@@ -30,7 +30,7 @@ impl<'a> Model for Pcap<'a> {
 }
 
 /// How many records there are, or the first fault that they have.
-fn count_records(order: Order, records: &[u8]) -> Result<u32, CaptureFault>
+pub(crate) fn count_records(order: Order, records: &[u8]) -> Result<u32, CaptureFault>
     ensures fault { result_err result ≡ first_fault order records.now }
     ensures count { IfOk result (λ count. count ≡ length (frames_in order records.now)) }
 {

@@ -1,6 +1,7 @@
 ghost use Rattle.std.specs.Prelude.{◌≡◌, ◌<◌, length};
 
-use crate::{CaptureFault, Pcap, law_of_records};
+use crate::{CaptureFault, ListFault, Pcap, law_of_records, list_frames};
+use std::alloc::Global;
 use std::test::Fail;
 
 /// An untagged frame, the start of an IPv4 packet behind its type.
@@ -145,6 +146,30 @@ fn an_empty_record_is_a_frame_and_a_later_fault_has_its_number(
     assert_eq!(rt; Pcap::open(&file[..58])?.len(), 2);
     file[52] = 0xff;
     assert_eq!(rt; fault_of(&file), Some(CaptureFault::TooLong(1)));
+    Ok(())
+}
+
+/// Why the frames of a file aren't listed.
+fn why_not_listed(alloc: Global, file: &[u8]) -> Option<ListFault> {
+    list_frames(alloc, file).err()
+}
+
+#[test]
+fn frames_are_listed_or_the_first_fault_is_told(rt: HostRuntime) -> Result<(), Fail> {
+    let mut file = [0; 75];
+    file[..24].copy_from_slice(&LOW_FIRST[..24]);
+    file[24..].copy_from_slice(&THREE);
+    let list = list_frames(rt.alloc(), &file)?;
+    let wanted = [&[0xaa, 0xbb][..], &[][..], &[0xcc][..]];
+    assert_eq!(rt; list.as_slice(), wanted.as_slice());
+    drop(list);
+    let torn = ListFault::Capture(CaptureFault::Torn(2));
+    assert_eq!(rt; why_not_listed(rt.alloc(), &file[..74]), Some(torn));
+    let cut = ListFault::Capture(CaptureFault::Header);
+    assert_eq!(rt; why_not_listed(rt.alloc(), &file[..23]), Some(cut));
+    file[52] = 0xff;
+    let too_long = ListFault::Capture(CaptureFault::TooLong(1));
+    assert_eq!(rt; why_not_listed(rt.alloc(), &file), Some(too_long));
     Ok(())
 }
 
