@@ -19,7 +19,7 @@ mod request;
 
 pub use decoding::decode;
 pub use fault::DecodeFault;
-pub use frame::put_frame;
+pub use frame::{put_frame, put_view};
 pub use line::{ScriptLine, read_script_line};
 pub use names::{action_name, message_fault_words, result_name};
 pub use reply::put_reply;

@@ -1,0 +1,23 @@
+//! The table in force at a port, and why a frame goes where it goes, as text and as JSON.
+//!
+//! What is said here is found by the crate `explain`, whose contracts tie it to the meaning of frames; this crate writes it.
+#![tactic(auto)]
+
+mod rules;
+mod rules_json;
+mod steps;
+mod steps_json;
+mod verdict;
+mod words;
+
+pub use rules::write_rules;
+pub use rules_json::write_rules_json;
+pub use steps::write_explanation;
+pub use steps_json::write_explanation_json;
+pub use verdict::VerdictWords;
+pub use words::{MismatchWords, OriginWords};
+
+#[cfg(test)]
+mod rules_tests;
+#[cfg(test)]
+mod steps_tests;

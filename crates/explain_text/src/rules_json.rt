@@ -1,0 +1,75 @@
+//! The table in force at a port, as JSON.
+use crate::rules::table_of;
+use entity_text::{
+    FilterWords, HexWords, JsonText, TextFault, TreatmentWords, put_number, put_words,
+};
+use explain::{TableInForce, shadow_of, table_in_force, tried_order};
+use json::Writer;
+use mib_state::Mib;
+use std::alloc::{AllocError, Global};
+use std::io::Write;
+use vlan_rule::RuleTable;
+
+/// Writes the table in force at a port as one object of JSON (RFC 8259): `port`, `table`, and `entries`. The table is an object
+/// with `points_to`, which is `none`, `port` or `mapper`, and with `instance` and `mapper` where there is one. The entries are an
+/// array with an object for each, on a line of its own, in the order in which they are tried for a frame: `place` from 0, `rank`,
+/// `entry` in hexadecimal, `filter` and `treatment` in words, and `never_used_for` where an earlier entry admits all that it
+/// admits, whose place it is.
+pub fn write_rules_json<W: Write>(
+    alloc: Global,
+    mib: &Mib,
+    port: u16,
+    writer: &mut W,
+) -> Result<(), TextFault> {
+    let force = table_in_force(mib, port);
+    let front = front_of(alloc, port, force)?;
+    let mut text = JsonText::new(alloc);
+    text.begin(writer, &front)?;
+    if let Some(table) = table_of(mib, force) {
+        for place in &tried_order(table) {
+            let mut object = text.object()?;
+            put_entry(alloc, &mut object, table, *place)?;
+            text.write(writer, object)?;
+        }
+    }
+    text.end(writer, "}")
+}
+
+/// What stands in front of the entries.
+fn front_of(alloc: Global, port: u16, force: TableInForce) -> Result<String, AllocError> {
+    let mut front = format!(in alloc; "{{\"port\":{port},\"table\":{{")?;
+    match force {
+        TableInForce::NoTable => write!(front, "\"points_to\":\"none\"")?,
+        TableInForce::OfPort(instance) => {
+            write!(front, "\"points_to\":\"port\",\"instance\":{instance}")?
+        }
+        TableInForce::OfMapper { mapper, instance } => write!(
+            front,
+            "\"points_to\":\"mapper\",\"instance\":{instance},\"mapper\":{mapper}"
+        )?,
+    }
+    front.push_str("},\"entries\":")?;
+    Ok(front)
+}
+
+/// Puts the members of an entry.
+fn put_entry(
+    alloc: Global,
+    object: &mut Writer,
+    table: &RuleTable,
+    place: usize,
+) -> Result<(), AllocError> {
+    put_number(object, "place", place as u64)?;
+    if let Some(rule) = table.rule(place) {
+        put_number(object, "rank", u64::from(rule.rank.number()))?;
+        if let Some(entry) = table.entry(place) {
+            put_words(alloc, object, "entry", &HexWords(&entry.0))?;
+        }
+        put_words(alloc, object, "filter", &FilterWords(rule))?;
+        put_words(alloc, object, "treatment", &TreatmentWords(&rule.treatment))?;
+    }
+    if let Some(other) = shadow_of(table, place) {
+        put_number(object, "never_used_for", other as u64)?;
+    }
+    Ok(())
+}

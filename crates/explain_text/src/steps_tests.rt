@@ -1,0 +1,196 @@
+//! Why a frame goes where it goes, as text and as JSON.
+use crate::rules_tests::port_257;
+use crate::{write_explanation, write_explanation_json};
+use entity_text::TextFault;
+use serde_json::Value;
+use std::alloc::Global;
+use std::test::Fail;
+
+/// A frame: 12 bytes of addresses, and what these digits spell.
+fn frame_of(alloc: Global, digits: &str) -> Result<Vec<u8>, Fail> {
+    let frame = format!(in alloc; "020000000001020000000002{digits}")?;
+    let bytes = hex::decode(alloc, frame.as_str())
+        .ok()
+        .ok_or("they are no digits")?;
+    Ok(bytes)
+}
+
+/// The first lines of each explanation at port 257 of a frame that can be read.
+const FRONT: &str =
+    "table: Extended VLAN tagging operation configuration data (171) 0x0701 points to port 257
+frame:
+  destination: 02:00:00:00:00:01
+  source: 02:00:00:00:00:02
+";
+
+/// Frames that come in at port 257, behind their addresses, and what stands behind the front of their explanations.
+const EXPLAINED: [(&str, &str); 3] = [
+    (
+        "08004500",
+        "  type: 0x0800, DSCP 0, 2 bytes behind it
+entry 3 is used: no tag, Ethertype any: remove no tag, add inner tag (priority 0, VID 100, TPID 0x8100, DEI 0)
+leaves with tags:
+  tag: priority 0, DEI 0, VID 100, TPID 0x8100; added (priority 0, VID 100, TPID 0x8100, DEI 0)
+mapper: 802.1p mapper service profile (130) 0x0601
+priority: 0, that of the outermost tag
+interwork TP pointer: 0x0501
+interworking: GEM interworking termination point (266) 0x0501, GEM port pointer 0x0401
+GEM port: GEM port network CTP (268) 0x0401, port-ID 1024, direction 3 (both)
+g 1024 0200000000010200000000028100006408004500
+",
+    ),
+    (
+        "8100600a0806",
+        "  tag: priority 3, DEI 0, VID 10, TPID 0x8100
+  type: 0x0806, 0 bytes behind it
+entry 3 fails by the number of tags: no tag, Ethertype any: remove no tag, \
+add inner tag (priority 0, VID 100, TPID 0x8100, DEI 0)
+entry 4 fails by the number of tags: no tag, Ethertype 0x0800 (IPv4): drop the frame
+entry 0 fails by the number of tags: no tag, Ethertype any: leave the tags as they are
+entry 1 is used: any one tag, Ethertype any: leave the tags as they are
+leaves with tags:
+  tag: priority 3, DEI 0, VID 10, TPID 0x8100; received tag 0
+mapper: 802.1p mapper service profile (130) 0x0601
+priority: 3, that of the outermost tag
+interwork TP pointer: 0x0501
+interworking: GEM interworking termination point (266) 0x0501, GEM port pointer 0x0401
+GEM port: GEM port network CTP (268) 0x0401, port-ID 1024, direction 3 (both)
+g 1024 0200000000010200000000028100600a0806
+",
+    ),
+    (
+        "8100e00a0806",
+        "  tag: priority 7, DEI 0, VID 10, TPID 0x8100
+  type: 0x0806, 0 bytes behind it
+entry 3 fails by the number of tags: no tag, Ethertype any: remove no tag, \
+add inner tag (priority 0, VID 100, TPID 0x8100, DEI 0)
+entry 4 fails by the number of tags: no tag, Ethertype 0x0800 (IPv4): drop the frame
+entry 0 fails by the number of tags: no tag, Ethertype any: leave the tags as they are
+entry 1 is used: any one tag, Ethertype any: leave the tags as they are
+leaves with tags:
+  tag: priority 7, DEI 0, VID 10, TPID 0x8100; received tag 0
+mapper: 802.1p mapper service profile (130) 0x0601
+priority: 7, that of the outermost tag
+dropped, reason 6: the mapper's pointer for the priority is null
+d 6
+",
+    ),
+];
+
+#[test]
+fn an_explanation_is_written_step_by_step(rt: HostRuntime) -> Result<(), Fail> {
+    let alloc = rt.alloc();
+    let mib = port_257(alloc)?;
+    for (digits, behind) in EXPLAINED {
+        let frame = frame_of(alloc, digits)?;
+        let mut written = Vec::new(alloc);
+        write_explanation(alloc, &mib, 257, &frame, &mut written)?;
+        let wanted = format!(in alloc; "{FRONT}{behind}")?;
+        assert_eq!(rt; written.as_slice(), wanted.as_bytes(), "{digits}");
+    }
+    Ok(())
+}
+
+#[test]
+fn a_frame_without_a_table_or_that_is_cut_is_dropped_with_its_reason(
+    rt: HostRuntime,
+) -> Result<(), Fail> {
+    let alloc = rt.alloc();
+    let mib = port_257(alloc)?;
+    for (digits, wanted) in [
+        (
+            "0806",
+            "table: none is in force at port 5, tags stay as they are
+frame:
+  destination: 02:00:00:00:00:01
+  source: 02:00:00:00:00:02
+  type: 0x0806, 0 bytes behind it
+leaves without a tag
+dropped, reason 5: the port has no mapper
+d 5
+",
+        ),
+        (
+            "8100",
+            "table: none is in force at port 5, tags stay as they are
+dropped, reason 2: the frame ends within a tag or before the type behind it
+d 2
+",
+        ),
+    ] {
+        let frame = frame_of(alloc, digits)?;
+        let mut written = Vec::new(alloc);
+        write_explanation(alloc, &mib, 5, &frame, &mut written)?;
+        assert_eq!(rt; written.as_slice(), wanted.as_bytes(), "{digits}");
+    }
+    Ok(())
+}
+
+/// Paths into the JSON of the second frame's explanation, and the numbers that stand there.
+const NUMBERS: [(&str, u64); 11] = [
+    ("/0/instance", 0x0701),
+    ("/1/tags/0/vid", 10),
+    ("/1/ethertype", 0x0806),
+    ("/2/place", 3),
+    ("/5/place", 1),
+    ("/6/tags/0/priority", 3),
+    ("/6/tags/0/received", 0),
+    ("/8/priority", 3),
+    ("/10/gem_port_pointer", 0x0401),
+    ("/11/port_id", 1024),
+    ("/12/gem", 1024),
+];
+
+/// The same for words.
+const WORDS: [(&str, &str); 15] = [
+    ("/0/step", "table"),
+    ("/1/step", "read"),
+    ("/2/step", "failed"),
+    ("/2/field", "the number of tags"),
+    ("/5/step", "used"),
+    ("/6/step", "tags"),
+    ("/6/tags/0/origin", "received tag 0"),
+    ("/7/step", "mapper"),
+    ("/8/step", "priority"),
+    ("/8/origin", "outermost tag"),
+    ("/9/step", "pointer"),
+    ("/10/step", "interworking"),
+    ("/11/step", "gem_port"),
+    ("/12/step", "verdict"),
+    ("/12/line", "g 1024 0200000000010200000000028100600a0806"),
+];
+
+#[test]
+fn json_of_an_explanation_is_read_back(rt: HostRuntime) -> Result<(), Fail> {
+    let alloc = rt.alloc();
+    let mib = port_257(alloc)?;
+    let frame = frame_of(alloc, "8100600a0806")?;
+    let mut written = Vec::new(alloc);
+    write_explanation_json(alloc, &mib, 257, &frame, &mut written)?;
+    let value = Value::from_slice(alloc, &written)?;
+    for (path, wanted) in NUMBERS {
+        let found = value.pointer(path).and_then(Value::as_u64);
+        assert_eq!(rt; found, Some(wanted), "{path}");
+    }
+    for (path, wanted) in WORDS {
+        let found = value.pointer(path).and_then(Value::as_str);
+        assert_eq!(rt; found, Some(wanted), "{path}");
+    }
+    assert!(rt; value.pointer("/13").is_none());
+    Ok(())
+}
+
+#[test]
+fn a_writer_that_is_full_ends_an_explanation(rt: HostRuntime) -> Result<(), Fail> {
+    let alloc = rt.alloc();
+    let mib = port_257(alloc)?;
+    let frame = frame_of(alloc, "0806")?;
+    for room in [0, 1, 100] {
+        let mut bytes = [0; 100];
+        let mut writer = &mut bytes[..room];
+        let outcome = write_explanation(alloc, &mib, 257, &frame, &mut writer);
+        assert_eq!(rt; outcome, Err(TextFault::Write), "{room} bytes");
+        assert_eq!(rt; &bytes[..room], &FRONT.as_bytes()[..room]);
+    }
+    Ok(())
+}
