@@ -17,8 +17,10 @@ use vlan_rule::{
 pub fn shadow_of(table: &RuleTable, place: usize) -> Option<usize>
     ensures value { result ≡ shadow_of table.now place }
     ensures earlier { IfSome result (λ other. is_before table.now other place ≡ true) }
-    ensures admits { IfSome result (λ other. (input : ℕ) (tags : List TagFields) (type : ℕ) → matches input tags type (entry_at table.now place) ≡ true → matches input tags type (entry_at table.now other) ≡ true) }
-    ensures unused { OnSome result ((input : ℕ) (tags : List TagFields) (type : ℕ) → choice (matches input tags type) table.now ≢ Some place) }
+    ensures admits { IfSome result (λ other. (input : ℕ) (tags : List TagFields) (type : ℕ)
+        → matches input tags type (entry_at table.now place) ≡ true → matches input tags type (entry_at table.now other) ≡ true) }
+    ensures unused { OnSome result ((input : ℕ) (tags : List TagFields) (type : ℕ)
+        → choice (matches input tags type) table.now ≢ Some place) }
 {
     if place >= table.len() {
         return None;

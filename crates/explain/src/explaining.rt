@@ -133,7 +133,8 @@ fn append_mapper<'a>(
     mapper: &Mapper,
 ) -> Result<(), AllocError>
     requires { IfSome dscp (λ dscp. dscp < 64) }
-    ensures { OnOk result (steps.new.items ≡ steps.old.items ++ from_mapper mib.now.entities leaving.entry dscp (mapper_instance number mapper.now)) }
+    ensures { OnOk result (steps.new.items
+        ≡ steps.old.items ++ from_mapper mib.now.entities leaving.entry dscp (mapper_instance number mapper.now)) }
 {
     steps.push(Step::Mapper(number))?;
     let origin = priority_origin(mapper, leaving.tags(), dscp);
@@ -169,7 +170,8 @@ fn append_interwork<'a>(
     instance: u16,
     point: &Interwork,
 ) -> Result<(), AllocError>
-    ensures { OnOk result (steps.new.items ≡ steps.old.items ++ from_interwork mib.now.entities leaving.entry (interwork_instance instance point.now)) }
+    ensures { OnOk result (steps.new.items
+        ≡ steps.old.items ++ from_interwork mib.now.entities leaving.entry (interwork_instance instance point.now)) }
 {
     let gem_port_pointer = point.gem_port_pointer;
     steps.push(Step::Interwork {
@@ -189,7 +191,8 @@ fn append_gem_port<'a>(
     instance: u16,
     gem: &GemPort,
 ) -> Result<(), AllocError>
-    ensures { OnOk result (steps.new.items ≡ steps.old.items ++ from_gem_port leaving.entry (gem_port_instance instance gem.now)) }
+    ensures { OnOk result (steps.new.items
+        ≡ steps.old.items ++ from_gem_port leaving.entry (gem_port_instance instance gem.now)) }
 {
     let (port_id, direction) = (gem.port_id, gem.direction);
     steps.push(Step::GemPort {

@@ -31,3 +31,12 @@ pub use order::tried_order;
 pub use outgoing::{OutgoingTag, TagOrigin};
 pub use priority::PriorityOrigin;
 pub use step::Step;
+
+#[cfg(test)]
+mod agree_tests;
+#[cfg(test)]
+mod showing;
+#[cfg(test)]
+mod table_tests;
+#[cfg(test)]
+mod tests;

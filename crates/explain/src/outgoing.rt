@@ -39,7 +39,8 @@ pub(crate) fn outgoing_by(
     settings: &TableSettings,
     frame: &FrameView,
 ) -> Option<ArrayVec<OutgoingTag, 4>>
-    ensures { option_map (λ (tags : _). tags.items) result ≡ outgoing_by rule.now.treatment settings.now frame.now.tags (dscp_of frame.now.rest) }
+    ensures { option_map (λ (tags : _). tags.items) result
+        ≡ outgoing_by rule.now.treatment settings.now frame.now.tags (dscp_of frame.now.rest) }
 {
     match &rule.treatment {
         Treatment::Discard => None,

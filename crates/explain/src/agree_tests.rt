@@ -1,0 +1,61 @@
+//! The last steps of explanations beside the verdicts of the plan, after each of many drawn messages.
+
+use crate::{Step, explain};
+use draws::{Draws, PORTS};
+use forward_plan::Live;
+use frame_meaning::{Reason, Verdict};
+use std::alloc::{AllocError, Global};
+use std::process::Abort;
+use std::test::Fail;
+use tag_view::Tag;
+
+/// How many messages change the entities.
+const MESSAGES: usize = 2000;
+
+/// The GEM port of a frame that leaves, its addresses, its tags and what follows them, or the reason to drop it.
+type Parts<'v> = Result<(u16, &'v [u8], &'v [Tag], &'v [u8]), Reason>;
+
+fn parts<'v>(verdict: &'v Verdict<'_>) -> Parts<'v> {
+    match verdict {
+        Verdict::Forward { gem, frame } => {
+            Ok((*gem, frame.addresses(), frame.tags(), frame.rest()))
+        }
+        Verdict::Drop(reason) => Err(*reason),
+    }
+}
+
+/// Compares the last step of the explanation of a frame with its verdict.
+fn compare(
+    rt: &impl Abort,
+    alloc: Global,
+    live: &Live,
+    port: u16,
+    frame: &[u8],
+) -> Result<(), AllocError> {
+    let steps = explain(alloc, live.mib(), port, frame)?;
+    let forwarded = live.forward(port, frame);
+    let Some(Step::Verdict(verdict)) = steps.last() else {
+        assert!(rt;
+            false,
+            "no verdict ends the explanation of {frame:?} at {port}"
+        );
+        return Ok(());
+    };
+    assert_eq!(rt; parts(verdict), parts(&forwarded), "{frame:?} at {port}");
+    Ok(())
+}
+
+#[test]
+fn the_last_step_is_the_verdict_of_the_plan(rt: HostRuntime) -> Result<(), Fail> {
+    let mut live = Live::new(rt.alloc())?;
+    let mut draws = Draws::new();
+    for message in 0..MESSAGES {
+        live.apply(&draws.request());
+        for frame in &draws.frames(rt.alloc(), 1, message % 27)? {
+            for port in PORTS {
+                compare(&rt, rt.alloc(), &live, port, frame)?;
+            }
+        }
+    }
+    Ok(())
+}
