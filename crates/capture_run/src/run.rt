@@ -1,5 +1,5 @@
 //! A run: a capture forwarded while a trace is applied, and its lines written.
-ghost use Rattle.std.specs.Prelude.{◌≡◌, ◌<◌, ◌^◌, None, IfOk, IfErr, OnOk, OnErr, length, map};
+ghost use Rattle.std.specs.Prelude.{◌≡◌, None, IfOk, IfErr, OnOk, OnErr};
 ghost use Rattle.std.specs.Io.KnownBytes.{Appends};
 ghost use Rattle.writing.specs.Written.{AppendsPart};
 ghost use Rattle.capture_run.specs.Outcome.{are_settings, input_fault, IsOutput, IsWhyNone, Runs};
@@ -7,9 +7,9 @@ ghost use Rattle.capture_run.specs.Outcome.{are_settings, input_fault, IsOutput,
 use crate::fault::RunFault;
 use crate::lines::lines_of;
 use crate::progress::{Progress, Watched, show};
-use capture::Pcap;
+use capture::{ListFault, list_frames};
 use lane_run::{LaneFault, RunSettings, first_bad_line, run_lanes};
-use std::alloc::{AllocError, Global};
+use std::alloc::Global;
 use std::io::Write;
 use std::rt::Clock;
 use std::sync::Wait;
@@ -21,18 +21,6 @@ fn are_settings(settings: &RunSettings) -> bool
     ensures { result ≡ are_settings settings.now }
 {
     matches!(settings.lanes, 1..=16) && matches!(settings.batch, 1..=65_536)
-}
-
-/// The frames of a capture, as slices of its file.
-fn list_frames<'a>(alloc: Global, capture: &Pcap<'a>) -> Result<Vec<&'a [u8]>, AllocError>
-    ensures frames { IfOk result (λ list. map (λ frame. frame.now) list.items ≡ capture.now) }
-    ensures few { length capture.now < 2 ^ 32 }
-{
-    let mut list = Vec::with_capacity(alloc, capture.len() as usize)?;
-    for frame in capture.frames() {
-        list.push(frame)?;
-    }
-    Ok(list)
 }
 
 /// What a run writes, or why it writes nothing.
@@ -54,12 +42,10 @@ fn output_of<R: Threads + Wait + Sync>(
     if let Some(line) = first_bad_line(trace) {
         return Err(RunFault::BadTrace(line));
     }
-    let capture = match Pcap::open(file) {
-        Ok(capture) => capture,
-        Err(fault) => return Err(RunFault::Capture(fault)),
-    };
-    let Ok(frames) = list_frames(alloc, &capture) else {
-        return Err(RunFault::NoMemory);
+    let frames = match list_frames(alloc, file) {
+        Ok(frames) => frames,
+        Err(ListFault::Capture(fault)) => return Err(RunFault::Capture(fault)),
+        Err(ListFault::NoMemory) => return Err(RunFault::NoMemory),
     };
     let count = frames.len();
     progress.begin(count);
