@@ -185,12 +185,12 @@ fn a_writer_that_is_full_ends_an_explanation(rt: HostRuntime) -> Result<(), Fail
     let alloc = rt.alloc();
     let mib = port_257(alloc)?;
     let frame = frame_of(alloc, "0806")?;
-    for room in [0, 1, 100] {
-        let mut bytes = [0; 100];
+    for room in 0..60 {
+        let mut bytes = [0; 60];
         let mut writer = &mut bytes[..room];
         let outcome = write_explanation(alloc, &mib, 257, &frame, &mut writer);
         assert_eq!(rt; outcome, Err(TextFault::Write), "{room} bytes");
-        assert_eq!(rt; &bytes[..room], &FRONT.as_bytes()[..room]);
+        assert!(rt; FRONT.as_bytes().starts_with(&bytes[..room]));
     }
     Ok(())
 }
