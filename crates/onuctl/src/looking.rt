@@ -111,8 +111,9 @@ fn frame_of<E: Write>(alloc: Global, digits: &str, err: &mut E) -> Result<Vec<u8
     match hex::decode_to_slice(digits.as_bytes(), &mut bytes) {
         Ok(()) => Ok(bytes),
         Err(_) => {
-            let _ = err
-                .write_all(b"error: the frame is not an even number of hexadecimal digits\n");
+            let _ = err.write_all(
+                b"error: the frame is not an even number of hexadecimal digits\n",
+            );
             Err(1)
         }
     }
