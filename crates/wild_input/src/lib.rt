@@ -11,3 +11,5 @@ mod frame_tests;
 mod live_tests;
 #[cfg(test)]
 mod message_tests;
+#[cfg(test)]
+mod replay_tests;
