@@ -1,17 +1,17 @@
 -- The places of a table's entries by rank.
-use Rattle.std.proofs.Common.{◌≡◌, ◌≢◌, ℕ, zero, suc, ◌+◌, ◌<◌, ◌≤◌, ◌==◌, Bool, true, false, ◌&&◌, List, [], ◌∷◌, ◌++◌, Option, Some, None, length, drop, arith, refl, ap, sym, ◌∙◌, nat_lt, if◌then◌else◌}
+use Rattle.std.proofs.Common.{◌≡◌, ◌≢◌, ℕ, zero, suc, ◌+◌, ◌<◌, ◌≤◌, ◌==◌, Bool, true, false, ◌&&◌, ◌||◌, List, [], ◌∷◌, ◌++◌, Option, Some, None, IsSome, length, drop, arith, refl, ap, sym, ◌∙◌, nat_lt, subst, if◌then◌else◌}
 use Rattle.std.specs.Prelude.{All, find, option_map}
-use Rattle.std.specs.List.{position, position_or_len}
-use Rattle.std.proofs.lemmas.Bool.{eq-eqb, le-ltb, lt-ltb, ltb-false, ltb-true, ne_eqb}
+use Rattle.std.specs.List.{list_any, position, position_or_len}
+use Rattle.std.proofs.lemmas.Bool.{eq-eqb, le-ltb, lt-ltb, ltb-false, ltb-true, ne_eqb, true≢false}
 use Rattle.std.proofs.lemmas.List.Elements.{All-append, All-cons, All-nil}
-use Rattle.std.proofs.lemmas.List.Folds.{find-append}
+use Rattle.std.proofs.lemmas.List.Folds.{find-append, list_any-append}
 use Rattle.std.specs.Option.{option_or}
 use Rattle.std.proofs.lemmas.List.{drop_all, drop_more}
 use Rattle.vlan_rule.specs.declared.rank.Rank.{Rank}
 use Rattle.vlan_rule.specs.declared.rank.Rank.TheVariants.{Ordinary, Default, Predefined}
 use Rattle.vlan_rule.specs.Meaning.{rank_number, rank_of}
 use Rattle.vlan_rule.specs.Choice.{choice, entry_at, first_of, rank_at}
-use Rattle.explain.specs.Order.{places_from, places_of, tried_order, IsTriedInOrder}
+use Rattle.explain.specs.Order.{number_of, places_from, places_of, tried_order, IsTriedInOrder}
 
 -- an entry of the rank, and the others behind it
 pub places_more : (rank : Rank) (entries : List (List ℕ)) (i : ℕ) → i < length entries → rank_at entries i ≡ rank_number rank
@@ -142,3 +142,65 @@ chosen_first test entries =
 
 pub first_tried : IsTriedInOrder
 first_tried = record { first = chosen_first }
+
+-- ---- the number of an entry
+
+or-true : (b : Bool) → (b || true) ≡ true
+or-true true = refl
+or-true false = refl
+
+-- a test that something behind passes, is passed with one more in front
+behind : (p : ℕ → Bool) (i : ℕ) (rest : List ℕ) (has : Bool) → list_any p rest ≡ true → list_any p (if has then i ∷ rest else rest) ≡ true
+behind p i rest true there = rw there (or-true (p i))
+behind p i rest false there = there
+
+-- the place of an entry is among those of its rank
+place_there : (rank : Rank) (i j : ℕ) (entries : List (List ℕ)) → j < length entries → rank_of (entry_at entries j) ≡ rank
+    → list_any (λ tried. tried == i + j) (places_from rank i entries) ≡ true
+place_there rank i j [] within is = absurd (omega arith)
+place_there rank i zero (e ∷ rest) within is =
+    let same = eq-eqb (rank_number (rank_of e)) (rank_number rank) (ap rank_number is) in
+    let first = eq-eqb i (i + 0) (omega arith) in
+    rw (same, first) refl
+place_there rank i (suc k) (e ∷ rest) within is =
+    let place : i + 1 + k ≡ i + suc k = omega arith in
+    let others = place_there rank (i + 1) k rest (omega arith) is in
+    behind (λ tried. tried == i + suc k) i (places_from rank (i + 1) rest) (rank_number (rank_of e) == rank_number rank)
+    (subst (λ at. list_any (λ tried. tried == at) (places_from rank (i + 1) rest) ≡ true) place others)
+
+-- one of three
+any_of : (rank : Rank) (of : Rank → Bool) → of rank ≡ true → (of Ordinary || (of Default || of Predefined)) ≡ true
+any_of Ordinary of is = rw is refl
+any_of Default of is = rw is (or-true (of Ordinary))
+any_of Predefined of is = rw is (ap (λ (b : Bool). of Ordinary || b) (or-true (of Default)) ∙ or-true (of Ordinary))
+
+-- and so among all
+tried_there : (entries : List (List ℕ)) (place : ℕ) → place < length entries → list_any (λ tried. tried == place) (tried_order entries) ≡ true
+unfolding tried_order
+tried_there entries place within =
+    let test : ℕ → Bool = λ tried. tried == place in
+    let rank = rank_of (entry_at entries place) in
+    let at : 0 + place ≡ place = omega arith in
+    let there = subst (λ at. list_any (λ tried. tried == at) (places_of rank entries) ≡ true) at (place_there rank 0 place entries within refl) in
+    list_any-append test (places_of Ordinary entries) (places_of Default entries ++ places_of Predefined entries)
+    ∙ ap (λ (b : Bool). list_any test (places_of Ordinary entries) || b) (list_any-append test (places_of Default entries) (places_of Predefined entries))
+    ∙ any_of rank (λ rank. list_any test (places_of rank entries)) there
+
+-- what passes somewhere has a first place
+first_more : {X : Type 0} (p : X → Bool) (x : X) (rest : List X) (has : Bool) → p x ≡ has → (list_any p rest ≡ true → position_or_len p rest < length rest)
+    → list_any p (x ∷ rest) ≡ true → position_or_len p (x ∷ rest) < length (x ∷ rest)
+first_more p x rest true has others is = rw has (omega arith)
+first_more p x rest false has others is =
+    let there : list_any p rest ≡ true = ap (λ (b : Bool). b || list_any p rest) (sym has) ∙ is in
+    let within = others there in rw has (omega arith)
+
+first_within : {X : Type 0} (p : X → Bool) (xs : List X) → list_any p xs ≡ true → position_or_len p xs < length xs
+first_within p [] is = absurd (true≢false (sym is))
+first_within p (x ∷ rest) is = first_more p x rest (p x) refl (first_within p rest) is
+
+-- each entry has a number
+pub number_found : (entries : List (List ℕ)) (place : ℕ) → place < length entries → IsSome (number_of entries place)
+number_found entries place within =
+    let test : ℕ → Bool = λ tried. tried == place in
+    let there = lt-ltb (position_or_len test (tried_order entries)) (length (tried_order entries)) (first_within test (tried_order entries) (tried_there entries place within)) in
+    rw there refl

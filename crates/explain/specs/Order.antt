@@ -1,5 +1,6 @@
 -- In which order the entries of a table are tried for a frame (ITU-T G.988, clause 9.3.13).
 use Rattle.std.specs.Prelude.{◌≡◌, ℕ, ◌+◌, Bool, List, [], ◌∷◌, ◌++◌, Option, if◌then◌else◌, ◌==◌, find}
+use Rattle.std.specs.List.{position}
 use Rattle.vlan_rule.specs.declared.rank.Rank.{Rank}
 use Rattle.vlan_rule.specs.declared.rank.Rank.TheVariants.{Ordinary, Default, Predefined}
 use Rattle.vlan_rule.specs.Meaning.{rank_number, rank_of}
@@ -17,6 +18,10 @@ places_of rank entries = places_from rank 0 entries
 -- the places of all entries: by rank, and those of one rank by place
 unfoldable pub tried_order : List (List ℕ) → List ℕ
 tried_order entries = places_of Ordinary entries ++ (places_of Default entries ++ places_of Predefined entries)
+
+-- the number of the entry at a place: how many are tried before it
+abbrev pub number_of : List (List ℕ) → ℕ → Option ℕ
+number_of entries place = position (λ tried. tried == place) (tried_order entries)
 
 -- the entry that is used for a frame is the first of them that matches it, as it is for every other test
 pub record IsTriedInOrder : Type 0 where

@@ -7,8 +7,8 @@
 //! is the part of the meaning of frames that it names, and the last step, the verdict, is the meaning itself, so an explanation
 //! can't disagree with forwarding. Of a frame that is dropped the step before the verdict is the last that could be taken.
 //!
-//! **A table** is looked into by [`tried_order`], the order in which its entries are tried, and [`shadow_of`], which finds an
-//! entry that leaves another one no frame.
+//! **A table** is looked into by [`tried_order`], the order in which its entries are tried, [`number_of`], which place in that order
+//! an entry has, and [`shadow_of`], which finds an entry that leaves another one no frame.
 #![tactic(auto)]
 
 mod covering;
@@ -27,7 +27,7 @@ pub use explaining::explain;
 pub use force::{TableInForce, table_in_force};
 pub use laws::law_of_steps;
 pub use mismatch::{Mismatch, TagField};
-pub use order::tried_order;
+pub use order::{number_of, tried_order};
 pub use outgoing::{OutgoingTag, TagOrigin};
 pub use priority::PriorityOrigin;
 pub use step::Step;

@@ -1,6 +1,7 @@
 //! In which order the entries of a table are tried.
-ghost use Rattle.std.specs.Prelude.{◌≡◌, ◌+◌, ◌<◌, ◌≤◌, ◌++◌, All, length};
-ghost use Rattle.explain.specs.Order.{places_of, tried_order};
+ghost use Rattle.std.specs.Prelude.{◌≡◌, ◌==◌, ◌+◌, ◌<◌, ◌≤◌, ◌++◌, All, IsSome, length};
+ghost use Rattle.std.specs.List.{position};
+ghost use Rattle.explain.specs.Order.{number_of, places_of, tried_order};
 
 use arrayvec::ArrayVec;
 use vlan_rule::{Rank, RuleTable};
@@ -32,4 +33,19 @@ fn append_places(table: &RuleTable, len: usize, rank: Rank, order: &mut ArrayVec
             }
         }
     }
+}
+
+/// The number of the entry at a place: how many entries are tried before it for a frame. None exactly where no entry stands there.
+pub fn number_of(table: &RuleTable, place: usize) -> Option<usize>
+    ensures value { result ≡ number_of table.now place }
+    ensures found { place < length table.now → IsSome result }
+{
+    first_at(tried_order(table).as_slice(), place)
+}
+
+/// Where a place stands first among places.
+fn first_at(places: &[usize], place: usize) -> Option<usize>
+    ensures { result ≡ position (λ tried. tried == place) places.now }
+{
+    places.iter().position(|tried| *tried == place)
 }

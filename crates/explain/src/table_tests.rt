@@ -1,6 +1,6 @@
 //! The order of a table's entries, and the entries that are never used.
 
-use crate::{shadow_of, tried_order};
+use crate::{number_of, shadow_of, tried_order};
 use std::alloc::Global;
 use std::process::Abort;
 use std::test::Fail;
@@ -18,9 +18,13 @@ fn table(alloc: Global, keys: &[[u32; 2]]) -> Result<RuleTable, Fail> {
     Ok(table)
 }
 
-/// Checks the order of a table's entries, and by which one each is never used.
+/// Checks the order of a table's entries, the number of each, and by which one each is never used.
 fn check(rt: &impl Abort, table: &RuleTable, order: &[usize], shadows: &[Option<usize>]) {
     assert_eq!(rt; tried_order(table).as_slice(), order);
+    for (number, place) in order.iter().enumerate() {
+        assert_eq!(rt; number_of(table, *place), Some(number), "place {place}");
+    }
+    assert_eq!(rt; number_of(table, order.len()), None);
     for (place, shadow) in shadows.iter().enumerate() {
         assert_eq!(rt; shadow_of(table, place), *shadow, "place {place}");
     }
