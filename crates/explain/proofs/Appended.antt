@@ -1,5 +1,5 @@
 -- Lists that grow at their end by what stands at the front of the rest.
-use Rattle.std.proofs.Common.{◌≡◌, List, [], ◌∷◌, ◌++◌, Result, Ok, Err, append_assoc, append-nil, ap, sym, ◌∙◌}
+use Rattle.std.proofs.Common.{◌≡◌, List, [], ◌++◌, Result, Ok, Err, append_assoc, append-nil, ap, sym, ◌∙◌}
 use Rattle.std.specs.Prelude.{OnOk}
 
 -- some more, and the others behind them

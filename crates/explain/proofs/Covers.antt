@@ -1,5 +1,5 @@
 -- An entry that covers another admits every frame that it admits.
-use Rattle.std.proofs.Common.{◌≡◌, ◌==◌, ℕ, Bool, true, not, ◌&&◌, List, [], ◌∷◌, length, refl, ap, sym, ◌∙◌}
+use Rattle.std.proofs.Common.{◌≡◌, ◌==◌, ℕ, true, not, ◌&&◌, List, [], ◌∷◌, length, refl, ap, sym, ◌∙◌}
 use Rattle.std.proofs.lemmas.Bool.{and_from, and_parts, eqb-true}
 use Rattle.tag_view.specs.Tag.{TagFields}
 use Rattle.vlan_rule.specs.declared.filter.PriorityFilter.{PriorityFilter}

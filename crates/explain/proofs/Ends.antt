@@ -1,5 +1,5 @@
 -- Each explanation ends with the meaning of its frame, its one verdict.
-use Rattle.std.proofs.Common.{◌≡◌, ℕ, Bool, false, List, [], ◌∷◌, ◌++◌, Option, Some, None, Result, Ok, Err, refl, ap, sym, subst, ◌∙◌, append_assoc}
+use Rattle.std.proofs.Common.{◌≡◌, ℕ, false, List, [], ◌∷◌, ◌++◌, Option, Some, None, Result, Ok, Err, refl, ap, sym, subst, ◌∙◌, append_assoc}
 use Rattle.std.specs.Prelude.{ok_or, option_map}
 use Rattle.std.specs.List.{list_any}
 use Rattle.std.proofs.lemmas.List.Folds.{list_any-append}
@@ -20,7 +20,7 @@ use Rattle.explain.specs.declared.outgoing.OutgoingTag.{OutgoingTag}
 use Rattle.explain.specs.declared.step.Step.{Step}
 use Rattle.explain.specs.declared.step.Step.TheVariants as step
 use Rattle.explain.specs.Outgoing.{kept_after, outgoing, plain}
-use Rattle.explain.specs.Steps.{dropped, explained, from_gem_port, from_interwork, from_mapper, from_pointer, from_read, from_table, from_tags, mismatch_at, then_step, tried, tries, tries_of}
+use Rattle.explain.specs.Steps.{explained, from_gem_port, from_interwork, from_mapper, from_pointer, from_read, from_table, from_tags, mismatch_at, then_step, tried, tries, tries_of}
 use Rattle.explain.specs.Ends.{EndsWith, is_verdict}
 use Rattle.explain.proofs.Origins.{plain-outgoing, plain-unchanged}
 

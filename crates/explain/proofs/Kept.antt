@@ -3,7 +3,6 @@ use Rattle.std.proofs.Common.{◌≡◌, ℕ, ◌+◌, ◌<◌, ◌≤◌, List,
 use Rattle.std.proofs.lemmas.List.{drop_all, drop_more}
 use Rattle.std.specs.Prelude.{slice_index_or}
 use Rattle.tag_view.specs.Tag.{TagFields}
-use Rattle.explain.specs.declared.outgoing.OutgoingTag.{OutgoingTag}
 use Rattle.explain.specs.declared.outgoing.TagOrigin.TheVariants.{Received}
 use Rattle.explain.specs.Outgoing.{kept_from}
 

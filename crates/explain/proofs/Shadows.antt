@@ -1,5 +1,5 @@
 -- Entries that are tried before another and cover it.
-use Rattle.std.proofs.Common.{◌≡◌, ◌≢◌, ◌==◌, ℕ, ◌<◌, ◌≤◌, Bool, true, false, ◌&&◌, ◌||◌, List, [], ◌∷◌, Option, Some, None, length, arith, refl, ap, sym, ◌∙◌, nat_lt, subst}
+use Rattle.std.proofs.Common.{◌≡◌, ◌≢◌, ◌==◌, ℕ, ◌<◌, ◌≤◌, Bool, true, false, ◌&&◌, ◌||◌, List, ◌∷◌, Some, None, length, arith, refl, sym, ◌∙◌, nat_lt, subst}
 use Rattle.std.specs.Prelude.{find}
 use Rattle.std.proofs.lemmas.Bool.{le-ltb, lt-ltb, true≢false}
 use Rattle.std.proofs.lemmas.Bool.Decides.{nat_tests}

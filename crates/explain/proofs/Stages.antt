@@ -24,7 +24,6 @@ use Rattle.frame_meaning.proofs.Numbers.{gem_port_pointer_number, one_byte, port
 use Rattle.explain.specs.declared.force.TableInForce.{TableInForce}
 use Rattle.explain.specs.declared.outgoing.OutgoingTag.{OutgoingTag}
 use Rattle.explain.specs.declared.priority.PriorityOrigin.{PriorityOrigin}
-use Rattle.explain.specs.declared.step.Step.{Step}
 use Rattle.explain.specs.declared.step.Step.TheVariants as step
 use Rattle.explain.specs.Priority.{priority_origin}
 use Rattle.explain.specs.Force.{table_in_force}

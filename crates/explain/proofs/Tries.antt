@@ -11,7 +11,6 @@ use Rattle.vlan_rule.specs.Rule.{IsRuleOf}
 use Rattle.vlan_rule.specs.Choice.{choice, entry_at, matches}
 use Rattle.frame_meaning.specs.Meaning.{Table}
 use Rattle.explain.specs.declared.mismatch.Mismatch.{Mismatch}
-use Rattle.explain.specs.declared.step.Step.{Step}
 use Rattle.explain.specs.declared.step.Step.TheVariants as step
 use Rattle.explain.specs.Mismatch.{mismatch, mismatch_by}
 use Rattle.explain.specs.Order.{tried_order}

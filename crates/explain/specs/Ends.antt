@@ -1,12 +1,9 @@
 -- How an explanation ends.
-use Rattle.std.specs.Prelude.{◌≡◌, ℕ, Bool, true, false, List, [], ◌∷◌, ◌++◌}
+use Rattle.std.specs.Prelude.{◌≡◌, Bool, true, false, List, [], ◌∷◌, ◌++◌}
 use Rattle.std.specs.List.{list_any}
-use Rattle.mib_state.specs.Entities.{Entities}
 use Rattle.frame_meaning.specs.declared.verdict.Verdict.{Verdict}
-use Rattle.frame_meaning.specs.Meaning.{meaning}
 use Rattle.explain.specs.declared.step.Step.{Step}
 use Rattle.explain.specs.declared.step.Step.TheVariants as step
-use Rattle.explain.specs.Steps.{explained}
 
 abbrev pub is_verdict : Step → Bool
 is_verdict (step.Verdict verdict) = true

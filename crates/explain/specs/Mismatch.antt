@@ -1,6 +1,6 @@
 -- By which field an entry doesn't admit a frame: the first, of the number of tags, the filters of the outer tag and of the inner
 -- one, each by priority, VID and TPID/DE, and the Ethertype (ITU-T G.988, clause 9.3.13).
-use Rattle.std.specs.Prelude.{◌≡◌, ℕ, Bool, not, List, [], ◌∷◌, Option, Some, None, if◌then◌else◌, ◌==◌, is_none, length, option_map}
+use Rattle.std.specs.Prelude.{◌≡◌, ℕ, not, List, [], ◌∷◌, Option, Some, None, if◌then◌else◌, ◌==◌, is_none, length, option_map}
 use Rattle.std.specs.Option.{option_or}
 use Rattle.tag_view.specs.Tag.{TagFields}
 use Rattle.vlan_rule.specs.declared.filter.PriorityFilter.TheVariants as priority

@@ -1,11 +1,10 @@
-use Rattle.std.proofs.Common.{◌≡◌, ◌∷◌, [], ◌<◌, ℕ, List, length, arith, ap, sym, ◌∙◌}
+use Rattle.std.proofs.Common.{◌∷◌, ◌<◌, ℕ, length, arith, ap, sym, ◌∙◌}
 use Rattle.std.specs.Prelude.{find}
 use Rattle.std.proofs.lemmas.List.{nil_from_length}
 use Rattle.std.proofs.lemmas.Bool.{and_parts}
 use Rattle.std.proofs.lemmas.List.Elements.{All-head, All-same, All-tail}
 use Rattle.vlan_rule.specs.Choice.{entry_at, is_before, matches}
 use Rattle.vlan_rule.proofs.Chosen.{chosen_once}
-use Rattle.explain.specs.Order.{tried_order}
 use Rattle.explain.specs.Covers.{covers, is_shadowed_by}
 use Rattle.explain.proofs.Covers.{covers_sound}
 use Rattle.explain.proofs.Shadows.{find_here, find_there, never_used, shadow_past, shadow_within}

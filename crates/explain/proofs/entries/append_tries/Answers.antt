@@ -1,13 +1,8 @@
-use Rattle.std.proofs.Common.{◌≡◌, [], ◌∷◌, ◌++◌, ◌<◌, length, ℕ, List, Option, Some, None, ap, sym, ◌∙◌}
-use Rattle.std.specs.Prelude.{All}
-use Rattle.std.proofs.lemmas.List.Elements.{All-head, All-rest, All-same, All-tail}
-use Rattle.tag_view.specs.Tag.{TagFields}
-use Rattle.vlan_rule.specs.Choice.{entry_at}
+use Rattle.std.proofs.Common.{[], ◌∷◌, ◌++◌, ◌<◌, length, ℕ, List, Some, None, ap, sym, ◌∙◌}
+use Rattle.std.proofs.lemmas.List.Elements.{All-same, All-tail}
 use Rattle.frame_meaning.specs.Meaning.{Table}
-use Rattle.explain.specs.declared.mismatch.Mismatch.{Mismatch}
 use Rattle.explain.specs.declared.step.Step.{Step}
 use Rattle.explain.specs.declared.step.Step.TheVariants as step
-use Rattle.explain.specs.Mismatch.{mismatch}
 use Rattle.explain.specs.Order.{tried_order}
 use Rattle.explain.specs.Steps.{mismatch_at, tries, tries_of}
 use Rattle.explain.proofs.Appended.{appended}

@@ -1,4 +1,4 @@
-use Rattle.std.proofs.Common.{◌≡◌, [], ◌∷◌, ◌++◌, ap, sym, ◌∙◌}
+use Rattle.std.proofs.Common.{[], ◌∷◌, ◌++◌, ap, sym, ◌∙◌}
 use Rattle.tag_view.specs.Frame.{Reading}
 use Rattle.explain.specs.declared.step.Step.TheVariants as step
 use Rattle.explain.specs.Steps.{from_read, from_table, from_tags}

@@ -1,6 +1,5 @@
-use Rattle.std.proofs.Common.{◌≡◌, List, Option, Some, ap, ◌∙◌}
+use Rattle.std.proofs.Common.{ap, ◌∙◌}
 use Rattle.tag_view.specs.Dscp.{dscp_of}
-use Rattle.vlan_rule.specs.declared.settings.TableSettings.{TableSettings}
 use Rattle.frame_meaning.specs.declared.reason.Reason.TheVariants.{NoRule, RuleDiscard}
 use Rattle.frame_meaning.specs.Meaning.{Table}
 use Rattle.explain.specs.Outgoing.{outgoing_by}

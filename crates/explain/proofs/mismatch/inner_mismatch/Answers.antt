@@ -1,4 +1,4 @@
-use Rattle.std.proofs.Common.{◌≡◌, ℕ, ◌≤◌, List, [], ◌∷◌, Option, length, arith, refl, ap, sym, ◌∙◌}
+use Rattle.std.proofs.Common.{◌≡◌, ℕ, ◌≤◌, List, [], ◌∷◌, length, arith, refl, ap, ◌∙◌}
 use Rattle.tag_view.specs.Tag.{TagFields}
 use Rattle.vlan_rule.specs.declared.filter.TagFilter.{TagFilter}
 use Rattle.treatment.specs.Treatment.{inner_of}

@@ -1,4 +1,4 @@
-use Rattle.std.proofs.Common.{◌≡◌, ℕ, List, arith, ap, sym, drop, length, length-append, ◌∙◌}
+use Rattle.std.proofs.Common.{◌≡◌, arith, ap, sym, drop, length, length-append, ◌∙◌}
 use Rattle.vlan_rule.specs.Meaning.{rank_number}
 use Rattle.vlan_rule.specs.Choice.{rank_at}
 use Rattle.explain.specs.Order.{places_from, places_of}
