@@ -1,6 +1,6 @@
 //! The table in force at a port, as text.
 use entity_text::{EntityWords, RuleWords, TextFault};
-use explain::{TableInForce, shadow_of, table_in_force, tried_order};
+use explain::{TableInForce, number_of, shadow_of, table_in_force, tried_order};
 use managed_entity::class::{MAPPER, VLAN};
 use mib_state::Mib;
 use std::alloc::{AllocError, Global};
@@ -9,8 +9,9 @@ use vlan_rule::RuleTable;
 use writing::write_whole;
 
 /// Writes the table in force at a port: a line that names it and says why it is in force, and then a line for each entry in the
-/// order in which entries are tried for a frame: its place, from 0, its rank, and its rule in words. Below an entry of which is
-/// known that it is used for no frame stands which earlier one admits all that it admits.
+/// order in which entries are tried for a frame: its number in that order and its place in the table, each from 0, its rank, and
+/// its rule in words. Below an entry of which is known that it is used for no frame stands the number of an earlier one that admits
+/// all that it admits.
 pub fn write_rules<W: Write>(
     alloc: Global,
     mib: &Mib,
@@ -21,8 +22,8 @@ pub fn write_rules<W: Write>(
     let mut text = String::new(alloc);
     put_force(&mut text, port, force)?;
     if let Some(table) = table_of(mib, force) {
-        for place in &tried_order(table) {
-            put_entry(&mut text, table, *place)?;
+        for (number, place) in tried_order(table).iter().enumerate() {
+            put_entry(&mut text, table, number, *place)?;
         }
     }
     write_whole(writer, text.as_bytes())?;
@@ -74,18 +75,28 @@ pub(crate) fn put_force(
 }
 
 /// Puts an entry, and whether it is known to be used for no frame.
-fn put_entry(text: &mut String, table: &RuleTable, place: usize) -> Result<(), AllocError> {
+fn put_entry(
+    text: &mut String,
+    table: &RuleTable,
+    number: usize,
+    place: usize,
+) -> Result<(), AllocError> {
     let Some(rule) = table.rule(place) else {
         return Ok(());
     };
     let rank = rule.rank.number();
     let rule = RuleWords(rule);
-    writeln!(text, "  entry {place}, rank {rank}: {rule}")?;
-    if let Some(other) = shadow_of(table, place) {
+    writeln!(text, "  entry {number}, place {place}, rank {rank}: {rule}")?;
+    if let Some(other) = shadow_number(table, place) {
         writeln!(
             text,
             "    never used: entry {other} admits everything that it admits"
         )?;
     }
     Ok(())
+}
+
+/// The number of an earlier entry that admits all that the one at a place admits.
+pub(crate) fn shadow_number(table: &RuleTable, place: usize) -> Option<usize> {
+    number_of(table, shadow_of(table, place)?)
 }

@@ -1,9 +1,9 @@
 //! The table in force at a port, as JSON.
-use crate::rules::table_of;
+use crate::rules::{shadow_number, table_of};
 use entity_text::{
     FilterWords, HexWords, JsonText, TextFault, TreatmentWords, put_number, put_words,
 };
-use explain::{TableInForce, shadow_of, table_in_force, tried_order};
+use explain::{TableInForce, table_in_force, tried_order};
 use json::Writer;
 use mib_state::Mib;
 use std::alloc::{AllocError, Global};
@@ -12,9 +12,9 @@ use vlan_rule::RuleTable;
 
 /// Writes the table in force at a port as one object of JSON (RFC 8259): `port`, `table`, and `entries`. The table is an object
 /// with `points_to`, which is `none`, `port` or `mapper`, and with `instance` and `mapper` where there is one. The entries are an
-/// array with an object for each, on a line of its own, in the order in which they are tried for a frame: `place` from 0, `rank`,
-/// `entry` in hexadecimal, `filter` and `treatment` in words, and `never_used_for` where an earlier entry admits all that it
-/// admits, whose place it is.
+/// array with an object for each, on a line of its own, in the order in which they are tried for a frame: `number` in that order
+/// and `place` in the table, each from 0, `rank`, `entry` in hexadecimal, `filter` and `treatment` in words, and `never_used_for`
+/// where an earlier entry admits all that it admits, whose number it is.
 pub fn write_rules_json<W: Write>(
     alloc: Global,
     mib: &Mib,
@@ -26,8 +26,9 @@ pub fn write_rules_json<W: Write>(
     let mut text = JsonText::new(alloc);
     text.begin(writer, &front)?;
     if let Some(table) = table_of(mib, force) {
-        for place in &tried_order(table) {
+        for (number, place) in tried_order(table).iter().enumerate() {
             let mut object = text.object()?;
+            put_number(&mut object, "number", number as u64)?;
             put_entry(alloc, &mut object, table, *place)?;
             text.write(writer, object)?;
         }
@@ -52,7 +53,7 @@ fn front_of(alloc: Global, port: u16, force: TableInForce) -> Result<String, All
     Ok(front)
 }
 
-/// Puts the members of an entry.
+/// Puts the members of an entry, but its number.
 fn put_entry(
     alloc: Global,
     object: &mut Writer,
@@ -68,7 +69,7 @@ fn put_entry(
         put_words(alloc, object, "filter", &FilterWords(rule))?;
         put_words(alloc, object, "treatment", &TreatmentWords(&rule.treatment))?;
     }
-    if let Some(other) = shadow_of(table, place) {
+    if let Some(other) = shadow_number(table, place) {
         put_number(object, "never_used_for", other as u64)?;
     }
     Ok(())

@@ -65,13 +65,13 @@ pub(crate) fn port_257(alloc: Global) -> Result<Mib, AllocError> {
 
 const RULES: &str =
     "table: Extended VLAN tagging operation configuration data (171) 0x0701 points to port 257
-  entry 3, rank 0: no tag, Ethertype any: remove no tag, add inner tag (priority 0, VID 100, TPID 0x8100, DEI 0)
-  entry 4, rank 0: no tag, Ethertype 0x0800 (IPv4): drop the frame
-    never used: entry 3 admits everything that it admits
-  entry 0, rank 2: no tag, Ethertype any: leave the tags as they are
-    never used: entry 3 admits everything that it admits
-  entry 1, rank 2: any one tag, Ethertype any: leave the tags as they are
-  entry 2, rank 2: any two tags, Ethertype any: leave the tags as they are
+  entry 0, place 3, rank 0: no tag, Ethertype any: remove no tag, add inner tag (priority 0, VID 100, TPID 0x8100, DEI 0)
+  entry 1, place 4, rank 0: no tag, Ethertype 0x0800 (IPv4): drop the frame
+    never used: entry 0 admits everything that it admits
+  entry 2, place 0, rank 2: no tag, Ethertype any: leave the tags as they are
+    never used: entry 0 admits everything that it admits
+  entry 3, place 1, rank 2: any one tag, Ethertype any: leave the tags as they are
+  entry 4, place 2, rank 2: any two tags, Ethertype any: leave the tags as they are
 ";
 
 #[test]
@@ -90,7 +90,7 @@ fn a_table_is_written_in_the_order_in_which_entries_are_tried(rt: HostRuntime) -
     let mut written = Vec::new(alloc);
     write_rules(alloc, &mib, 257, &mut written)?;
     let front = "table: Extended VLAN tagging operation configuration data (171) 0x0701 points to \
-        802.1p mapper service profile (130) 0x0601 of port 257\n  entry 3, rank 0";
+        802.1p mapper service profile (130) 0x0601 of port 257\n  entry 0, place 3, rank 0";
     assert!(rt; written.as_slice().starts_with(front.as_bytes()));
     Ok(())
 }
@@ -108,7 +108,9 @@ fn json_of_a_table_is_read_back(rt: HostRuntime) -> Result<(), Fail> {
         ("/entries/0/place", Some(3)),
         ("/entries/0/never_used_for", None),
         ("/entries/1/place", Some(4)),
-        ("/entries/1/never_used_for", Some(3)),
+        ("/entries/1/number", Some(1)),
+        ("/entries/1/never_used_for", Some(0)),
+        ("/entries/2/never_used_for", Some(0)),
         ("/entries/4/rank", Some(2)),
         ("/entries/5/place", None),
     ] {

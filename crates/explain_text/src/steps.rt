@@ -3,7 +3,7 @@ use crate::rules::{put_force, table_of};
 use crate::verdict::VerdictWords;
 use crate::words::{MismatchWords, OriginWords};
 use entity_text::{EntityWords, RuleWords, TagWords, TextFault};
-use explain::{OutgoingTag, PriorityOrigin, Step, explain, table_in_force};
+use explain::{OutgoingTag, PriorityOrigin, Step, explain, number_of, table_in_force};
 use frame_meaning::Verdict;
 use managed_entity::class::{GEM_PORT, INTERWORK, MAPPER};
 use message_text::put_view;
@@ -48,17 +48,27 @@ fn put_step(
             put_view(text, frame)
         }
         Step::Failed { place, field } => {
+            put_entry(text, table, *place)?;
             let field = MismatchWords(*field);
-            write!(text, "entry {place} fails by {field}: ")?;
+            write!(text, "fails by {field}: ")?;
             put_rule(text, table, *place)
         }
         Step::Used { place } => {
-            write!(text, "entry {place} is used: ")?;
+            put_entry(text, table, *place)?;
+            text.push_str("is used: ")?;
             put_rule(text, table, *place)
         }
         Step::Tags(tags) => put_tags(text, tags.as_slice()),
         Step::Verdict(verdict) => put_verdict(text, verdict),
         _ => put_route(text, step),
+    }
+}
+
+/// Puts which entry it is: its number in the order in which entries are tried, and its place in the table.
+fn put_entry(text: &mut String, table: Option<&RuleTable>, place: usize) -> Result<(), AllocError> {
+    match table.and_then(|table| number_of(table, place)) {
+        Some(number) => write!(text, "entry {number} (place {place}) "),
+        None => write!(text, "the entry at place {place} "),
     }
 }
 

@@ -6,7 +6,7 @@ use entity_text::{
     FilterWords, HexWords, JsonText, TextFault, TreatmentWords, put_number, put_text, put_words,
 };
 use explain::{
-    OutgoingTag, PriorityOrigin, Step, TableInForce, TagOrigin, explain, table_in_force,
+    OutgoingTag, PriorityOrigin, Step, TableInForce, TagOrigin, explain, number_of, table_in_force,
 };
 use frame_meaning::Verdict;
 use json::Writer;
@@ -68,12 +68,12 @@ fn put_step(
         Step::Table(force) => put_force(object, *force),
         Step::Read(frame) => put_view(alloc, object, frame),
         Step::Failed { place, field } => {
-            put_number(object, "place", *place as u64)?;
+            put_entry(object, table, *place)?;
             put_words(alloc, object, "field", &MismatchWords(*field))?;
             put_rule(alloc, object, table, *place)
         }
         Step::Used { place } => {
-            put_number(object, "place", *place as u64)?;
+            put_entry(object, table, *place)?;
             put_rule(alloc, object, table, *place)
         }
         Step::Tags(tags) => put_tags(alloc, object, tags.as_slice()),
@@ -123,6 +123,18 @@ fn put_tag(object: &mut Writer, tag: &Tag) -> Result<(), AllocError> {
     put_number(object, "dei", u64::from(tag.dei))?;
     put_number(object, "vid", u64::from(tag.vid))?;
     put_number(object, "tpid", u64::from(tag.tpid))
+}
+
+/// Puts the number of an entry in the order in which they are tried, and its place in the table.
+fn put_entry(
+    object: &mut Writer,
+    table: Option<&RuleTable>,
+    place: usize,
+) -> Result<(), AllocError> {
+    if let Some(number) = table.and_then(|table| number_of(table, place)) {
+        put_number(object, "number", number as u64)?;
+    }
+    put_number(object, "place", place as u64)
 }
 
 /// Puts the rule of an entry in words.

@@ -28,7 +28,7 @@ const EXPLAINED: [(&str, &str); 3] = [
     (
         "08004500",
         "  type: 0x0800, DSCP 0, 2 bytes behind it
-entry 3 is used: no tag, Ethertype any: remove no tag, add inner tag (priority 0, VID 100, TPID 0x8100, DEI 0)
+entry 0 (place 3) is used: no tag, Ethertype any: remove no tag, add inner tag (priority 0, VID 100, TPID 0x8100, DEI 0)
 leaves with tags:
   tag: priority 0, DEI 0, VID 100, TPID 0x8100; added (priority 0, VID 100, TPID 0x8100, DEI 0)
 mapper: 802.1p mapper service profile (130) 0x0601
@@ -43,11 +43,11 @@ g 1024 0200000000010200000000028100006408004500
         "8100600a0806",
         "  tag: priority 3, DEI 0, VID 10, TPID 0x8100
   type: 0x0806, 0 bytes behind it
-entry 3 fails by the number of tags: no tag, Ethertype any: remove no tag, \
+entry 0 (place 3) fails by the number of tags: no tag, Ethertype any: remove no tag, \
 add inner tag (priority 0, VID 100, TPID 0x8100, DEI 0)
-entry 4 fails by the number of tags: no tag, Ethertype 0x0800 (IPv4): drop the frame
-entry 0 fails by the number of tags: no tag, Ethertype any: leave the tags as they are
-entry 1 is used: any one tag, Ethertype any: leave the tags as they are
+entry 1 (place 4) fails by the number of tags: no tag, Ethertype 0x0800 (IPv4): drop the frame
+entry 2 (place 0) fails by the number of tags: no tag, Ethertype any: leave the tags as they are
+entry 3 (place 1) is used: any one tag, Ethertype any: leave the tags as they are
 leaves with tags:
   tag: priority 3, DEI 0, VID 10, TPID 0x8100; received tag 0
 mapper: 802.1p mapper service profile (130) 0x0601
@@ -62,11 +62,11 @@ g 1024 0200000000010200000000028100600a0806
         "8100e00a0806",
         "  tag: priority 7, DEI 0, VID 10, TPID 0x8100
   type: 0x0806, 0 bytes behind it
-entry 3 fails by the number of tags: no tag, Ethertype any: remove no tag, \
+entry 0 (place 3) fails by the number of tags: no tag, Ethertype any: remove no tag, \
 add inner tag (priority 0, VID 100, TPID 0x8100, DEI 0)
-entry 4 fails by the number of tags: no tag, Ethertype 0x0800 (IPv4): drop the frame
-entry 0 fails by the number of tags: no tag, Ethertype any: leave the tags as they are
-entry 1 is used: any one tag, Ethertype any: leave the tags as they are
+entry 1 (place 4) fails by the number of tags: no tag, Ethertype 0x0800 (IPv4): drop the frame
+entry 2 (place 0) fails by the number of tags: no tag, Ethertype any: leave the tags as they are
+entry 3 (place 1) is used: any one tag, Ethertype any: leave the tags as they are
 leaves with tags:
   tag: priority 7, DEI 0, VID 10, TPID 0x8100; received tag 0
 mapper: 802.1p mapper service profile (130) 0x0601
@@ -127,11 +127,13 @@ d 2
 }
 
 /// Paths into the JSON of the second frame's explanation, and the numbers that stand there.
-const NUMBERS: [(&str, u64); 11] = [
+const NUMBERS: [(&str, u64); 13] = [
     ("/0/instance", 0x0701),
     ("/1/tags/0/vid", 10),
     ("/1/ethertype", 0x0806),
+    ("/2/number", 0),
     ("/2/place", 3),
+    ("/5/number", 3),
     ("/5/place", 1),
     ("/6/tags/0/priority", 3),
     ("/6/tags/0/received", 0),
