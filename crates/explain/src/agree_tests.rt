@@ -24,6 +24,19 @@ fn parts<'v>(verdict: &'v Verdict<'_>) -> Parts<'v> {
     }
 }
 
+/// Compares the last of a frame's steps with its verdict.
+fn compare_last(rt: &impl Abort, steps: &[Step], forwarded: &Verdict, port: u16, frame: &[u8]) {
+    match steps.last() {
+        Some(Step::Verdict(verdict)) => {
+            assert_eq!(rt; parts(verdict), parts(forwarded), "{frame:?} at {port}");
+        }
+        _ => assert!(rt;
+            false,
+            "no verdict ends the explanation of {frame:?} at {port}"
+        ),
+    }
+}
+
 /// Compares the last step of the explanation of a frame with its verdict.
 fn compare(
     rt: &impl Abort,
@@ -34,28 +47,60 @@ fn compare(
 ) -> Result<(), AllocError> {
     let steps = explain(alloc, live.mib(), port, frame)?;
     let forwarded = live.forward(port, frame);
-    let Some(Step::Verdict(verdict)) = steps.last() else {
-        assert!(rt;
-            false,
-            "no verdict ends the explanation of {frame:?} at {port}"
-        );
-        return Ok(());
-    };
-    assert_eq!(rt; parts(verdict), parts(&forwarded), "{frame:?} at {port}");
+    compare_last(rt, &steps, &forwarded, port, frame);
+    Ok(())
+}
+
+/// Compares them at each port.
+fn compare_at_ports(
+    rt: &impl Abort,
+    alloc: Global,
+    live: &Live,
+    frame: &[u8],
+) -> Result<(), AllocError> {
+    for port in &PORTS {
+        compare(rt, alloc, live, *port, frame)?;
+    }
+    Ok(())
+}
+
+/// Compares them of each of some frames.
+fn compare_frames(
+    rt: &impl Abort,
+    alloc: Global,
+    live: &Live,
+    frames: &[Vec<u8>],
+) -> Result<(), AllocError> {
+    for frame in frames {
+        compare_at_ports(rt, alloc, live, frame)?;
+    }
+    Ok(())
+}
+
+/// Applies a drawn message, and compares drawn frames.
+fn turn(
+    rt: &impl Abort,
+    alloc: Global,
+    live: &mut Live,
+    draws: &mut Draws,
+    message: usize,
+) -> Result<(), AllocError> {
+    live.apply(&draws.request());
+    let frames = draws.frames(alloc, 1, message % 27)?;
+    compare_frames(rt, alloc, live, &frames)
+}
+
+fn compare_all(rt: &impl Abort, alloc: Global, live: &mut Live) -> Result<(), AllocError> {
+    let mut draws = Draws::new();
+    for message in 0..MESSAGES {
+        turn(rt, alloc, live, &mut draws, message)?;
+    }
     Ok(())
 }
 
 #[test]
 fn the_last_step_is_the_verdict_of_the_plan(rt: HostRuntime) -> Result<(), Fail> {
     let mut live = Live::new(rt.alloc())?;
-    let mut draws = Draws::new();
-    for message in 0..MESSAGES {
-        live.apply(&draws.request());
-        for frame in &draws.frames(rt.alloc(), 1, message % 27)? {
-            for port in PORTS {
-                compare(&rt, rt.alloc(), &live, port, frame)?;
-            }
-        }
-    }
+    compare_all(&rt, rt.alloc(), &mut live)?;
     Ok(())
 }

@@ -6,10 +6,10 @@ use mib_state::Mib;
 use omci_msg::read;
 use std::alloc::{AllocError, Global};
 use std::process::Abort;
-use tag_view::Tag;
+use tag_view::{FrameView, Tag};
 
 /// What a test does next.
-#[derive(Drop)]
+#[derive(Clone, Copy)]
 pub(crate) enum Act {
     /// It carries out the request that begins with these digits, which is accepted.
     Apply(&'static str),
@@ -35,17 +35,21 @@ fn show_tags(tags: &[Tag], text: &mut String) -> Result<(), AllocError> {
     Ok(())
 }
 
+fn show_origin(origin: &TagOrigin, text: &mut String) -> Result<(), AllocError> {
+    match origin {
+        TagOrigin::Received(place) => write!(text, " (received {place})"),
+        TagOrigin::Added(added) => write!(
+            text,
+            " ({:?} {:?} {:?} {:?})",
+            added.priority, added.vid, added.tpid, added.eligible
+        ),
+    }
+}
+
 fn show_outgoing(tags: &[OutgoingTag], text: &mut String) -> Result<(), AllocError> {
     for outgoing in tags {
         write!(text, " {:08x}", outgoing.tag.word())?;
-        match outgoing.origin {
-            TagOrigin::Received(place) => write!(text, " (received {place})")?,
-            TagOrigin::Added(added) => write!(
-                text,
-                " ({:?} {:?} {:?} {:?})",
-                added.priority, added.vid, added.tpid, added.eligible
-            )?,
-        }
+        show_origin(&outgoing.origin, text)?;
     }
     Ok(())
 }
@@ -70,20 +74,14 @@ fn show_verdict(verdict: &Verdict, text: &mut String) -> Result<(), AllocError> 
     }
 }
 
-/// Appends the text of a step.
-fn show(step: &Step, text: &mut String) -> Result<(), AllocError> {
+fn show_read(frame: &FrameView, text: &mut String) -> Result<(), AllocError> {
+    write!(text, ", type {:04x} behind", frame.ethertype())?;
+    show_tags(frame.tags(), text)
+}
+
+/// Appends the text of a step on the way from the mapper to the GEM port.
+fn show_route(step: &Step, text: &mut String) -> Result<(), AllocError> {
     match step {
-        Step::Table(force) => show_force(*force, text),
-        Step::Read(frame) => {
-            write!(text, ", type {:04x} behind", frame.ethertype())?;
-            show_tags(frame.tags(), text)
-        }
-        Step::Failed { place, field } => write!(text, ", {place} fails by {field:?}"),
-        Step::Used { place } => write!(text, ", {place} used"),
-        Step::Tags(tags) => {
-            write!(text, ", tags")?;
-            show_outgoing(tags, text)
-        }
         Step::Mapper(number) => write!(text, ", mapper {number:04x}"),
         Step::Priority { priority, origin } => write!(text, ", priority {priority} {origin:?}"),
         Step::Pointer(pointer) => write!(text, ", pointer {pointer:04x}"),
@@ -96,10 +94,26 @@ fn show(step: &Step, text: &mut String) -> Result<(), AllocError> {
             port_id,
             direction,
         } => write!(text, ", {instance:04x} has {port_id} and {direction}"),
+        _ => Ok(()),
+    }
+}
+
+/// Appends the text of a step.
+fn show(step: &Step, text: &mut String) -> Result<(), AllocError> {
+    match step {
+        Step::Table(force) => show_force(*force, text),
+        Step::Read(frame) => show_read(frame, text),
+        Step::Failed { place, field } => write!(text, ", {place} fails by {field:?}"),
+        Step::Used { place } => write!(text, ", {place} used"),
+        Step::Tags(tags) => {
+            text.push_str(", tags")?;
+            show_outgoing(tags, text)
+        }
         Step::Verdict(verdict) => {
-            write!(text, ", ")?;
+            text.push_str(", ")?;
             show_verdict(verdict, text)
         }
+        _ => show_route(step, text),
     }
 }
 
@@ -115,24 +129,64 @@ fn explained(alloc: Global, mib: &Mib, port: u16, frame: &[u8]) -> Result<String
     Ok(text)
 }
 
+/// Compares the steps of a frame's explanation.
+fn check_steps(
+    rt: &impl Abort,
+    alloc: Global,
+    mib: &Mib,
+    port: u16,
+    frame: &[u8],
+    want: &str,
+) -> Result<(), AllocError> {
+    let text = explained(alloc, mib, port, frame)?;
+    assert_eq!(rt; text.as_str(), want);
+    Ok(())
+}
+
+/// The steps of a frame that leaves, between which and the tags that it leaves with stand the leads.
+fn with_leads(alloc: Global, start: &str, tags: &str) -> Result<String, AllocError> {
+    let mut text = String::new(alloc);
+    write!(text, "{start}{LEADS}{tags}")?;
+    Ok(text)
+}
+
+/// Carries out what a test does next.
+fn follow_act(rt: &impl Abort, alloc: Global, mib: &mut Mib, act: &Act) -> Result<(), AllocError> {
+    match act {
+        Act::Apply(digits) => {
+            apply(rt, mib, digits);
+            Ok(())
+        }
+        Act::Leaves(frame, start, tags) => {
+            let want = with_leads(alloc, start, tags)?;
+            check_steps(rt, alloc, mib, 257, frame, want.as_str())
+        }
+        Act::Drops(port, frame, want) => check_steps(rt, alloc, mib, *port, frame, want),
+    }
+}
+
+fn follow_acts(
+    rt: &impl Abort,
+    alloc: Global,
+    mib: &mut Mib,
+    acts: &[Act],
+) -> Result<(), AllocError> {
+    for act in acts {
+        follow_act(rt, alloc, mib, act)?;
+    }
+    Ok(())
+}
+
+/// Makes port 257, but for the last entry of its table.
+fn make_port_257(rt: &impl Abort, mib: &mut Mib) {
+    for digits in &PORT_257[..4] {
+        apply(rt, mib, digits);
+    }
+}
+
 /// Carries requests out and compares explanations, on the entities of port 257.
 pub(crate) fn follow(rt: &impl Abort, alloc: Global, acts: &[Act]) -> Result<(), AllocError> {
     let mut mib = Mib::new(alloc)?;
-    for digits in &PORT_257[..4] {
-        apply(rt, &mut mib, digits);
-    }
-    for act in acts {
-        match act {
-            Act::Apply(digits) => apply(rt, &mut mib, digits),
-            Act::Leaves(frame, start, tags) => {
-                let mut want = String::new(alloc);
-                write!(want, "{start}{LEADS}{tags}")?;
-                assert_eq!(rt; explained(alloc, &mib, 257, frame)?.as_str(), want.as_str());
-            }
-            Act::Drops(port, frame, want) => {
-                assert_eq!(rt; explained(alloc, &mib, *port, frame)?.as_str(), *want);
-            }
-        }
-    }
-    Ok(())
+    make_port_257(rt, &mut mib);
+    follow_acts(rt, alloc, &mut mib, acts)
 }
