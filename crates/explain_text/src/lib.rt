@@ -18,6 +18,8 @@ pub use verdict::VerdictWords;
 pub use words::{MismatchWords, OriginWords};
 
 #[cfg(test)]
+mod reading;
+#[cfg(test)]
 mod rules_tests;
 #[cfg(test)]
 mod steps_tests;

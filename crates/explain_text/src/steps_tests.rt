@@ -1,9 +1,12 @@
 //! Why a frame goes where it goes, as text and as JSON.
-use crate::rules_tests::port_257;
+use crate::reading::{check_number, check_words, read_back};
+use crate::rules_tests::{let_go, port_257};
 use crate::{write_explanation, write_explanation_json};
 use entity_text::TextFault;
+use mib_state::Mib;
 use serde_json::Value;
 use std::alloc::Global;
+use std::process::Abort;
 use std::test::Fail;
 
 /// A frame: 12 bytes of addresses, and what these digits spell.
@@ -77,30 +80,50 @@ d 6
     ),
 ];
 
-#[test]
-fn an_explanation_is_written_step_by_step(rt: HostRuntime) -> Result<(), Fail> {
-    let alloc = rt.alloc();
-    let mib = port_257(alloc)?;
-    for (digits, behind) in EXPLAINED {
-        let frame = frame_of(alloc, digits)?;
-        let mut written = Vec::new(alloc);
-        write_explanation(alloc, &mib, 257, &frame, &mut written)?;
+/// What is written of why a frame that comes in at a port goes where it goes, as text.
+fn explanation_of(alloc: Global, mib: &Mib, port: u16, digits: &str) -> Result<Vec<u8>, Fail> {
+    let frame = frame_of(alloc, digits)?;
+    let mut written = Vec::new(alloc);
+    write_explanation(alloc, mib, port, &frame, &mut written)?;
+    Ok(written)
+}
+
+/// Compares it.
+fn check_explanation(
+    rt: &impl Abort,
+    alloc: Global,
+    mib: &Mib,
+    port: u16,
+    digits: &str,
+    wanted: &str,
+) -> Result<(), Fail> {
+    let written = explanation_of(alloc, mib, port, digits)?;
+    assert_eq!(rt; written.as_slice(), wanted.as_bytes(), "{digits}");
+    Ok(())
+}
+
+/// Compares what is written of each frame at port 257.
+fn check_explained(rt: &impl Abort, alloc: Global, mib: &Mib) -> Result<(), Fail> {
+    for (digits, behind) in &EXPLAINED {
         let wanted = format!(in alloc; "{FRONT}{behind}")?;
-        assert_eq!(rt; written.as_slice(), wanted.as_bytes(), "{digits}");
+        check_explanation(rt, alloc, mib, 257, digits, wanted.as_str())?;
     }
     Ok(())
 }
 
 #[test]
-fn a_frame_without_a_table_or_that_is_cut_is_dropped_with_its_reason(
-    rt: HostRuntime,
-) -> Result<(), Fail> {
-    let alloc = rt.alloc();
-    let mib = port_257(alloc)?;
-    for (digits, wanted) in [
-        (
-            "0806",
-            "table: none is in force at port 5, tags stay as they are
+fn an_explanation_is_written_step_by_step(rt: HostRuntime) -> Result<(), Fail> {
+    let mib = port_257(rt.alloc())?;
+    let outcome = check_explained(&rt, rt.alloc(), &mib);
+    let_go(mib);
+    outcome
+}
+
+/// The same of frames that come in at port 5, which has no table.
+const DROPPED: [(&str, &str); 2] = [
+    (
+        "0806",
+        "table: none is in force at port 5, tags stay as they are
 frame:
   destination: 02:00:00:00:00:01
   source: 02:00:00:00:00:02
@@ -109,21 +132,31 @@ leaves without a tag
 dropped, reason 5: the port has no mapper
 d 5
 ",
-        ),
-        (
-            "8100",
-            "table: none is in force at port 5, tags stay as they are
+    ),
+    (
+        "8100",
+        "table: none is in force at port 5, tags stay as they are
 dropped, reason 2: the frame ends within a tag or before the type behind it
 d 2
 ",
-        ),
-    ] {
-        let frame = frame_of(alloc, digits)?;
-        let mut written = Vec::new(alloc);
-        write_explanation(alloc, &mib, 5, &frame, &mut written)?;
-        assert_eq!(rt; written.as_slice(), wanted.as_bytes(), "{digits}");
+    ),
+];
+
+fn check_dropped(rt: &impl Abort, alloc: Global, mib: &Mib) -> Result<(), Fail> {
+    for (digits, wanted) in &DROPPED {
+        check_explanation(rt, alloc, mib, 5, digits, wanted)?;
     }
     Ok(())
+}
+
+#[test]
+fn a_frame_without_a_table_or_that_is_cut_is_dropped_with_its_reason(
+    rt: HostRuntime,
+) -> Result<(), Fail> {
+    let mib = port_257(rt.alloc())?;
+    let outcome = check_dropped(&rt, rt.alloc(), &mib);
+    let_go(mib);
+    outcome
 }
 
 /// Paths into the JSON of the second frame's explanation, and the numbers that stand there.
@@ -162,37 +195,70 @@ const WORDS: [(&str, &str); 15] = [
     ("/12/line", "g 1024 0200000000010200000000028100600a0806"),
 ];
 
+fn check_numbers(rt: &impl Abort, value: &Value) {
+    for (path, wanted) in &NUMBERS {
+        check_number(rt, value, path, Some(*wanted));
+    }
+}
+
+fn check_all_words(rt: &impl Abort, value: &Value) {
+    for (path, wanted) in &WORDS {
+        check_words(rt, value, path, wanted);
+    }
+}
+
+/// What is written of it as JSON.
+fn json_of(alloc: Global, mib: &Mib, port: u16, digits: &str) -> Result<Vec<u8>, Fail> {
+    let frame = frame_of(alloc, digits)?;
+    let mut written = Vec::new(alloc);
+    write_explanation_json(alloc, mib, port, &frame, &mut written)?;
+    Ok(written)
+}
+
+fn json_of_second(alloc: Global) -> Result<Vec<u8>, Fail> {
+    let mib = port_257(alloc)?;
+    let json = json_of(alloc, &mib, 257, "8100600a0806");
+    let_go(mib);
+    json
+}
+
+fn value_of_second(alloc: Global) -> Result<Value, Fail> {
+    let written = json_of_second(alloc)?;
+    read_back(alloc, &written)
+}
+
 #[test]
 fn json_of_an_explanation_is_read_back(rt: HostRuntime) -> Result<(), Fail> {
-    let alloc = rt.alloc();
-    let mib = port_257(alloc)?;
-    let frame = frame_of(alloc, "8100600a0806")?;
-    let mut written = Vec::new(alloc);
-    write_explanation_json(alloc, &mib, 257, &frame, &mut written)?;
-    let value = Value::from_slice(alloc, &written)?;
-    for (path, wanted) in NUMBERS {
-        let found = value.pointer(path).and_then(Value::as_u64);
-        assert_eq!(rt; found, Some(wanted), "{path}");
-    }
-    for (path, wanted) in WORDS {
-        let found = value.pointer(path).and_then(Value::as_str);
-        assert_eq!(rt; found, Some(wanted), "{path}");
-    }
+    let value = value_of_second(rt.alloc())?;
+    check_numbers(&rt, &value);
+    check_all_words(&rt, &value);
     assert!(rt; value.pointer("/13").is_none());
+    Ok(())
+}
+
+/// Tries to write the explanation of a frame into fewer bytes than it takes: they are filled with its front.
+fn check_full(rt: &impl Abort, alloc: Global, mib: &Mib, frame: &[u8], bytes: &mut [u8]) {
+    let room = bytes.len();
+    let mut writer = &mut bytes[..];
+    let outcome = write_explanation(alloc, mib, 257, frame, &mut writer);
+    assert_eq!(rt; outcome, Err(TextFault::Write), "{room} bytes");
+    assert!(rt; FRONT.as_bytes().starts_with(bytes));
+}
+
+/// Tries each number of bytes below 60.
+fn check_rooms(rt: &impl Abort, alloc: Global, mib: &Mib) -> Result<(), Fail> {
+    let frame = frame_of(alloc, "0806")?;
+    for room in 0..60 {
+        let mut bytes = [0; 60];
+        check_full(rt, alloc, mib, &frame, &mut bytes[..room]);
+    }
     Ok(())
 }
 
 #[test]
 fn a_writer_that_is_full_ends_an_explanation(rt: HostRuntime) -> Result<(), Fail> {
-    let alloc = rt.alloc();
-    let mib = port_257(alloc)?;
-    let frame = frame_of(alloc, "0806")?;
-    for room in 0..60 {
-        let mut bytes = [0; 60];
-        let mut writer = &mut bytes[..room];
-        let outcome = write_explanation(alloc, &mib, 257, &frame, &mut writer);
-        assert_eq!(rt; outcome, Err(TextFault::Write), "{room} bytes");
-        assert!(rt; FRONT.as_bytes().starts_with(&bytes[..room]));
-    }
-    Ok(())
+    let mib = port_257(rt.alloc())?;
+    let outcome = check_rooms(&rt, rt.alloc(), &mib);
+    let_go(mib);
+    outcome
 }
