@@ -6,7 +6,6 @@ use forward_plan::Live;
 use frame_meaning::{Reason, Verdict};
 use std::alloc::{AllocError, Global};
 use std::process::Abort;
-use std::test::Fail;
 use tag_view::Tag;
 
 /// How many messages change the entities.
@@ -99,8 +98,7 @@ fn compare_all(rt: &impl Abort, alloc: Global, live: &mut Live) -> Result<(), Al
 }
 
 #[test]
-fn the_last_step_is_the_verdict_of_the_plan(rt: HostRuntime) -> Result<(), Fail> {
+fn the_last_step_is_the_verdict_of_the_plan(rt: HostRuntime) -> Result<(), AllocError> {
     let mut live = Live::new(rt.alloc())?;
-    compare_all(&rt, rt.alloc(), &mut live)?;
-    Ok(())
+    compare_all(&rt, rt.alloc(), &mut live)
 }

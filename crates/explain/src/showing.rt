@@ -94,7 +94,7 @@ fn show_route(step: &Step, text: &mut String) -> Result<(), AllocError> {
             port_id,
             direction,
         } => write!(text, ", {instance:04x} has {port_id} and {direction}"),
-        _ => Ok(()),
+        _ => text.push_str(", another step"),
     }
 }
 

@@ -23,6 +23,12 @@ const TAGGED_101: &[u8] = b"\x02\0\0\0\0\x01\x02\0\0\0\0\x02\x81\0\xa0\x65\x08\0
 /// A service tag of VLAN 100 round a customer's tag of VLAN 200.
 const DOUBLE: &[u8] = b"\x02\0\0\0\0\x01\x02\0\0\0\0\x02\x88\xa8\0\x64\x81\0\0\xc8\x08\0\x45\0";
 
+/// A frame that ends within the type.
+const RUNT: &[u8] = b"\x02\0\0\0\0\x01\x02\0\0\0\0\x02\x08";
+
+/// A service tag, and a customer's tag that is cut.
+const CUT: &[u8] = b"\x02\0\0\0\0\x01\x02\0\0\0\0\x02\x88\xa8\0\x64\x81\0";
+
 /// A Set of the entry of table 0x0701 by which a frame without a tag gets one of VLAN 100.
 const PUSH_VLAN_100: &str = "0005480a00ab07010400f8000000f8000000000f000000000324";
 
@@ -40,12 +46,6 @@ const PLAIN: &str = "table 0701, type 0800 behind, 0 used, tags, mapper 0601, pr
 const PUSHED: &str =
     "table 0701, type 0800 behind, 3 used, tags 81000064 (Fixed(0) Fixed(100) Standard Clear), \
     mapper 0601, priority 0 OutermostTag";
-
-/// A frame that ends within the type.
-const RUNT: &[u8] = b"\x02\0\0\0\0\x01\x02\0\0\0\0\x02\x08";
-
-/// A service tag, and a customer's tag that is cut.
-const CUT: &[u8] = b"\x02\0\0\0\0\x01\x02\0\0\0\0\x02\x88\xa8\0\x64\x81\0";
 
 /// The same with a tag of VLAN 300.
 const VLAN_300: &str =
