@@ -27,13 +27,25 @@ pub fn write_rules_json<W: Write>(
     text.begin(writer, &front)?;
     if let Some(table) = table_of(mib, force) {
         for (number, place) in tried_order(table).iter().enumerate() {
-            let mut object = text.object()?;
-            put_number(&mut object, "number", number as u64)?;
-            put_entry(alloc, &mut object, table, *place)?;
-            text.write(writer, object)?;
+            write_entry(alloc, &mut text, table, number, *place, writer)?;
         }
     }
     text.end(writer, "}")
+}
+
+/// Writes an entry as an object.
+fn write_entry<W: Write>(
+    alloc: Global,
+    text: &mut JsonText,
+    table: &RuleTable,
+    number: usize,
+    place: usize,
+    writer: &mut W,
+) -> Result<(), TextFault> {
+    let mut object = text.object()?;
+    put_number(&mut object, "number", number as u64)?;
+    put_entry(alloc, &mut object, table, place)?;
+    text.write(writer, object)
 }
 
 /// What stands in front of the entries.

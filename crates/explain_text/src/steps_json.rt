@@ -32,12 +32,23 @@ pub fn write_explanation_json<W: Write>(
     let mut text = JsonText::new(alloc);
     text.begin(writer, "")?;
     for step in &steps {
-        let mut object = text.object()?;
-        put_text(&mut object, "step", name_of(step))?;
-        put_step(alloc, &mut object, table, step)?;
-        text.write(writer, object)?;
+        write_step(alloc, &mut text, table, step, writer)?;
     }
     text.end(writer, "")
+}
+
+/// Writes a step as an object.
+fn write_step<W: Write>(
+    alloc: Global,
+    text: &mut JsonText,
+    table: Option<&RuleTable>,
+    step: &Step<'_>,
+    writer: &mut W,
+) -> Result<(), TextFault> {
+    let mut object = text.object()?;
+    put_text(&mut object, "step", name_of(step))?;
+    put_step(alloc, &mut object, table, step)?;
+    text.write(writer, object)
 }
 
 /// What a step is called.
