@@ -1,9 +1,10 @@
 //! A script and its answers, grown step by step.
 
+use crate::fault::ReplayFault;
 use crate::script::replay;
 use crate::tests::{CREATED, PORT_257, messages, push_message};
 use std::alloc::{AllocError, Global};
-use std::test::Fail;
+use std::process::Abort;
 
 /// The addresses of each frame.
 const ADDRESSES: &str = "020000000001020000000002";
@@ -95,25 +96,71 @@ impl Dialogue {
         }
     }
 
-    /// The script, and its answers.
-    pub(crate) fn texts(self) -> (String, String) {
-        (self.script, self.answers)
+    /// Takes steps, one after the other.
+    pub(crate) fn take_all(&mut self, alloc: Global, steps: &[Step<'_>]) -> Result<(), AllocError> {
+        for step in steps {
+            self.take(alloc, *step)?;
+        }
+        Ok(())
     }
 
-    /// What is written, and what is to be.
-    pub(crate) fn answered(self, alloc: Global) -> Result<(Vec<u8>, String), Fail> {
-        let mut written = Vec::new(alloc);
-        let mut reader = self.script.as_bytes();
-        replay(alloc, &mut reader, &mut written)?;
-        Ok((written, self.answers))
+    /// The dialogue of the four messages of the port, and of steps.
+    pub(crate) fn of(alloc: Global, steps: &[Step<'_>]) -> Result<Dialogue, AllocError> {
+        let mut dialogue = Dialogue::new(alloc)?;
+        dialogue.take_all(alloc, steps)?;
+        Ok(dialogue)
+    }
+
+    /// The script.
+    pub(crate) fn script(&self) -> &str {
+        self.script.as_str()
+    }
+
+    /// The answers.
+    pub(crate) fn answers(&self) -> &str {
+        self.answers.as_str()
+    }
+
+    /// Replays the script, and compares what is written with what is to be.
+    pub(crate) fn compare(&self, rt: &impl Abort, alloc: Global, what: &str) {
+        let wanted = Replayed {
+            answers: self.answers(),
+            outcome: Ok(()),
+        };
+        compare(rt, alloc, self.script(), &wanted, what);
     }
 }
 
-/// What is written, and what is to be: the answers to the four messages of the port, and to the steps.
-pub(crate) fn answered(alloc: Global, steps: &[Step<'_>]) -> Result<(Vec<u8>, String), Fail> {
-    let mut dialogue = Dialogue::new(alloc)?;
-    for step in steps {
-        dialogue.take(alloc, *step)?;
-    }
-    dialogue.answered(alloc)
+/// What a replay writes, and how it ends.
+#[derive(Clone, Copy)]
+pub(crate) struct Replayed<'s> {
+    pub(crate) answers: &'s str,
+    pub(crate) outcome: Result<(), ReplayFault>,
+}
+
+/// Replays a script, and compares how it ends and what is written.
+pub(crate) fn compare(
+    rt: &impl Abort,
+    alloc: Global,
+    script: &str,
+    wanted: &Replayed<'_>,
+    what: &str,
+) {
+    let mut written = Vec::new(alloc);
+    let mut reader = script.as_bytes();
+    let outcome = replay(alloc, &mut reader, &mut written);
+    assert_eq!(rt; outcome, wanted.outcome, "{what}");
+    assert_eq!(rt; written.as_slice(), wanted.answers.as_bytes(), "{what}");
+}
+
+/// Compares what is written with what is to be: the answers to the four messages of the port, and to the steps.
+pub(crate) fn compare_steps(
+    rt: &impl Abort,
+    alloc: Global,
+    steps: &[Step<'_>],
+    what: &str,
+) -> Result<(), AllocError> {
+    let dialogue = Dialogue::of(alloc, steps)?;
+    dialogue.compare(rt, alloc, what);
+    Ok(())
 }

@@ -95,10 +95,9 @@ fn replay_through<R: Read, W: Write>(
     Err(ReplayFault::Read(total))
 }
 
-/// All that a replay takes from memory.
+/// The bytes that a replay takes from memory.
 #[derive(Drop)]
 struct Room {
-    onu: Onu,
     text: Vec<u8>,
     spare: Vec<u8>,
     answers: Vec<u8>,
@@ -108,7 +107,6 @@ impl Room {
     ghost use Rattle.std.specs.Prelude.{◌≡◌, ◌*◌, ◌≤◌, [], IfOk, vec_len, vec_capacity};
 
     fn new(alloc: Global) -> Result<Room, AllocError>
-        ensures onu { IfOk result (λ room. room.onu ≡ start) }
         ensures text { IfOk result (λ room. vec_len room.text ≡ 85536) }
         ensures spare { IfOk result (λ room. vec_len room.spare ≡ 20000) }
         ensures empty { IfOk result (λ room. vec_len room.answers ≡ 0) }
@@ -116,7 +114,6 @@ impl Room {
         ensures answers { IfOk result (λ room. 3 * 85536 ≤ vec_capacity room.answers) }
     {
         Ok(Room {
-            onu: Onu::new(alloc)?,
             text: vec![in alloc; 0; TEXT_ROOM]?,
             spare: vec![in alloc; 0; LINE_LIMIT]?,
             answers: Vec::with_capacity(alloc, 3 * TEXT_ROOM)?,
@@ -144,11 +141,14 @@ pub fn replay<R: Read, W: Write>(
     let Ok(mut room) = Room::new(alloc) else {
         return Err(ReplayFault::NoMemory);
     };
+    let Ok(mut onu) = Onu::new(alloc) else {
+        return Err(ReplayFault::NoMemory);
+    };
     let mut buffer = [0; 10_000];
     replay_through(
         reader,
         writer,
-        &mut room.onu,
+        &mut onu,
         &mut room.text,
         &mut room.spare,
         &mut buffer,
