@@ -65,6 +65,20 @@ pub fn decode_lines<I: Read, O: Write, E: Write>(
     report_replay(&outcome.map_err(replay_fault), err)
 }
 
+/// Writes managed entities, as text or as JSON.
+fn write_entities<O: Write>(
+    alloc: Global,
+    words: &MibWords,
+    mib: &Mib,
+    out: &mut O,
+) -> Result<(), TextFault> {
+    if words.json {
+        write_mib_json(alloc, mib, out)
+    } else {
+        write_mib(alloc, mib, out)
+    }
+}
+
 /// Writes the managed entities after a trace to `out`, and why nothing, or not all, to `err`. It gives the status.
 pub fn show_mib<R: Files + Alloc<A = Global>, O: Write, E: Write>(
     rt: &R,
@@ -72,16 +86,24 @@ pub fn show_mib<R: Files + Alloc<A = Global>, O: Write, E: Write>(
     out: &mut O,
     err: &mut E,
 ) -> u8 {
-    let mib = match entities_after(rt, words.trace, err) {
-        Ok(mib) => mib,
-        Err(status) => return status,
-    };
-    let outcome = if words.json {
-        write_mib_json(rt.alloc(), &mib, out)
+    match entities_after(rt, words.trace, err) {
+        Ok(mib) => report_text(write_entities(rt.alloc(), words, &mib, out), err),
+        Err(status) => status,
+    }
+}
+
+/// Writes the table in force at a port, as text or as JSON.
+fn write_table<O: Write>(
+    alloc: Global,
+    words: &RulesWords,
+    mib: &Mib,
+    out: &mut O,
+) -> Result<(), TextFault> {
+    if words.json {
+        write_rules_json(alloc, mib, words.port, out)
     } else {
-        write_mib(rt.alloc(), &mib, out)
-    };
-    report_text(outcome, err)
+        write_rules(alloc, mib, words.port, out)
+    }
 }
 
 /// Writes the table in force at a port after a trace to `out`, and why nothing, or not all, to `err`. It gives the status.
@@ -91,16 +113,10 @@ pub fn show_rules<R: Files + Alloc<A = Global>, O: Write, E: Write>(
     out: &mut O,
     err: &mut E,
 ) -> u8 {
-    let mib = match entities_after(rt, words.trace, err) {
-        Ok(mib) => mib,
-        Err(status) => return status,
-    };
-    let outcome = if words.json {
-        write_rules_json(rt.alloc(), &mib, words.port, out)
-    } else {
-        write_rules(rt.alloc(), &mib, words.port, out)
-    };
-    report_text(outcome, err)
+    match entities_after(rt, words.trace, err) {
+        Ok(mib) => report_text(write_table(rt.alloc(), words, &mib, out), err),
+        Err(status) => status,
+    }
 }
 
 /// The bytes that hexadecimal digits spell, or the status where they spell none; why is written to `err`.
@@ -119,6 +135,21 @@ fn frame_of<E: Write>(alloc: Global, digits: &str, err: &mut E) -> Result<Vec<u8
     }
 }
 
+/// Writes what becomes of a frame, as text or as JSON.
+fn write_steps<O: Write>(
+    alloc: Global,
+    words: &ExplainWords,
+    mib: &Mib,
+    frame: &[u8],
+    out: &mut O,
+) -> Result<(), TextFault> {
+    if words.json {
+        write_explanation_json(alloc, mib, words.port, frame, out)
+    } else {
+        write_explanation(alloc, mib, words.port, frame, out)
+    }
+}
+
 /// Writes what becomes of a frame after a trace, step by step, to `out`, and why nothing, or not all, to `err`. It gives the status.
 pub fn explain_frame<R: Files + Alloc<A = Global>, O: Write, E: Write>(
     rt: &R,
@@ -131,14 +162,8 @@ pub fn explain_frame<R: Files + Alloc<A = Global>, O: Write, E: Write>(
         Ok(frame) => frame,
         Err(status) => return status,
     };
-    let mib = match entities_after(rt, words.trace, err) {
-        Ok(mib) => mib,
-        Err(status) => return status,
-    };
-    let outcome = if words.json {
-        write_explanation_json(alloc, &mib, words.port, &frame, out)
-    } else {
-        write_explanation(alloc, &mib, words.port, &frame, out)
-    };
-    report_text(outcome, err)
+    match entities_after(rt, words.trace, err) {
+        Ok(mib) => report_text(write_steps(alloc, words, &mib, &frame, out), err),
+        Err(status) => status,
+    }
 }

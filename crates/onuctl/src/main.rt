@@ -10,9 +10,11 @@ use looking::{decode_lines, explain_frame, show_mib, show_rules};
 use running::run;
 use script_replay::{replay, report_replay};
 use std::alloc::{AllocError, Global};
-use std::io::{ErrorKind, Write};
+use std::io::{ErrorKind, IsTerminal, Read, Write};
 use std::process::ExitCode;
-use std::rt::Env;
+use std::rt::{Clock, Env, Files};
+use std::sync::Wait;
+use std::thread::Threads;
 use std::{env, io};
 
 /// The words of the command line, the program's name first.
@@ -43,29 +45,39 @@ fn without_words<E: Write>(error: &io::Error, err: &mut E) -> ExitCode {
     ExitCode::from(1)
 }
 
-fn main(rt: HostRuntime) -> ExitCode {
+/// Does what the words ask for, and gives the status.
+fn answer<
+    R: Files + Alloc<A = Global> + Threads + Wait + Clock + Sync,
+    I: Read,
+    O: Write,
+    E: Write + IsTerminal + Send,
+>(rt: &R, words: &[&str], input: &mut I, out: &mut O, err: &mut E) -> u8 {
     let alloc = rt.alloc();
-    let (mut out, mut err) = (rt.stdout(), rt.stderr());
+    match read_words(alloc, words) {
+        Ok(Words::Replay) => {
+            let outcome = replay(alloc, input, out);
+            report_replay(&outcome, err)
+        }
+        Ok(Words::Run(words)) => run(rt, &words, out, err),
+        Ok(Words::Decode) => decode_lines(alloc, input, out, err),
+        Ok(Words::Mib(words)) => show_mib(rt, &words, out, err),
+        Ok(Words::Rules(words)) => show_rules(rt, &words, out, err),
+        Ok(Words::Explain(words)) => explain_frame(rt, &words, out, err),
+        Err(error) => report_words(&error, out, err),
+    }
+}
+
+fn main(rt: HostRuntime) -> ExitCode {
+    let (mut input, mut out, mut err) = (rt.stdin(), rt.stdout(), rt.stderr());
     let words = match words(&rt) {
         Ok(words) => words,
         Err(error) => return without_words(&error, &mut err),
     };
-    let lent = match lent(alloc, &words) {
+    let lent = match lent(rt.alloc(), &words) {
         Ok(lent) => lent,
         Err(error) => return without_words(&error.into(), &mut err),
     };
-    ExitCode::from(match read_words(alloc, &lent) {
-        Ok(Words::Replay) => {
-            let outcome = replay(alloc, &mut rt.stdin(), &mut out);
-            report_replay(&outcome, &mut err)
-        }
-        Ok(Words::Run(words)) => run(&rt, &words, &mut out, &mut err),
-        Ok(Words::Decode) => decode_lines(alloc, &mut rt.stdin(), &mut out, &mut err),
-        Ok(Words::Mib(words)) => show_mib(&rt, &words, &mut out, &mut err),
-        Ok(Words::Rules(words)) => show_rules(&rt, &words, &mut out, &mut err),
-        Ok(Words::Explain(words)) => explain_frame(&rt, &words, &mut out, &mut err),
-        Err(error) => report_words(&error, &mut out, &mut err),
-    })
+    ExitCode::from(answer(&rt, &lent, &mut input, &mut out, &mut err))
 }
 
 #[cfg(test)]
