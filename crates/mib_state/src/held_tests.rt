@@ -1,6 +1,7 @@
 use crate::Mib;
 use omci_msg::{Action, Request};
 use std::alloc::{AllocError, Global};
+use std::process::Abort;
 use std::test::Fail;
 
 /// The creation of an instance, whose contents begin with these bytes.
@@ -33,6 +34,11 @@ fn set_up(alloc: Global) -> Result<Mib, AllocError> {
 #[test]
 fn instances_are_lent_by_ascending_number(rt: HostRuntime) -> Result<(), Fail> {
     let mib = set_up(rt.alloc())?;
+    look_at_places(&rt, &mib)
+}
+
+/// Looks at each place of each class.
+fn look_at_places(rt: &impl Abort, mib: &Mib) -> Result<(), Fail> {
     for (class, place, number, n, wanted) in [
         (2, 0, 0, 1, [5].as_slice()),
         (130, 0, 0x0601, 4, [5, 3].as_slice()),
@@ -68,6 +74,11 @@ fn instances_are_lent_by_ascending_number(rt: HostRuntime) -> Result<(), Fail> {
 #[test]
 fn a_table_and_what_a_class_has_not_have_no_bytes(rt: HostRuntime) -> Result<(), Fail> {
     let mib = set_up(rt.alloc())?;
+    look_at_no_bytes(&rt, &mib)
+}
+
+/// Looks at attributes that have no bytes.
+fn look_at_no_bytes(rt: &impl Abort, mib: &Mib) -> Result<(), Fail> {
     let held = mib.instance_at(171, 0).ok_or("it is not held")?;
     for (n, what) in [(0, "attribute 0"), (6, "the table"), (9, "attribute 9")] {
         assert_eq!(rt; held.attribute(n).is_none(), true, "{what} has no bytes");
@@ -86,6 +97,11 @@ fn set_up_two(alloc: Global) -> Result<Mib, AllocError> {
 #[test]
 fn an_instance_has_a_place_among_those_of_its_class(rt: HostRuntime) -> Result<(), Fail> {
     let mib = set_up_two(rt.alloc())?;
+    look_for_places(&rt, &mib)
+}
+
+/// Looks for the place of instances, there or not.
+fn look_for_places(rt: &impl Abort, mib: &Mib) -> Result<(), Fail> {
     for (class, instance, wanted) in [
         (2, 0, Some(0)),
         (2, 1, None),
@@ -114,6 +130,11 @@ fn an_instance_has_a_place_among_those_of_its_class(rt: HostRuntime) -> Result<(
 #[test]
 fn mappers_and_tables_are_lent_by_place(rt: HostRuntime) -> Result<(), Fail> {
     let mib = set_up_two(rt.alloc())?;
+    look_at_mappers_and_tables(&rt, &mib)
+}
+
+/// Looks at mappers and tables by place.
+fn look_at_mappers_and_tables(rt: &impl Abort, mib: &Mib) -> Result<(), Fail> {
     for (place, mapper, vlan) in [
         (0, Some((0x0600, 258)), Some((0x0700, 258))),
         (1, Some((0x0601, 257)), Some((0x0701, 257))),

@@ -125,6 +125,10 @@ fn only(code: u8) -> [u8; 32] {
 #[test]
 fn a_create_is_answered_and_one_that_exists_changes_nothing(rt: HostRuntime) -> Result<(), Fail> {
     let mut mib = Mib::new(rt.alloc())?;
+    create_twice(&rt, &mut mib)
+}
+
+fn create_twice(rt: &impl Abort, mib: &mut Mib) -> Result<(), Fail> {
     let mut wanted = Reply {
         tci: 1,
         action: Action::Create,
@@ -155,6 +159,10 @@ fn a_get_returns_each_attribute_that_fits_and_names_the_others(
     rt: HostRuntime,
 ) -> Result<(), Fail> {
     let mut mib = set_up(rt.alloc())?;
+    get_from_each_class(&rt, &mut mib)
+}
+
+fn get_from_each_class(rt: &impl Abort, mib: &mut Mib) -> Result<(), Fail> {
     let ten = [9, 0xff, 0xc0, 4, 0, 0x80, 1, 3];
     let of_table = [
         9, 0xfe, 0, 2, 0, 128, 0x81, 0, 0x81, 0, 0, 0, 0, 0, 0x30, 1, 1,
@@ -162,8 +170,8 @@ fn a_get_returns_each_attribute_that_fits_and_names_the_others(
     let size = [0, 4, 0, 0, 0, 0, 0x30];
     let map = [0, 0, 0, 0x20];
     take(
-        &rt,
-        &mut mib,
+        rt,
+        mib,
         &[
             (get(268, 0x0401, 0xffff), got(&ten, [0, 0x3f, 0, 0]), 4),
             (get(130, 0x0601, 0x8020), got(&[9, 0x80, 0, 1, 1], map), 4),
@@ -186,10 +194,14 @@ fn the_sync_is_an_attribute_of_onu_data_and_a_set_of_it_counts_nothing(
     rt: HostRuntime,
 ) -> Result<(), Fail> {
     let mut mib = Mib::new(rt.alloc())?;
+    set_the_sync(&rt, &mut mib)
+}
+
+fn set_the_sync(rt: &impl Abort, mib: &mut Mib) -> Result<(), Fail> {
     let two = got(&[9, 0x80, 0, 1], [0x40, 0, 0, 0]);
     take(
-        &rt,
-        &mut mib,
+        rt,
+        mib,
         &[
             (create_gem_port(0x0401), only(0), 1),
             (create_gem_port(0x0401), only(7), 1),
@@ -207,6 +219,10 @@ fn the_sync_is_an_attribute_of_onu_data_and_a_set_of_it_counts_nothing(
 #[test]
 fn refusals_have_their_results(rt: HostRuntime) -> Result<(), Fail> {
     let mut mib = Mib::new(rt.alloc())?;
+    ask_for_what_is_refused(&rt, &mut mib)
+}
+
+fn ask_for_what_is_refused(rt: &impl Abort, mib: &mut Mib) -> Result<(), Fail> {
     let _ = mib.step(&create_gem_port(0x0401));
     let other = Action::Other(OtherCode { code: 25 });
     for (action, class, instance, wanted) in [
@@ -260,6 +276,10 @@ fn refusals_have_their_results(rt: HostRuntime) -> Result<(), Fail> {
 #[test]
 fn the_sync_goes_from_255_to_1(rt: HostRuntime) -> Result<(), Fail> {
     let mut mib = Mib::new(rt.alloc())?;
+    create_256(&rt, &mut mib)
+}
+
+fn create_256(rt: &impl Abort, mib: &mut Mib) -> Result<(), Fail> {
     for made in 1..=256 {
         // From the greatest number down, so that each goes before the others.
         assert_eq!(rt;
@@ -278,10 +298,14 @@ fn the_sync_goes_from_255_to_1(rt: HostRuntime) -> Result<(), Fail> {
 #[test]
 fn a_mib_reset_leaves_no_instance_and_sync_0(rt: HostRuntime) -> Result<(), Fail> {
     let mut mib = set_up(rt.alloc())?;
+    reset_and_fill(&rt, &mut mib)
+}
+
+fn reset_and_fill(rt: &impl Abort, mib: &mut Mib) -> Result<(), Fail> {
     // Its class and its instance aren't looked at.
     let reset = request(Action::MibReset, 45, 0xffff, &[0xff]);
     let write = set(268, 0x0401, 0x8000, &[4, 0]);
-    take(&rt, &mut mib, &[(reset, only(0), 0)])?;
+    take(rt, mib, &[(reset, only(0), 0)])?;
     for class in [130, 171, 266, 268] {
         assert_eq!(rt;
             mib.next_instance(class, 0),
@@ -289,13 +313,13 @@ fn a_mib_reset_leaves_no_instance_and_sync_0(rt: HostRuntime) -> Result<(), Fail
             "class {class} after a MIB reset"
         );
     }
-    take(&rt, &mut mib, &[(create_gem_port(0x0401), only(0), 1)])?;
+    take(rt, mib, &[(create_gem_port(0x0401), only(0), 1)])?;
     for count in 2..=255 {
-        take(&rt, &mut mib, &[(write, only(0), count)])?;
+        take(rt, mib, &[(write, only(0), count)])?;
     }
     take(
-        &rt,
-        &mut mib,
+        rt,
+        mib,
         &[
             (write, only(0), 1),
             (create_vlan(0, 257), only(0), 2),
@@ -309,12 +333,16 @@ fn a_mib_reset_leaves_no_instance_and_sync_0(rt: HostRuntime) -> Result<(), Fail
             "table {number}"
         );
     }
-    take(&rt, &mut mib, &[(create_vlan(16, 257), only(1), 16)])
+    take(rt, mib, &[(create_vlan(16, 257), only(1), 16)])
 }
 
 #[test]
 fn attributes_are_shown_by_number(rt: HostRuntime) -> Result<(), Fail> {
     let mut mib = Mib::new(rt.alloc())?;
+    look_at_attributes(&rt, &mut mib)
+}
+
+fn look_at_attributes(rt: &impl Abort, mib: &mut Mib) -> Result<(), Fail> {
     let _ = mib.step(&create_gem_port(0x0401));
     for (class, instance, n, wanted) in [
         (268, 0x0401, 1, Some([4, 0].as_slice())),
@@ -342,6 +370,10 @@ fn attributes_are_shown_by_number(rt: HostRuntime) -> Result<(), Fail> {
 #[test]
 fn the_next_instance_is_the_least_that_is_not_under_a_number(rt: HostRuntime) -> Result<(), Fail> {
     let mut mib = set_up(rt.alloc())?;
+    look_for_instances(&rt, &mut mib)
+}
+
+fn look_for_instances(rt: &impl Abort, mib: &mut Mib) -> Result<(), Fail> {
     let _ = mib.step(&create_gem_port(0x0410));
     let _ = mib.step(&create_gem_port(0x0300));
     for (class, from, wanted) in [
@@ -367,6 +399,10 @@ fn the_next_instance_is_the_least_that_is_not_under_a_number(rt: HostRuntime) ->
 #[test]
 fn points_and_mappers_are_created_shown_and_deleted(rt: HostRuntime) -> Result<(), Fail> {
     let mut mib = Mib::new(rt.alloc())?;
+    create_and_delete(&rt, &mut mib)
+}
+
+fn create_and_delete(rt: &impl Abort, mib: &mut Mib) -> Result<(), Fail> {
     let mapper = Mapper {
         tp_pointer: 257,
         interwork_tp_pointers: [0x0501; 8],
@@ -388,8 +424,8 @@ fn points_and_mappers_are_created_shown_and_deleted(rt: HostRuntime) -> Result<(
         ..GemPort::default()
     };
     take(
-        &rt,
-        &mut mib,
+        rt,
+        mib,
         &[
             (create_interwork(0x0501), only(0), 1),
             (create_mapper(0x0601, 257, 0x0501), only(0), 2),
@@ -403,8 +439,8 @@ fn points_and_mappers_are_created_shown_and_deleted(rt: HostRuntime) -> Result<(
     assert_eq!(rt; mib.mapper_of_port(259), None);
     let again = request(Action::Create, 268, 0x0401, &[4, 0, 0x80, 1, 2]);
     take(
-        &rt,
-        &mut mib,
+        rt,
+        mib,
         &[
             (create_gem_port(0x0401), only(0), 4),
             (delete(268, 0x0401), only(0), 5),
@@ -424,6 +460,10 @@ fn points_and_mappers_are_created_shown_and_deleted(rt: HostRuntime) -> Result<(
 #[test]
 fn of_two_mappers_of_a_port_the_least_is_its_own(rt: HostRuntime) -> Result<(), Fail> {
     let mut mib = Mib::new(rt.alloc())?;
+    change_mappers(&rt, &mut mib)
+}
+
+fn change_mappers(rt: &impl Abort, mib: &mut Mib) -> Result<(), Fail> {
     let of_bridge = request(Action::Create, 130, 0x0500, &[1, 1]);
     for (change, wanted, what) in [
         (
@@ -459,6 +499,10 @@ fn of_two_mappers_of_a_port_the_least_is_its_own(rt: HostRuntime) -> Result<(), 
 #[test]
 fn of_two_tables_of_a_port_the_least_is_its_own(rt: HostRuntime) -> Result<(), Fail> {
     let mut mib = set_up(rt.alloc())?;
+    change_tables(&rt, &mut mib)
+}
+
+fn change_tables(rt: &impl Abort, mib: &mut Mib) -> Result<(), Fail> {
     let of_mapper = request(Action::Create, 171, 0x0600, &[1, 1, 1]);
     let entry = set_entry([0xf800_0000, 0xf800_0000, 0x000f_0000, 0x0000_0324]);
     for (change, wanted, what) in [
@@ -489,6 +533,10 @@ fn of_two_tables_of_a_port_the_least_is_its_own(rt: HostRuntime) -> Result<(), F
 #[test]
 fn a_port_without_a_table_of_its_own_has_that_of_its_mapper(rt: HostRuntime) -> Result<(), Fail> {
     let mut mib = set_up(rt.alloc())?;
+    take_the_table_away(&rt, &mut mib)
+}
+
+fn take_the_table_away(rt: &impl Abort, mib: &mut Mib) -> Result<(), Fail> {
     let _ = mib.step(&request(Action::Create, 171, 0x0700, &[1, 6, 1]));
     assert_eq!(rt; mib.table_of_port(257), Some(0x0701));
     let _ = mib.step(&delete(171, 0x0701));
@@ -505,6 +553,10 @@ fn a_port_without_a_table_of_its_own_has_that_of_its_mapper(rt: HostRuntime) -> 
 #[test]
 fn a_table_is_read_as_the_get_of_its_size_found_it(rt: HostRuntime) -> Result<(), Fail> {
     let mut mib = set_up(rt.alloc())?;
+    read_what_was_latched(&rt, &mut mib)
+}
+
+fn read_what_was_latched(rt: &impl Abort, mib: &mut Mib) -> Result<(), Fail> {
     let next = request(Action::GetNext, 171, 0x0701, &[4, 0, 0, 1]);
     assert_eq!(rt; mib.step(&next).contents, only(3), "nothing is latched");
     let _ = mib.step(&get(171, 0x0701, 0x0400));
@@ -521,6 +573,10 @@ fn a_table_is_read_as_the_get_of_its_size_found_it(rt: HostRuntime) -> Result<()
 #[test]
 fn a_class_has_room_of_its_own_and_a_deletion_gives_it_back(rt: HostRuntime) -> Result<(), Fail> {
     let mut mib = Mib::new(rt.alloc())?;
+    fill_two_classes(&rt, &mut mib)
+}
+
+fn fill_two_classes(rt: &impl Abort, mib: &mut Mib) -> Result<(), Fail> {
     for number in 0..32 {
         let reply = mib.step(&create_mapper(number, 257, 0x0501));
         assert_eq!(rt; reply.contents, only(0), "the answer to mapper {number}");
@@ -530,8 +586,8 @@ fn a_class_has_room_of_its_own_and_a_deletion_gives_it_back(rt: HostRuntime) -> 
         assert_eq!(rt; reply.contents, only(0), "the answer to point {number}");
     }
     take(
-        &rt,
-        &mut mib,
+        rt,
+        mib,
         &[
             (create_mapper(32, 257, 0x0501), only(1), 33),
             (create_interwork(256), only(1), 33),
@@ -546,6 +602,10 @@ fn a_class_has_room_of_its_own_and_a_deletion_gives_it_back(rt: HostRuntime) -> 
 #[test]
 fn a_table_holds_128_entries_and_overwrites_a_held_key(rt: HostRuntime) -> Result<(), Fail> {
     let mut mib = set_up(rt.alloc())?;
+    fill_a_table(&rt, &mut mib)
+}
+
+fn fill_a_table(rt: &impl Abort, mib: &mut Mib) -> Result<(), Fail> {
     for k in 1..=126 {
         let entry = set_entry([
             0xf800_0000,
@@ -563,8 +623,8 @@ fn a_table_holds_128_entries_and_overwrites_a_held_key(rt: HostRuntime) -> Resul
     }
     let again = set_entry([0xf800_0000, 0x803e_8000, 0xc00f_0000, 0x000f_0000]);
     take(
-        &rt,
-        &mut mib,
+        rt,
+        mib,
         &[
             (again, only(0), 130),
             (get(171, 0x0701, 0x0400), contents(&[0, 4, 0, 0, 0, 8]), 130),
@@ -577,6 +637,10 @@ fn a_table_holds_128_entries_and_overwrites_a_held_key(rt: HostRuntime) -> Resul
 #[test]
 fn a_refused_set_keeps_nothing(rt: HostRuntime) -> Result<(), Fail> {
     let mut mib = set_up(rt.alloc())?;
+    set_what_is_refused(&rt, &mut mib)
+}
+
+fn set_what_is_refused(rt: &impl Abort, mib: &mut Mib) -> Result<(), Fail> {
     let bad_vid = set_entry([0xf800_0000, 0xf800_0000, 0x000f_0000, 0x0000_7ffc]);
     let bad_priority = set_entry([0xf800_0000, 0x9800_0000, 0x000f_0000, 0x000f_0000]);
     let no_kind = set_entry([0x3800_0000, 0xe800_0000, 0x000f_0000, 0x000f_0000]);
@@ -586,8 +650,8 @@ fn a_refused_set_keeps_nothing(rt: HostRuntime) -> Result<(), Fail> {
     let ninth = contents(&[9, 0, 0x80, 0, 0]);
     let as_new = contents(&[0, 0x34, 0, 0x81, 0, 0x81, 0, 0, 0, 0, 0x30]);
     take(
-        &rt,
-        &mut mib,
+        rt,
+        mib,
         &[
             // A reserved VID to add, a reserved priority, priorities of no kind.
             (bad_vid, only(3), 4),
@@ -615,12 +679,16 @@ fn a_refused_set_keeps_nothing(rt: HostRuntime) -> Result<(), Fail> {
 #[test]
 fn each_class_is_written(rt: HostRuntime) -> Result<(), Fail> {
     let mut mib = set_up(rt.alloc())?;
+    set_in_each_class(&rt, &mut mib)
+}
+
+fn set_in_each_class(rt: &impl Abort, mib: &mut Mib) -> Result<(), Fail> {
     let vlan_values = [
         0x88, 0xa8, 0x91, 0, 0xf8, 0, 0, 0, 0xf8, 0, 0, 0, 0, 0x0f, 0, 0, 0, 0, 0x03, 0x24,
     ];
     take(
-        &rt,
-        &mut mib,
+        rt,
+        mib,
         &[
             (set(268, 0x0401, 0xa000, &[4, 1, 2]), only(0), 5),
             (set(266, 0x0501, 0x8100, &[4, 0x99, 7]), only(0), 6),
@@ -662,6 +730,16 @@ fn each_class_is_written(rt: HostRuntime) -> Result<(), Fail> {
 fn touch(rt: &impl Abort, alloc: Global, turns: &[(Request, u8, Touch)]) -> Result<(), Fail> {
     let mut mib = set_up(alloc)?;
     let mut same = set_up(alloc)?;
+    touch_both(rt, &mut mib, &mut same, turns)
+}
+
+/// The same in two that are there.
+fn touch_both(
+    rt: &impl Abort,
+    mib: &mut Mib,
+    same: &mut Mib,
+    turns: &[(Request, u8, Touch)],
+) -> Result<(), Fail> {
     for (at, (sent, result, touched)) in turns.iter().enumerate() {
         let (reply, touch) = mib.step_touching(sent);
         assert_eq!(rt; touch, *touched, "what turn {at} touches");
