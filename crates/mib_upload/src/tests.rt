@@ -2,6 +2,7 @@ use crate::{Desk, Shelf, law_of_rows};
 use mib_state::Mib;
 use omci_msg::{Action, OtherCode, Reply, Request};
 use std::alloc::{AllocError, Global};
+use std::process::Abort;
 use std::test::Fail;
 
 /// Contents that begin with these bytes.
@@ -93,6 +94,11 @@ const ROWS: [&[u8]; 7] = [
 #[test]
 fn rows_are_those_of_the_upload_whatever_is_created_later(rt: HostRuntime) -> Result<(), Fail> {
     let mut desk = set_up(rt.alloc())?;
+    upload_twice(&rt, &mut desk)
+}
+
+/// Uploads, creates an instance in between, and uploads again.
+fn upload_twice(rt: &impl Abort, desk: &mut Desk) -> Result<(), Fail> {
     let reply = desk.answer(&upload());
     let wanted = Reply {
         tci: 1,
@@ -121,6 +127,11 @@ fn rows_are_those_of_the_upload_whatever_is_created_later(rt: HostRuntime) -> Re
 #[test]
 fn before_an_upload_there_is_no_row(rt: HostRuntime) -> Result<(), Fail> {
     let mut desk = set_up(rt.alloc())?;
+    ask_before_an_upload(&rt, &mut desk)
+}
+
+/// Asks for rows before an upload.
+fn ask_before_an_upload(rt: &impl Abort, desk: &mut Desk) -> Result<(), Fail> {
     for n in [0, 1, 0xffff] {
         let reply = desk.answer(&upload_next(n));
         assert_eq!(rt; reply.contents, [0; 32], "row {n}");
@@ -131,6 +142,11 @@ fn before_an_upload_there_is_no_row(rt: HostRuntime) -> Result<(), Fail> {
 #[test]
 fn rows_outlive_a_mib_reset(rt: HostRuntime) -> Result<(), Fail> {
     let mut desk = set_up(rt.alloc())?;
+    upload_and_reset(&rt, &mut desk)
+}
+
+/// Uploads, resets the MIB, and uploads again.
+fn upload_and_reset(rt: &impl Abort, desk: &mut Desk) -> Result<(), Fail> {
     let mut unanswered = upload();
     unanswered.wants_answer = false;
     let _ = desk.answer(&unanswered);
@@ -153,6 +169,11 @@ fn rows_outlive_a_mib_reset(rt: HostRuntime) -> Result<(), Fail> {
 #[test]
 fn uploads_look_at_no_class_and_no_instance(rt: HostRuntime) -> Result<(), Fail> {
     let mut desk = set_up(rt.alloc())?;
+    upload_of_another_class(&rt, &mut desk)
+}
+
+/// Uploads with another class and instance.
+fn upload_of_another_class(rt: &impl Abort, desk: &mut Desk) -> Result<(), Fail> {
     let first = desk.answer(&request(Action::MibUpload, 45, 7, &[]));
     assert_eq!(rt; (first.class, first.instance), (45, 7));
     assert_eq!(rt; first.contents, contents(&[0, 7]));
@@ -165,6 +186,11 @@ fn uploads_look_at_no_class_and_no_instance(rt: HostRuntime) -> Result<(), Fail>
 #[test]
 fn the_sync_follows_255_by_1_and_a_reset_by_0(rt: HostRuntime) -> Result<(), Fail> {
     let mut desk = Desk::new(rt.alloc())?;
+    count_round(&rt, &mut desk)
+}
+
+/// Counts the sync round, and resets the MIB.
+fn count_round(rt: &impl Abort, desk: &mut Desk) -> Result<(), Fail> {
     let reset = request(Action::MibReset, 2, 0, &[]);
     let read = request(Action::Get, 2, 0, &[0x80, 0]);
     let write = request(Action::Set, 268, 0x0401, &[0x80, 0, 4, 0]);
@@ -184,6 +210,11 @@ fn the_sync_follows_255_by_1_and_a_reset_by_0(rt: HostRuntime) -> Result<(), Fai
 #[test]
 fn every_other_action_is_a_step_of_the_entities(rt: HostRuntime) -> Result<(), Fail> {
     let mut desk = set_up(rt.alloc())?;
+    ask_for_steps(&rt, &mut desk)
+}
+
+/// Asks for what is a step of the entities.
+fn ask_for_steps(rt: &impl Abort, desk: &mut Desk) -> Result<(), Fail> {
     for (request, wanted, what) in [
         (
             request(Action::Create, 45, 1, &[]),
@@ -234,6 +265,11 @@ fn every_other_action_is_a_step_of_the_entities(rt: HostRuntime) -> Result<(), F
 fn an_upload_of_all_that_there_may_be_has_609_rows(rt: HostRuntime) -> Result<(), Fail> {
     let mut mib = Mib::new(rt.alloc())?;
     let mut shelf = Shelf::new(rt.alloc())?;
+    upload_all(&rt, &mut mib, &mut shelf)
+}
+
+/// Creates as many instances as there may be, and uploads them twice.
+fn upload_all(rt: &impl Abort, mib: &mut Mib, shelf: &mut Shelf) -> Result<(), Fail> {
     assert_eq!(rt; shelf.row(0).is_none(), true, "a new shelf holds no row");
     for n in 0..256 {
         let _ = mib.step(&create_gem_port(n));
@@ -246,7 +282,7 @@ fn an_upload_of_all_that_there_may_be_has_609_rows(rt: HostRuntime) -> Result<()
         }
     }
     for what in ["the first upload", "the second upload"] {
-        assert_eq!(rt; shelf.fill(&mib), 609, "the rows of {what}");
+        assert_eq!(rt; shelf.fill(mib), 609, "the rows of {what}");
         for (n, class, instance, mask, len) in [
             (0, 2, 0, 0x8000, 1),
             (1, 130, 0, 0xffc0, 19),
