@@ -4,6 +4,7 @@ use mib_state::Mib;
 use omci_msg::{Action, Request};
 use serde_json::Value;
 use std::alloc::{AllocError, Global};
+use std::process::Abort;
 use std::test::Fail;
 
 /// A request whose contents begin with these bytes.
@@ -68,14 +69,18 @@ const EMPTY: &str = "ONU data (2) 0x0000\n  MIB data sync: 0\n";
 
 #[test]
 fn a_mib_is_written_by_class_and_instance(rt: HostRuntime) -> Result<(), Fail> {
-    let alloc = rt.alloc();
-    let mut mib = set_up(alloc)?;
+    let mut mib = set_up(rt.alloc())?;
+    write_and_reset(&rt, rt.alloc(), &mut mib)
+}
+
+/// Writes a MIB, resets it, and writes it again.
+fn write_and_reset(rt: &impl Abort, alloc: Global, mib: &mut Mib) -> Result<(), Fail> {
     let mut written = Vec::new(alloc);
-    write_mib(alloc, &mib, &mut written)?;
+    write_mib(alloc, mib, &mut written)?;
     assert_eq!(rt; written.as_slice(), TEXT.as_bytes());
     let _ = mib.step(&request(Action::MibReset, 2, 0, &[]));
     let mut written = Vec::new(alloc);
-    write_mib(alloc, &mib, &mut written)?;
+    write_mib(alloc, mib, &mut written)?;
     assert_eq!(rt; written.as_slice(), EMPTY.as_bytes());
     Ok(())
 }
@@ -83,10 +88,15 @@ fn a_mib_is_written_by_class_and_instance(rt: HostRuntime) -> Result<(), Fail> {
 #[test]
 fn a_writer_that_is_full_ends_a_text(rt: HostRuntime) -> Result<(), Fail> {
     let mib = set_up(rt.alloc())?;
+    write_in_little_room(&rt, rt.alloc(), &mib)
+}
+
+/// Writes a MIB to what has no room for it.
+fn write_in_little_room(rt: &impl Abort, alloc: Global, mib: &Mib) -> Result<(), Fail> {
     for room in 0..60 {
         let mut bytes = [0; 60];
         let mut writer = &mut bytes[..room];
-        let outcome = write_mib(rt.alloc(), &mib, &mut writer);
+        let outcome = write_mib(alloc, mib, &mut writer);
         assert_eq!(rt; outcome, Err(TextFault::Write), "{room} bytes");
         assert_eq!(rt; &bytes[..room], &TEXT.as_bytes()[..room]);
     }
@@ -105,6 +115,11 @@ fn read_back(alloc: Global, mib: &Mib) -> Result<Value, Fail> {
 fn json_is_read_back_with_what_the_mib_holds(rt: HostRuntime) -> Result<(), Fail> {
     let mib = set_up(rt.alloc())?;
     let value = read_back(rt.alloc(), &mib)?;
+    look_at_json(&rt, rt.alloc(), &value)
+}
+
+/// Looks at what was read back.
+fn look_at_json(rt: &impl Abort, alloc: Global, value: &Value) -> Result<(), Fail> {
     let table = "/entities/1/attributes/Received frame VLAN tagging operation table";
     for (path, wanted) in [
         ("/mib_data_sync", 3),
@@ -129,7 +144,7 @@ fn json_is_read_back_with_what_the_mib_holds(rt: HostRuntime) -> Result<(), Fail
             "remove no tag, add inner tag (priority 0, VID 100, TPID 0x8100, DEI 0)",
         ),
     ] {
-        let path = format!(in rt.alloc(); "{table}/3/{member}")?;
+        let path = format!(in alloc; "{table}/3/{member}")?;
         let found = value.pointer(&path).and_then(Value::as_str);
         assert_eq!(rt; found, Some(wanted), "{member}");
     }
