@@ -4,7 +4,8 @@ use crate::{
     TpidSource, Treatment, VidFilter, VidSource, law_of_choice,
 };
 use byteorder::{BigEndian, ByteOrder};
-use std::alloc::Global;
+use std::alloc::{AllocError, Global};
+use std::process::Abort;
 use std::test::Fail;
 use tag_view::view;
 
@@ -23,6 +24,17 @@ fn entry(key: u64, rest: u64) -> Entry {
     Entry(bytes)
 }
 
+/// A frame with these tags and the type behind them.
+fn frame(alloc: Global, tags: &[u32], ethertype: u16) -> Result<Vec<u8>, AllocError> {
+    let mut bytes = [2, 0, 0, 0, 0, 1, 2, 0, 0, 0, 0, 2].to_vec(alloc)?;
+    for tag in tags {
+        bytes.extend_from_slice(&tag.to_be_bytes())?;
+    }
+    bytes.extend_from_slice(&ethertype.to_be_bytes())?;
+    bytes.extend_from_slice(&[0x45, 0x00])?;
+    Ok(bytes)
+}
+
 /// The place of the entry that is used for a frame with these tags and the type behind them.
 fn used(
     table: &RuleTable,
@@ -31,12 +43,7 @@ fn used(
     tags: &[u32],
     ethertype: u16,
 ) -> Result<Option<usize>, Fail> {
-    let mut bytes = [2, 0, 0, 0, 0, 1, 2, 0, 0, 0, 0, 2].to_vec(alloc)?;
-    for tag in tags {
-        bytes.extend_from_slice(&tag.to_be_bytes())?;
-    }
-    bytes.extend_from_slice(&ethertype.to_be_bytes())?;
-    bytes.extend_from_slice(&[0x45, 0x00])?;
+    let bytes = frame(alloc, tags, ethertype)?;
     let frame = view(&bytes, input_tpid)?;
     Ok(table.walk(&frame, input_tpid))
 }
@@ -323,10 +330,9 @@ fn the_rank_is_that_of_the_key_and_the_kind(rt: HostRuntime) -> Result<(), Fail>
     Ok(())
 }
 
-#[test]
-fn the_first_entry_of_least_rank_is_used(rt: HostRuntime) -> Result<(), Fail> {
-    let mut table = RuleTable::new(rt.alloc())?;
-    let untagged = used(&table, rt.alloc(), 0x8100, &[], 0x0800)?;
+/// Looks which entry is used where several match.
+fn look_by_rank(rt: &impl Abort, alloc: Global, table: &mut RuleTable) -> Result<(), Fail> {
+    let untagged = used(table, alloc, 0x8100, &[], 0x0800)?;
     assert_eq!(rt; untagged, Some(0), "the first predefined entry");
     let default = table.put(entry(0xf8000000_e8000000, DROPPED));
     assert_eq!(rt; default, Ok(Put::Added));
@@ -340,20 +346,25 @@ fn the_first_entry_of_least_rank_is_used(rt: HostRuntime) -> Result<(), Fail> {
         ("two tags", &double[..], Some(2)),
     ];
     for (what, tags, place) in rows {
-        let found = used(&table, rt.alloc(), 0x8100, tags, 0x0800)?;
+        let found = used(table, alloc, 0x8100, tags, 0x0800)?;
         assert_eq!(rt; found, place, "{what}");
     }
     let deletion = entry(0xe0000000_e0000000, DELETION);
     assert_eq!(rt; table.put(deletion), Ok(Put::Deleted));
-    let found = used(&table, rt.alloc(), 0x8100, &double, 0x0800)?;
+    let found = used(table, alloc, 0x8100, &double, 0x0800)?;
     assert_eq!(rt; found, None, "two tags, of which no entry is left");
     assert_eq!(rt; table.put(deletion), Ok(Put::Absent));
     Ok(())
 }
 
 #[test]
-fn a_deleted_key_set_again_goes_last(rt: HostRuntime) -> Result<(), Fail> {
+fn the_first_entry_of_least_rank_is_used(rt: HostRuntime) -> Result<(), Fail> {
     let mut table = RuleTable::new(rt.alloc())?;
+    look_by_rank(&rt, rt.alloc(), &mut table)
+}
+
+/// Sets, rewrites and deletes two keys, and looks which entry is used then.
+fn look_at_order(rt: &impl Abort, alloc: Global, table: &mut RuleTable) -> Result<(), Fail> {
     let (a, b) = (0xf8000000_f8000000, 0xf8000000_f8000001);
     let first = entry(a, 0x000f0000_00000324);
     let second = entry(b, 0x000f0000_00000644);
@@ -375,7 +386,7 @@ fn a_deleted_key_set_again_goes_last(rt: HostRuntime) -> Result<(), Fail> {
     for (what, put, told, used_entry) in rows {
         assert_eq!(rt; table.check(&put), Ok(told), "{what}");
         assert_eq!(rt; table.put(put), Ok(told), "{what}");
-        let place = used(&table, rt.alloc(), 0x8100, &[], 0x0800)?;
+        let place = used(table, alloc, 0x8100, &[], 0x0800)?;
         assert_eq!(rt; place, Some(3), "{what}");
         assert_eq!(rt; table.entry(3), Some(used_entry), "{what}");
     }
@@ -388,8 +399,13 @@ fn a_deleted_key_set_again_goes_last(rt: HostRuntime) -> Result<(), Fail> {
 }
 
 #[test]
-fn a_full_table_takes_only_the_keys_that_it_holds(rt: HostRuntime) -> Result<(), Fail> {
+fn a_deleted_key_set_again_goes_last(rt: HostRuntime) -> Result<(), Fail> {
     let mut table = RuleTable::new(rt.alloc())?;
+    look_at_order(&rt, rt.alloc(), &mut table)
+}
+
+/// Fills a table, and looks what it takes then.
+fn look_at_full(rt: &impl Abort, table: &mut RuleTable) {
     for vid in 1..126 {
         let put = table.put(entry(0xf8000000_80000000 + vid * 32768, UNCHANGED));
         assert_eq!(rt; put, Ok(Put::Added), "VID {vid}");
@@ -410,12 +426,17 @@ fn a_full_table_takes_only_the_keys_that_it_holds(rt: HostRuntime) -> Result<(),
     assert_eq!(rt; table.entry(0), Some(entry(0xf0000000_f0000000, UNCHANGED)));
     assert_eq!(rt; table.entry(1), Some(entry(0xf0000000_e0000000, UNCHANGED)));
     assert_eq!(rt; table.entry(2), Some(entry(0xe0000000_e0000000, UNCHANGED)));
-    Ok(())
 }
 
 #[test]
-fn a_refused_entry_leaves_the_table(rt: HostRuntime) -> Result<(), Fail> {
+fn a_full_table_takes_only_the_keys_that_it_holds(rt: HostRuntime) -> Result<(), Fail> {
     let mut table = RuleTable::new(rt.alloc())?;
+    look_at_full(&rt, &mut table);
+    Ok(())
+}
+
+/// Puts entries that are refused.
+fn look_at_refused(rt: &impl Abort, table: &mut RuleTable) {
     let rows = [
         (
             0xf8000000_f8000000,
@@ -432,12 +453,17 @@ fn a_refused_entry_leaves_the_table(rt: HostRuntime) -> Result<(), Fail> {
         let deleted = table.put(entry(key, DELETION));
         assert_eq!(rt; deleted, Ok(Put::Absent), "a deletion isn't checked");
     }
-    Ok(())
 }
 
 #[test]
-fn each_kind_takes_the_frames_of_its_number_of_tags(rt: HostRuntime) -> Result<(), Fail> {
+fn a_refused_entry_leaves_the_table(rt: HostRuntime) -> Result<(), Fail> {
     let mut table = RuleTable::new(rt.alloc())?;
+    look_at_refused(&rt, &mut table);
+    Ok(())
+}
+
+/// Looks which entry is used for frames with none to three tags.
+fn look_at_kinds(rt: &impl Abort, alloc: Global, table: &mut RuleTable) -> Result<(), Fail> {
     let keys = [
         0xf8000000_f8000004,
         0xf8000000_80320000,
@@ -472,10 +498,16 @@ fn each_kind_takes_the_frames_of_its_number_of_tags(rt: HostRuntime) -> Result<(
         ),
     ];
     for (what, tags, ethertype, place) in rows {
-        let found = used(&table, rt.alloc(), 0x8100, tags, ethertype)?;
+        let found = used(table, alloc, 0x8100, tags, ethertype)?;
         assert_eq!(rt; found, Some(place), "{what}");
     }
     Ok(())
+}
+
+#[test]
+fn each_kind_takes_the_frames_of_its_number_of_tags(rt: HostRuntime) -> Result<(), Fail> {
+    let mut table = RuleTable::new(rt.alloc())?;
+    look_at_kinds(&rt, rt.alloc(), &mut table)
 }
 
 /// Whether an entry of this key, beside the predefined ones, is used for a frame.
