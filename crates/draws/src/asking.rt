@@ -1,20 +1,30 @@
 //! Requests by what they ask.
 use omci_msg::{Action, Request};
 
-/// A request whose contents begin with these bytes.
-pub fn request(action: Action, class: u16, instance: u16, bytes: &[u8]) -> Request {
+/// Contents that begin with these bytes.
+pub fn contents(bytes: &[u8]) -> [u8; 32] {
     let mut contents = [0; 32];
     for (to, from) in contents.iter_mut().zip(bytes) {
         *to = *from;
     }
+    contents
+}
+
+/// A request with identifier 1, whose contents begin with these bytes.
+pub fn request(action: Action, class: u16, instance: u16, bytes: &[u8]) -> Request {
     Request {
         tci: 1,
         action,
         wants_answer: true,
         class,
         instance,
-        contents,
+        contents: contents(bytes),
     }
+}
+
+/// The deletion of an instance.
+pub fn delete(class: u16, instance: u16) -> Request {
+    request(Action::Delete, class, instance, &[])
 }
 
 /// A Set of the attributes of a mask.

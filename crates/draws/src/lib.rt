@@ -14,7 +14,9 @@ mod messages;
 mod standing;
 mod wild;
 
-pub use asking::{create_gem_port, create_interwork, create_mapper, create_table, request, set};
+pub use asking::{
+    contents, create_gem_port, create_interwork, create_mapper, create_table, delete, request, set,
+};
 pub use draws::Draws;
 pub use frame::{DOUBLE, UNTAGGED};
 pub use messages::PORTS;

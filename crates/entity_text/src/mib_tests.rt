@@ -1,27 +1,12 @@
 //! What a MIB holds, as text and as JSON.
 use crate::{TextFault, write_mib, write_mib_json};
+use draws::request;
 use mib_state::Mib;
-use omci_msg::{Action, Request};
+use omci_msg::Action;
 use serde_json::Value;
 use std::alloc::{AllocError, Global};
 use std::process::Abort;
 use std::test::Fail;
-
-/// A request whose contents begin with these bytes.
-fn request(action: Action, class: u16, instance: u16, bytes: &[u8]) -> Request {
-    let mut contents = [0; 32];
-    for (to, from) in contents.iter_mut().zip(bytes) {
-        *to = *from;
-    }
-    Request {
-        tci: 1,
-        action,
-        wants_answer: true,
-        class,
-        instance,
-        contents,
-    }
-}
 
 /// A GEM port network CTP, and a table of port 257 that gives a frame without a tag VID 100.
 fn set_up(alloc: Global) -> Result<Mib, AllocError> {

@@ -1,29 +1,14 @@
 //! The table in force at a port, as text and as JSON.
 use crate::reading::{check_number, check_words, read_back};
 use crate::{write_rules, write_rules_json};
+use draws::request;
 use entity_text::TextFault;
 use mib_state::Mib;
-use omci_msg::{Action, Request};
+use omci_msg::Action;
 use serde_json::Value;
 use std::alloc::{AllocError, Global};
 use std::process::Abort;
 use std::test::Fail;
-
-/// A request whose contents begin with these bytes.
-fn request(action: Action, class: u16, instance: u16, bytes: &[u8]) -> Request {
-    let mut contents = [0; 32];
-    for (to, from) in contents.iter_mut().zip(bytes) {
-        *to = *from;
-    }
-    Request {
-        tci: 1,
-        action,
-        wants_answer: true,
-        class,
-        instance,
-        contents,
-    }
-}
 
 /// What makes port 257: a GEM port, an interworking point, a mapper whose pointers all lead to it but that of priority 7, which is
 /// null, and a table with an entry that gives a frame without a tag VID 100, and behind it one that drops such a frame of IPv4.

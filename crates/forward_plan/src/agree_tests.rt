@@ -73,12 +73,8 @@ fn compare(rt: &impl Abort, plans: &Plans, port: u16, frames: &[Vec<u8>], seen: 
 }
 
 /// Sends drawn messages, and compares the verdicts on drawn frames after each.
-fn agree(
-    rt: &impl Abort,
-    alloc: Global,
-    plans: &mut Plans,
-    seen: &mut Seen,
-) -> Result<(), AllocError> {
+fn agree(rt: &impl Abort, alloc: Global, plans: &mut Plans) -> Result<Seen, AllocError> {
+    let mut seen = Seen::default();
     let mut draws = Draws::new();
     for message in 0..MESSAGES {
         let request = draws.request();
@@ -87,10 +83,10 @@ fn agree(
         plans.anew.recompile();
         let frames = draws.frames(alloc, FRAMES, message % 27)?;
         for port in PORTS {
-            compare(rt, plans, port, &frames, seen);
+            compare(rt, plans, port, &frames, &mut seen);
         }
     }
-    Ok(())
+    Ok(seen)
 }
 
 /// Checks that something was seen often.
@@ -100,15 +96,19 @@ fn are_frequent(rt: &impl Abort, counts: &[u32], what: &str) {
     }
 }
 
+/// Sends messages, and checks that frames left with each number of tags and were dropped for each reason then.
+fn agree_on_all(rt: &impl Abort, alloc: Global, plans: &mut Plans) -> Result<(), AllocError> {
+    let seen = agree(rt, alloc, plans)?;
+    are_frequent(rt, &seen.tags, "number of tags");
+    are_frequent(rt, &seen.reasons[1..], "reason but one");
+    Ok(())
+}
+
 #[test]
 fn verdicts_are_those_of_the_plain_walk_after_each_message(rt: HostRuntime) -> Result<(), Fail> {
-    let mut plans = Plans {
-        live: Live::new(rt.alloc())?,
-        anew: Live::new(rt.alloc())?,
-    };
-    let mut seen = Seen::default();
-    agree(&rt, rt.alloc(), &mut plans, &mut seen)?;
-    are_frequent(&rt, &seen.tags, "number of tags");
-    are_frequent(&rt, &seen.reasons[1..], "reason but one");
+    let live = Live::new(rt.alloc())?;
+    let anew = Live::new(rt.alloc())?;
+    let mut plans = Plans { live, anew };
+    agree_on_all(&rt, rt.alloc(), &mut plans)?;
     Ok(())
 }

@@ -1,7 +1,8 @@
 use crate::agree_tests::parts;
 use crate::{Live, NoMemory, Reason, Verdict};
 use draws::{
-    DOUBLE, UNTAGGED, create_gem_port, create_interwork, create_mapper, create_table, request, set,
+    DOUBLE, UNTAGGED, create_gem_port, create_interwork, create_mapper, create_table, delete,
+    request, set,
 };
 use omci_msg::{Action, Request};
 use std::alloc::Global;
@@ -43,6 +44,20 @@ fn left(alloc: Global, verdict: &Verdict) -> Result<Vec<u8>, NoMemory> {
     Ok(bytes)
 }
 
+/// Checks that by each of some verdicts certain bytes leave through port-ID 1024.
+fn check_verdicts(
+    rt: &impl Abort,
+    alloc: Global,
+    verdicts: &[Verdict],
+    bytes: &[u8],
+) -> Result<(), NoMemory> {
+    for verdict in verdicts {
+        assert_eq!(rt; parts(verdict).map(|parts| parts.0), Ok(1024));
+        assert_eq!(rt; left(alloc, verdict)?.as_slice(), bytes);
+    }
+    Ok(())
+}
+
 /// Checks that a frame leaves port 257 through port-ID 1024 with certain bytes, by each call for it.
 fn check_left(
     rt: &impl Abort,
@@ -52,15 +67,12 @@ fn check_left(
     bytes: &[u8],
 ) -> Result<(), NoMemory> {
     let plan = live.port(257);
+    let forwarded = [plan.forward(frame), live.forward(257, frame)];
+    check_verdicts(rt, alloc, &forwarded, bytes)?;
     let mut verdicts = Vec::with_capacity(alloc, 1)?;
     plan.push(frame, &mut verdicts);
     assert_eq!(rt; verdicts.len(), 1);
-    let forwarded = [plan.forward(frame), live.forward(257, frame)];
-    for verdict in verdicts.iter().chain(&forwarded) {
-        assert_eq!(rt; parts(verdict).map(|parts| parts.0), Ok(1024));
-        assert_eq!(rt; left(alloc, verdict)?.as_slice(), bytes);
-    }
-    Ok(())
+    check_verdicts(rt, alloc, &verdicts, bytes)
 }
 
 /// A frame leaves with the tag of its table.
@@ -115,11 +127,6 @@ fn follow(rt: &impl Abort, live: &mut Live, steps: &[Step]) {
         live.recompile();
         assert_eq!(rt; word_left(live), *left, "{sent:?}, compiled anew");
     }
-}
-
-/// A deletion.
-fn delete(class: u16, instance: u16) -> Request {
-    request(Action::Delete, class, instance, &[])
 }
 
 /// A table is compiled where it was set or comes, and moves where another comes before it. One that is set to point to another
@@ -192,15 +199,21 @@ fn steps_of_a_table_of_a_mapper() -> [Step; 8] {
     ]
 }
 
+/// Frames leave by the plan as the entities say, after each change of these.
+fn look_at_changes(rt: &impl Abort, alloc: Global, live: &mut Live) -> Result<(), NoMemory> {
+    check_tagging(rt, alloc, live)?;
+    check_drops(rt, live);
+    live.recompile();
+    assert_eq!(rt; live.rebuilt(), (1, 1));
+    follow(rt, live, &table_steps());
+    follow(rt, live, &route_steps());
+    follow(rt, live, &steps_of_a_table_of_a_mapper());
+    Ok(())
+}
+
 #[test]
 fn a_plan_follows_its_entities_where_they_change(rt: HostRuntime) -> Result<(), Fail> {
     let mut live = Live::new(rt.alloc())?;
-    check_tagging(&rt, rt.alloc(), &mut live)?;
-    check_drops(&rt, &live);
-    live.recompile();
-    assert_eq!(rt; live.rebuilt(), (1, 1));
-    follow(&rt, &mut live, &table_steps());
-    follow(&rt, &mut live, &route_steps());
-    follow(&rt, &mut live, &steps_of_a_table_of_a_mapper());
+    look_at_changes(&rt, rt.alloc(), &mut live)?;
     Ok(())
 }

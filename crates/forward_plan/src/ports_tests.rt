@@ -59,11 +59,8 @@ fn compare(rt: &impl Abort, ports: &Ports, mib: &Mib, when: &str) {
     }
 }
 
-#[test]
-fn tables_and_mappers_are_attached_by_their_places(rt: HostRuntime) -> Result<(), Fail> {
-    let mib = set_up(rt.alloc())?;
-    let mut ports = Ports::new(rt.alloc())?;
-    ports.compile(&mib);
+/// Checks what is attached to the ports of `set_up`.
+fn check_places(rt: &impl Abort, ports: &Ports) {
     for (port, table, mapper, what) in [
         (0, NONE, NONE, "nothing points to it"),
         (257, 0, 0, "of two mappers the least"),
@@ -79,6 +76,14 @@ fn tables_and_mappers_are_attached_by_their_places(rt: HostRuntime) -> Result<()
             "port {port}: {what}"
         );
     }
+}
+
+#[test]
+fn tables_and_mappers_are_attached_by_their_places(rt: HostRuntime) -> Result<(), Fail> {
+    let mib = set_up(rt.alloc())?;
+    let mut ports = Ports::new(rt.alloc())?;
+    ports.compile(&mib);
+    check_places(&rt, &ports);
     compare(&rt, &ports, &mib, "compiled");
     Ok(())
 }
@@ -93,39 +98,36 @@ fn follow(rt: &impl Abort, ports: &mut Ports, mib: &mut Mib, sent: &Request)
     compare(rt, ports, mib, "followed");
 }
 
+/// What is attached follows each change, and is the same compiled again.
+fn follow_all(rt: &impl Abort, ports: &mut Ports, mib: &mut Mib) {
+    ports.compile(mib);
+    let unmapped = [0x80, 0, 1, 3];
+    let of_a_mapper = [0x82, 0, 2, 1, 4];
+    follow(rt, ports, mib, &request(Action::Delete, 130, 0x0601, &[]));
+    follow(rt, ports, mib, &request(Action::Delete, 171, 0x0703, &[]));
+    follow(rt, ports, mib, &create_mapper(0x0606, 1, 262));
+    follow(rt, ports, mib, &create_table(0x0700, 2, 0));
+    follow(
+        rt,
+        ports,
+        mib,
+        &request(Action::Set, 130, 0x0603, &unmapped),
+    );
+    follow(
+        rt,
+        ports,
+        mib,
+        &request(Action::Set, 171, 0x0702, &of_a_mapper),
+    );
+    ports.compile(mib);
+    compare(rt, ports, mib, "compiled again");
+}
+
 #[test]
 fn what_is_attached_follows_the_entities(rt: HostRuntime) -> Result<(), Fail> {
     let mut mib = set_up(rt.alloc())?;
     let mut ports = Ports::new(rt.alloc())?;
     compare(&rt, &ports, &Mib::new(rt.alloc())?, "new");
-    ports.compile(&mib);
-    follow(
-        &rt,
-        &mut ports,
-        &mut mib,
-        &request(Action::Delete, 130, 0x0601, &[]),
-    );
-    follow(
-        &rt,
-        &mut ports,
-        &mut mib,
-        &request(Action::Delete, 171, 0x0703, &[]),
-    );
-    follow(&rt, &mut ports, &mut mib, &create_mapper(0x0606, 1, 262));
-    follow(&rt, &mut ports, &mut mib, &create_table(0x0700, 2, 0));
-    follow(
-        &rt,
-        &mut ports,
-        &mut mib,
-        &request(Action::Set, 130, 0x0603, &[0x80, 0, 1, 3]),
-    );
-    follow(
-        &rt,
-        &mut ports,
-        &mut mib,
-        &request(Action::Set, 171, 0x0702, &[0x82, 0, 2, 1, 4]),
-    );
-    ports.compile(&mib);
-    compare(&rt, &ports, &mib, "compiled again");
+    follow_all(&rt, &mut ports, &mut mib);
     Ok(())
 }

@@ -1,31 +1,11 @@
 use crate::{Mib, Touch};
+use draws::{contents, create_interwork, create_table, delete, request, set};
 use omci_msg::{Action, OtherCode, Reply, Request};
 use pmapper::{GemPort, Interwork, Mapper};
 use std::alloc::{AllocError, Global};
 use std::process::Abort;
 use std::test::Fail;
 use tag_view::DscpMap;
-
-/// Contents that begin with these bytes.
-fn contents(bytes: &[u8]) -> [u8; 32] {
-    let mut contents = [0; 32];
-    for (to, from) in contents.iter_mut().zip(bytes) {
-        *to = *from;
-    }
-    contents
-}
-
-/// A request with identifier 1, whose contents begin with these bytes.
-fn request(action: Action, class: u16, instance: u16, bytes: &[u8]) -> Request {
-    Request {
-        tci: 1,
-        action,
-        wants_answer: true,
-        class,
-        instance,
-        contents: contents(bytes),
-    }
-}
 
 /// The contents of the answer to a Get: its first bytes, and the two masks behind the values.
 fn got(first: &[u8], masks: [u8; 4]) -> [u8; 32] {
@@ -39,49 +19,19 @@ fn get(class: u16, instance: u16, mask: u16) -> Request {
     request(Action::Get, class, instance, &mask.to_be_bytes())
 }
 
-/// The deletion of an instance.
-fn delete(class: u16, instance: u16) -> Request {
-    request(Action::Delete, class, instance, &[])
-}
-
 /// The creation of a GEM port network CTP: port-ID 1024, T-CONT 0x8001, both directions.
 fn create_gem_port(instance: u16) -> Request {
     request(Action::Create, 268, instance, &[4, 0, 0x80, 1, 3])
 }
 
-/// The creation of a GEM interworking termination point to GEM port network CTP 0x0401.
-fn create_interwork(instance: u16) -> Request {
-    request(Action::Create, 266, instance, &[4, 1, 5, 6, 1])
-}
-
 /// The creation of a mapper of a port, whose pointers are all the same; option 1, default 0, TP type 1.
 fn create_mapper(instance: u16, port: u16, pointer: u16) -> Request {
-    let [port_high, port_low] = port.to_be_bytes();
-    let [high, low] = pointer.to_be_bytes();
-    request(
-        Action::Create,
-        130,
-        instance,
-        &[
-            port_high, port_low, high, low, high, low, high, low, high, low, high, low, high, low,
-            high, low, high, low, 1, 0, 1,
-        ],
-    )
+    draws::create_mapper(instance, port, [pointer; 8], 0)
 }
 
 /// The creation of an extended VLAN tagging operation configuration data of a port.
 fn create_vlan(instance: u16, port: u16) -> Request {
-    let [high, low] = port.to_be_bytes();
-    request(Action::Create, 171, instance, &[2, high, low])
-}
-
-/// A Set of the attributes of a mask.
-fn set(class: u16, instance: u16, mask: u16, values: &[u8]) -> Request {
-    let mut set = request(Action::Set, class, instance, &mask.to_be_bytes());
-    for (to, from) in set.contents[2..].iter_mut().zip(values) {
-        *to = *from;
-    }
-    set
+    create_table(instance, 2, port)
 }
 
 /// A Set of an entry of table 0x0701, by its four words.

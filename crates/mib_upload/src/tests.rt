@@ -1,30 +1,10 @@
 use crate::{Desk, Shelf, law_of_rows};
+use draws::{contents, create_interwork, create_table, request};
 use mib_state::Mib;
 use omci_msg::{Action, OtherCode, Reply, Request};
 use std::alloc::{AllocError, Global};
 use std::process::Abort;
 use std::test::Fail;
-
-/// Contents that begin with these bytes.
-fn contents(bytes: &[u8]) -> [u8; 32] {
-    let mut contents = [0; 32];
-    for (to, from) in contents.iter_mut().zip(bytes) {
-        *to = *from;
-    }
-    contents
-}
-
-/// A request with identifier 1, whose contents begin with these bytes.
-fn request(action: Action, class: u16, instance: u16, bytes: &[u8]) -> Request {
-    Request {
-        tci: 1,
-        action,
-        wants_answer: true,
-        class,
-        instance,
-        contents: contents(bytes),
-    }
-}
 
 /// A MIB upload.
 fn upload() -> Request {
@@ -41,26 +21,14 @@ fn create_gem_port(instance: u16) -> Request {
     request(Action::Create, 268, instance, &[4, 0, 0x80, 1, 3])
 }
 
-/// The creation of a GEM interworking termination point to GEM port network CTP 0x0401.
-fn create_interwork(instance: u16) -> Request {
-    request(Action::Create, 266, instance, &[4, 1, 5, 6, 1])
-}
-
 /// The creation of a mapper of port 257, whose pointers are all 0x0501; option 1, default 0, TP type 1.
 fn create_mapper(instance: u16) -> Request {
-    request(
-        Action::Create,
-        130,
-        instance,
-        &[
-            1, 1, 5, 1, 5, 1, 5, 1, 5, 1, 5, 1, 5, 1, 5, 1, 5, 1, 1, 0, 1,
-        ],
-    )
+    draws::create_mapper(instance, 257, [0x0501; 8], 0)
 }
 
 /// The creation of an extended VLAN tagging operation configuration data of port 257.
 fn create_vlan(instance: u16) -> Request {
-    request(Action::Create, 171, instance, &[2, 1, 1])
+    create_table(instance, 2, 257)
 }
 
 /// A port, 257, with its GEM port network CTP, interworking termination point, mapper and table.
