@@ -248,11 +248,10 @@ fn forwarded<R: Threads + Sync>(
     Ok((verdicts.len(), tagged(&verdicts)))
 }
 
-/// Lists of frames, short ones, and the longest that there may be.
-fn forward_lists<R: Wait + Threads + Abort + Sync>(rt: &R, alloc: Global, held: &Held<'_>) {
+/// A list with a runt between two frames, and an empty one.
+fn forward_short<R: Wait + Threads + Abort + Sync>(rt: &R, alloc: Global, held: &Held<'_>) {
     let short = [UNTAGGED.as_slice(), SHORT.as_slice(), UNTAGGED.as_slice()];
-    let verdicts = forward_all(rt, alloc, held, 257, &short);
-    let as_meant = match &verdicts {
+    let as_meant = match &forward_all(rt, alloc, held, 257, &short) {
         Ok(verdicts) => match verdicts.as_slice() {
             [first, Verdict::Drop(Reason::Runt), last] => is_tagged(first) && is_tagged(last),
             _ => false,
@@ -261,9 +260,24 @@ fn forward_lists<R: Wait + Threads + Abort + Sync>(rt: &R, alloc: Global, held: 
     };
     assert!(rt; as_meant, "a runt between two frames");
     assert_eq!(rt; forwarded(rt, alloc, held, &[]), Ok((0, 0)));
+}
+
+/// A list of as many frames as a batch may have.
+fn forward_most<R: Wait + Threads + Abort + Sync>(
+    rt: &R,
+    alloc: Global,
+    held: &Held<'_>,
+    most: &[&[u8]],
+) {
+    assert_eq!(rt; forwarded(rt, alloc, held, most), Ok((65_536, 65_536)));
+    assert!(rt; counts_of_most(rt, alloc, held, most), "counts");
+}
+
+/// Lists of frames, short ones, and the longest that there may be.
+fn forward_lists<R: Wait + Threads + Abort + Sync>(rt: &R, alloc: Global, held: &Held<'_>) {
+    forward_short(rt, alloc, held);
     if let Some(most) = repeated(alloc, &UNTAGGED, 65_536) {
-        assert_eq!(rt; forwarded(rt, alloc, held, &most), Ok((65_536, 65_536)));
-        assert!(rt; counts_of_most(rt, alloc, held, &most), "counts");
+        forward_most(rt, alloc, held, &most);
     }
     if let Some(more) = repeated(alloc, &UNTAGGED, 65_537) {
         let refused = Err(BatchFault::TooMany(65_537));
@@ -287,42 +301,44 @@ fn counts_of_most<R: Threads + Sync>(
     }
 }
 
+/// The numbers of batches that are gathered, how many there should be, and what comes of it: how many, and whether in order.
+const CASES: [(&str, &[u32], u32, Outcome); 16] = [
+    ("both", &[1, 0], 2, Ok((2, true))),
+    ("one twice", &[0, 0], 2, Err(GatherFault::Double(0))),
+    ("one too high", &[0, 2], 2, Err(GatherFault::Stranger(2))),
+    ("the first missing", &[1], 2, Err(GatherFault::Missing(0))),
+    ("none of none", &[], 0, Ok((0, true))),
+    (
+        "too high, then twice",
+        &[2, 0, 0],
+        2,
+        Err(GatherFault::Stranger(2)),
+    ),
+    (
+        "twice, then too high",
+        &[0, 0, 2],
+        2,
+        Err(GatherFault::Double(0)),
+    ),
+    (
+        "too high and missing",
+        &[0, 3],
+        3,
+        Err(GatherFault::Stranger(3)),
+    ),
+    ("two missing", &[2], 3, Err(GatherFault::Missing(0))),
+    ("one of none", &[0], 0, Err(GatherFault::Stranger(0))),
+    ("0, 1, 2", &[0, 1, 2], 3, Ok((3, true))),
+    ("0, 2, 1", &[0, 2, 1], 3, Ok((3, true))),
+    ("1, 0, 2", &[1, 0, 2], 3, Ok((3, true))),
+    ("1, 2, 0", &[1, 2, 0], 3, Ok((3, true))),
+    ("2, 0, 1", &[2, 0, 1], 3, Ok((3, true))),
+    ("2, 1, 0", &[2, 1, 0], 3, Ok((3, true))),
+];
+
 /// Reports, and their tallies, in every order, twice, of no batch and missing.
 fn gather_reports<R: Abort>(rt: &R, alloc: Global, held: &Held<'_>) {
-    let cases: [(&str, &[u32], u32, Outcome); 16] = [
-        ("both", &[1, 0], 2, Ok((2, true))),
-        ("one twice", &[0, 0], 2, Err(GatherFault::Double(0))),
-        ("one too high", &[0, 2], 2, Err(GatherFault::Stranger(2))),
-        ("the first missing", &[1], 2, Err(GatherFault::Missing(0))),
-        ("none of none", &[], 0, Ok((0, true))),
-        (
-            "too high, then twice",
-            &[2, 0, 0],
-            2,
-            Err(GatherFault::Stranger(2)),
-        ),
-        (
-            "twice, then too high",
-            &[0, 0, 2],
-            2,
-            Err(GatherFault::Double(0)),
-        ),
-        (
-            "too high and missing",
-            &[0, 3],
-            3,
-            Err(GatherFault::Stranger(3)),
-        ),
-        ("two missing", &[2], 3, Err(GatherFault::Missing(0))),
-        ("one of none", &[0], 0, Err(GatherFault::Stranger(0))),
-        ("0, 1, 2", &[0, 1, 2], 3, Ok((3, true))),
-        ("0, 2, 1", &[0, 2, 1], 3, Ok((3, true))),
-        ("1, 0, 2", &[1, 0, 2], 3, Ok((3, true))),
-        ("1, 2, 0", &[1, 2, 0], 3, Ok((3, true))),
-        ("2, 0, 1", &[2, 0, 1], 3, Ok((3, true))),
-        ("2, 1, 0", &[2, 1, 0], 3, Ok((3, true))),
-    ];
-    for (what, batches, count, expected) in &cases {
+    for (what, batches, count, expected) in &CASES {
         assert_eq!(rt;
             gathered(alloc, held, batches, *count),
             Some(*expected),
@@ -397,6 +413,47 @@ enum Scene {
     MeetInTurn,
 }
 
+/// Plays a scene by what a lane that may enter version 5 holds.
+fn with_held<R: Wait + Threads + Abort + Sync>(
+    rt: &R,
+    alloc: Global,
+    lane: &mut Lane,
+    scene: Scene,
+) {
+    let Some(held) = lane.enter() else {
+        return;
+    };
+    match scene {
+        Scene::ForwardLists => forward_lists(rt, alloc, &held),
+        Scene::GatherReports => gather_reports(rt, alloc, &held),
+        _ => assert!(rt; same_counts(alloc, &held), "counts of tallies"),
+    }
+}
+
+/// Two lanes that may enter version 5 meet on two threads.
+fn meet_on_threads<R: Wait + Threads + Abort + Sync>(
+    rt: &R,
+    alloc: Global,
+    zero: Lane,
+    one: Lane,
+    gate: &Meeting,
+) {
+    let (first, second) = join(
+        rt,
+        move || meet(alloc, zero, gate, 10_000_000),
+        move || meet(alloc, one, gate, 10_000_000),
+    );
+    assert_eq!(rt; (first, second), (Some(Ok(0)), Some(Ok(1))));
+}
+
+/// Two lanes that may enter version 5 forward one after the other: the first waits for the second in vain.
+fn meet_in_turn(rt: &impl Abort, alloc: Global, zero: Lane, one: Lane, gate: &Meeting) {
+    let first = meet(alloc, zero, gate, 1_000);
+    let second = meet(alloc, one, gate, 1_000);
+    assert_eq!(rt; first, Some(Err(BatchFault::Stalled)));
+    assert_eq!(rt; second, Some(Ok(1)));
+}
+
 /// Plays a scene with two lanes that may enter version 5.
 fn with_lanes<R: Wait + Threads + Abort + Sync>(
     rt: &R,
@@ -406,37 +463,11 @@ fn with_lanes<R: Wait + Threads + Abort + Sync>(
     scene: Scene,
 ) {
     let flags = [AtomicU64::new(0), AtomicU64::new(0)];
-    let meeting = Meeting { flags };
-    let gate = &meeting;
+    let gate = Meeting { flags };
     match scene {
-        Scene::ForwardLists => {
-            if let Some(held) = zero.enter() {
-                forward_lists(rt, alloc, &held);
-            }
-        }
-        Scene::GatherReports => {
-            if let Some(held) = zero.enter() {
-                gather_reports(rt, alloc, &held);
-            }
-        }
-        Scene::CountTallies => {
-            if let Some(held) = zero.enter() {
-                assert!(rt; same_counts(alloc, &held), "counts of tallies");
-            }
-        }
-        Scene::MeetOnThreads => {
-            let (first, second) = join(
-                rt,
-                move || meet(alloc, zero, gate, 10_000_000),
-                move || meet(alloc, one, gate, 10_000_000),
-            );
-            assert_eq!(rt; (first, second), (Some(Ok(0)), Some(Ok(1))));
-        }
-        Scene::MeetInTurn => {
-            let first = meet(alloc, zero, gate, 1_000);
-            assert_eq!(rt; first, Some(Err(BatchFault::Stalled)));
-            assert_eq!(rt; meet(alloc, one, gate, 1_000), Some(Ok(1)));
-        }
+        Scene::MeetOnThreads => meet_on_threads(rt, alloc, zero, one, &gate),
+        Scene::MeetInTurn => meet_in_turn(rt, alloc, zero, one, &gate),
+        _ => with_held(rt, alloc, &mut zero, scene),
     }
 }
 

@@ -4,6 +4,7 @@ use frame_meaning::Reason;
 use mib_state::VlanConfig;
 use rule_index::Head;
 use std::alloc::Global;
+use std::process::Abort;
 use std::test::Fail;
 use tag_view::DscpMap;
 use vlan_rule::{Entry, RuleTable, TableSettings};
@@ -70,19 +71,39 @@ fn first_word(
     })
 }
 
+/// Looks with which tags frames leave by a table that is new.
+fn look_at_a_new_table(rt: &impl Abort, alloc: Global, table: &CompiledTable) -> Result<(), Fail> {
+    assert_eq!(rt; first_word(table, alloc, &UNTAGGED, 64)?, Ok(0));
+    assert_eq!(rt; first_word(table, alloc, &VID_100, 64)?, Ok(0x8100_a064));
+    assert_eq!(rt; first_word(table, alloc, &DOUBLE, 64)?, Ok(0x8100_a064));
+    assert_eq!(rt; table.uses_dscp(), false);
+    Ok(())
+}
+
 #[test]
 fn a_new_table_keeps_tags(rt: HostRuntime) -> Result<(), Fail> {
     let table = CompiledTable::new(rt.alloc())?;
-    assert_eq!(rt; first_word(&table, rt.alloc(), &UNTAGGED, 64)?, Ok(0));
-    assert_eq!(rt;
-        first_word(&table, rt.alloc(), &VID_100, 64)?,
-        Ok(0x8100_a064)
-    );
-    assert_eq!(rt;
-        first_word(&table, rt.alloc(), &DOUBLE, 64)?,
-        Ok(0x8100_a064)
-    );
-    assert_eq!(rt; table.uses_dscp(), false);
+    look_at_a_new_table(&rt, rt.alloc(), &table)
+}
+
+/// Compiles a table that translates VLAN 100 and drops others, and looks with which tags frames leave.
+fn look_at_translating(
+    rt: &impl Abort,
+    alloc: Global,
+    table: &mut CompiledTable,
+    translating: &VlanConfig,
+) -> Result<(), Fail> {
+    table.compile(translating);
+    for (tags, word, what) in [
+        (&UNTAGGED[..], Ok(0), "a predefined entry"),
+        (&VID_100[..], Ok(0x8100_a0c8), "VLAN 100 becomes 200"),
+        (&VID_5[..], Err(Reason::RuleDiscard), "others are dropped"),
+        (&DOUBLE[..], Err(Reason::NoRule), "no entry is for two tags"),
+    ] {
+        assert_eq!(rt; first_word(table, alloc, tags, 64)?, word, "{what}");
+    }
+    table.compile(&vlan(alloc, &[])?);
+    assert_eq!(rt; first_word(table, alloc, &VID_5, 64)?, Ok(0x8100_0005));
     Ok(())
 }
 
@@ -97,42 +118,24 @@ fn a_table_has_the_treatments_of_its_own_entries(rt: HostRuntime) -> Result<(), 
             entry(0xe0000000_e0000000, 0xffffffff_ffffffff),
         ],
     )?;
-    table.compile(&translating);
-    for (tags, word, what) in [
-        (&UNTAGGED[..], Ok(0), "a predefined entry"),
-        (&VID_100[..], Ok(0x8100_a0c8), "VLAN 100 becomes 200"),
-        (&VID_5[..], Err(Reason::RuleDiscard), "others are dropped"),
-        (&DOUBLE[..], Err(Reason::NoRule), "no entry is for two tags"),
-    ] {
-        assert_eq!(rt; first_word(&table, rt.alloc(), tags, 64)?, word, "{what}");
-    }
-    table.compile(&vlan(rt.alloc(), &[])?);
-    assert_eq!(rt;
-        first_word(&table, rt.alloc(), &VID_5, 64)?,
-        Ok(0x8100_0005)
-    );
+    look_at_translating(&rt, rt.alloc(), &mut table, &translating)
+}
+
+/// Compiles a table that takes the priority of the DSCP, and looks which priority frames leave with.
+fn look_at_marking(rt: &impl Abort, alloc: Global, table: &mut CompiledTable) -> Result<(), Fail> {
+    let marking = [entry(0xf8000000_f8000000, 0x000f0000_000a0324)];
+    table.compile(&vlan(alloc, &marking)?);
+    assert_eq!(rt; table.uses_dscp(), true);
+    assert_eq!(rt; first_word(table, alloc, &UNTAGGED, 46)?, Ok(0x8100_a064));
+    assert_eq!(rt; first_word(table, alloc, &UNTAGGED, 45)?, Ok(0x8100_0064));
+    assert_eq!(rt; first_word(table, alloc, &UNTAGGED, 64)?, Ok(0x8100_0064));
     Ok(())
 }
 
 #[test]
 fn a_tag_has_the_priority_of_the_dscp(rt: HostRuntime) -> Result<(), Fail> {
     let mut table = CompiledTable::new(rt.alloc())?;
-    let marking = [entry(0xf8000000_f8000000, 0x000f0000_000a0324)];
-    table.compile(&vlan(rt.alloc(), &marking)?);
-    assert_eq!(rt; table.uses_dscp(), true);
-    assert_eq!(rt;
-        first_word(&table, rt.alloc(), &UNTAGGED, 46)?,
-        Ok(0x8100_a064)
-    );
-    assert_eq!(rt;
-        first_word(&table, rt.alloc(), &UNTAGGED, 45)?,
-        Ok(0x8100_0064)
-    );
-    assert_eq!(rt;
-        first_word(&table, rt.alloc(), &UNTAGGED, 64)?,
-        Ok(0x8100_0064)
-    );
-    Ok(())
+    look_at_marking(&rt, rt.alloc(), &mut table)
 }
 
 /// Keys for frames without a tag, of VLAN 100 and of VLAN 5.
@@ -213,6 +216,23 @@ fn words_anew(vlan: &VlanConfig, alloc: Global) -> Result<[Result<u32, Reason>; 
     words(&table, alloc)
 }
 
+/// Puts and deletes entries, and compares what the table follows with what is compiled anew.
+fn follow_entries(
+    rt: &impl Abort,
+    alloc: Global,
+    table: &mut CompiledTable,
+    vlan: &mut VlanConfig,
+) -> Result<(), Fail> {
+    for (key, rest, expected) in PUTS {
+        vlan.table.put(entry(key, rest))?;
+        table.follow(vlan);
+        assert_eq!(rt; words(table, alloc)?, expected, "{key:x} {rest:x}");
+        assert_eq!(rt; words_anew(vlan, alloc)?, expected, "{key:x} {rest:x}");
+    }
+    assert_eq!(rt; table.uses_dscp(), true);
+    Ok(())
+}
+
 #[test]
 fn a_table_follows_its_entries(rt: HostRuntime) -> Result<(), Fail> {
     let mut table = CompiledTable::new(rt.alloc())?;
@@ -220,17 +240,26 @@ fn a_table_follows_its_entries(rt: HostRuntime) -> Result<(), Fail> {
         rt.alloc(),
         &[entry(0xf8000000_e8000000, 0xc00f0000_000f0000)],
     )?;
-    for (key, rest, expected) in PUTS {
-        vlan.table.put(entry(key, rest))?;
-        table.follow(&vlan);
-        assert_eq!(rt; words(&table, rt.alloc())?, expected, "{key:x} {rest:x}");
-        assert_eq!(rt;
-            words_anew(&vlan, rt.alloc())?,
-            expected,
-            "{key:x} {rest:x}"
-        );
+    follow_entries(&rt, rt.alloc(), &mut table, &mut vlan)
+}
+
+/// Changes settings, and compares what the table follows with what is compiled anew.
+fn follow_settings(
+    rt: &impl Abort,
+    alloc: Global,
+    table: &mut CompiledTable,
+    vlan: &mut VlanConfig,
+) -> Result<(), Fail> {
+    for (input_tpid, output_tpid, byte, [untagged, vid_100]) in SETTINGS {
+        vlan.settings.input_tpid = input_tpid;
+        vlan.settings.output_tpid = output_tpid;
+        vlan.settings.dscp_map.0[17] = byte;
+        table.follow(vlan);
+        let expected = [Ok(untagged), Ok(vid_100), Ok(0x8100_0005)];
+        assert_eq!(rt; words(table, alloc)?, expected);
+        assert_eq!(rt; words_anew(vlan, alloc)?, expected);
+        assert_eq!(rt; table.input_tpid(), input_tpid);
     }
-    assert_eq!(rt; table.uses_dscp(), true);
     Ok(())
 }
 
@@ -244,15 +273,5 @@ fn a_table_follows_its_settings(rt: HostRuntime) -> Result<(), Fail> {
             entry(VID_100_KEY, 0x400f0000_00080646),
         ],
     )?;
-    for (input_tpid, output_tpid, byte, [untagged, vid_100]) in SETTINGS {
-        vlan.settings.input_tpid = input_tpid;
-        vlan.settings.output_tpid = output_tpid;
-        vlan.settings.dscp_map.0[17] = byte;
-        table.follow(&vlan);
-        let expected = [Ok(untagged), Ok(vid_100), Ok(0x8100_0005)];
-        assert_eq!(rt; words(&table, rt.alloc())?, expected);
-        assert_eq!(rt; words_anew(&vlan, rt.alloc())?, expected);
-        assert_eq!(rt; table.input_tpid(), input_tpid);
-    }
-    Ok(())
+    follow_settings(&rt, rt.alloc(), &mut table, &mut vlan)
 }

@@ -55,11 +55,10 @@ fn one_tag_table(alloc: Global) -> Result<RuleTable, Fail> {
     Ok(table)
 }
 
-#[test]
-fn nothing_is_found_before_a_rebuild(rt: HostRuntime) -> Result<(), Fail> {
-    let index = Index::new(rt.alloc())?;
-    assert_eq!(rt; found(&index, rt.alloc(), &[], 0x0800)?, None);
-    assert_eq!(rt; found(&index, rt.alloc(), &[0x8100a064], 0x0800)?, None);
+/// An index of no table finds nothing.
+fn look_at_nothing(rt: &impl Abort, alloc: Global, index: &Index) -> Result<(), Fail> {
+    assert_eq!(rt; found(index, alloc, &[], 0x0800)?, None);
+    assert_eq!(rt; found(index, alloc, &[0x8100a064], 0x0800)?, None);
     assert_eq!(rt; index.order(0), None);
     assert_eq!(rt; index.order(255), None);
     for tags in 0..4u8 {
@@ -68,15 +67,20 @@ fn nothing_is_found_before_a_rebuild(rt: HostRuntime) -> Result<(), Fail> {
     assert_eq!(rt; index.inner_vid_mask(0), 0);
     assert_eq!(rt; index.inner_vid_mask(100), 0);
     assert_eq!(rt; index.inner_vid_mask(4095), 0);
-    let bytes = frame(rt.alloc(), &[], 0x0800)?;
+    let bytes = frame(alloc, &[], 0x0800)?;
     assert_eq!(rt; index.number(&Head::read(&bytes, 0x8100)?, 0x8100), 128);
     Ok(())
 }
 
 #[test]
-fn masks_stand_for_entries_by_rank_and_place(rt: HostRuntime) -> Result<(), Fail> {
-    let mut index = Index::new(rt.alloc())?;
-    index.rebuild(&one_tag_table(rt.alloc())?);
+fn nothing_is_found_before_a_rebuild(rt: HostRuntime) -> Result<(), Fail> {
+    let index = Index::new(rt.alloc())?;
+    look_at_nothing(&rt, rt.alloc(), &index)
+}
+
+/// Looks at the order and the masks of an index of `one_tag_table`.
+fn look_at_masks(rt: &impl Abort, alloc: Global, index: &mut Index) -> Result<(), Fail> {
+    index.rebuild(&one_tag_table(alloc)?);
     let order = [Some(4), Some(3), Some(0), Some(1), Some(2), None];
     for (j, place) in order.iter().enumerate() {
         assert_eq!(rt; index.order(j as u8), *place, "entry number {j}");
@@ -93,9 +97,14 @@ fn masks_stand_for_entries_by_rank_and_place(rt: HostRuntime) -> Result<(), Fail
 }
 
 #[test]
-fn the_entry_of_least_rank_and_place_is_found(rt: HostRuntime) -> Result<(), Fail> {
+fn masks_stand_for_entries_by_rank_and_place(rt: HostRuntime) -> Result<(), Fail> {
     let mut index = Index::new(rt.alloc())?;
-    index.rebuild(&one_tag_table(rt.alloc())?);
+    look_at_masks(&rt, rt.alloc(), &mut index)
+}
+
+/// Looks which entry of `one_tag_table` is found for some frames.
+fn look_for_the_least(rt: &impl Abort, alloc: Global, index: &mut Index) -> Result<(), Fail> {
+    index.rebuild(&one_tag_table(alloc)?);
     let two_tags = [0x88a80064, 0x810000c8];
     let rows = [
         ("VID 100", &[0x8100a064][..], Some(4)),
@@ -104,9 +113,41 @@ fn the_entry_of_least_rank_and_place_is_found(rt: HostRuntime) -> Result<(), Fai
         ("two tags", &two_tags[..], Some(2)),
     ];
     for (what, tags, place) in rows {
-        let found = found(&index, rt.alloc(), tags, 0x0800)?;
+        let found = found(index, alloc, tags, 0x0800)?;
         assert_eq!(rt; found, place, "{what}");
     }
+    Ok(())
+}
+
+#[test]
+fn the_entry_of_least_rank_and_place_is_found(rt: HostRuntime) -> Result<(), Fail> {
+    let mut index = Index::new(rt.alloc())?;
+    look_for_the_least(&rt, rt.alloc(), &mut index)
+}
+
+/// Changes a table, and looks what is found after each rebuild.
+fn look_at_rebuilds(
+    rt: &impl Abort,
+    alloc: Global,
+    index: &mut Index,
+    table: &mut RuleTable,
+) -> Result<(), Fail> {
+    index.rebuild(table);
+    let two_tags = [0x88a80064, 0x810000c8];
+    let replaced = table.put(entry(0xf8000000_80320000, UNCHANGED));
+    assert_eq!(rt; replaced, Ok(Put::Replaced));
+    index.rebuild(table);
+    assert_eq!(rt; found(index, alloc, &[0x8100a064], 0x0800)?, Some(4));
+    let deleted = table.put(entry(0xe0000000_e0000000, DELETION));
+    assert_eq!(rt; deleted, Ok(Put::Deleted));
+    index.rebuild(table);
+    assert_eq!(rt; found(index, alloc, &two_tags, 0x0800)?, None);
+    assert_eq!(rt; found(index, alloc, &[0x8100a064], 0x0800)?, Some(3));
+    table.reset();
+    index.rebuild(table);
+    assert_eq!(rt; found(index, alloc, &two_tags, 0x0800)?, Some(2));
+    assert_eq!(rt; found(index, alloc, &[0x8100a064], 0x0800)?, Some(1));
+    assert_eq!(rt; index.order(3), None);
     Ok(())
 }
 
@@ -114,30 +155,17 @@ fn the_entry_of_least_rank_and_place_is_found(rt: HostRuntime) -> Result<(), Fai
 fn a_rebuild_follows_the_table(rt: HostRuntime) -> Result<(), Fail> {
     let mut index = Index::new(rt.alloc())?;
     let mut table = one_tag_table(rt.alloc())?;
-    index.rebuild(&table);
-    let two_tags = [0x88a80064, 0x810000c8];
-    let replaced = table.put(entry(0xf8000000_80320000, UNCHANGED));
-    assert_eq!(rt; replaced, Ok(Put::Replaced));
-    index.rebuild(&table);
-    assert_eq!(rt; found(&index, rt.alloc(), &[0x8100a064], 0x0800)?, Some(4));
-    let deleted = table.put(entry(0xe0000000_e0000000, DELETION));
-    assert_eq!(rt; deleted, Ok(Put::Deleted));
-    index.rebuild(&table);
-    assert_eq!(rt; found(&index, rt.alloc(), &two_tags, 0x0800)?, None);
-    assert_eq!(rt; found(&index, rt.alloc(), &[0x8100a064], 0x0800)?, Some(3));
-    table.reset();
-    index.rebuild(&table);
-    assert_eq!(rt; found(&index, rt.alloc(), &two_tags, 0x0800)?, Some(2));
-    assert_eq!(rt; found(&index, rt.alloc(), &[0x8100a064], 0x0800)?, Some(1));
-    assert_eq!(rt; index.order(3), None);
-    Ok(())
+    look_at_rebuilds(&rt, rt.alloc(), &mut index, &mut table)
 }
 
-#[test]
-fn follow_says_what_a_put_changed(rt: HostRuntime) -> Result<(), Fail> {
-    let mut index = Index::new(rt.alloc())?;
-    let mut table = one_tag_table(rt.alloc())?;
-    assert_eq!(rt; index.follow(&table), Followed::Rebuilt);
+/// Changes a table, and looks what the index says that it changed.
+fn look_at_follows(
+    rt: &impl Abort,
+    alloc: Global,
+    index: &mut Index,
+    table: &mut RuleTable,
+) -> Result<(), Fail> {
+    assert_eq!(rt; index.follow(table), Followed::Rebuilt);
     let vid_100 = 0xf8000000_80320000;
     let default = 0xf8000000_e8000000;
     let untagged = 0xf0000000_f0000000;
@@ -190,16 +218,30 @@ fn follow_says_what_a_put_changed(rt: HostRuntime) -> Result<(), Fail> {
     };
     for (what, key, rest, followed) in rows {
         let _ = table.put(entry(key, rest));
-        assert_eq!(rt; index.follow(&table), followed, "{what}");
-        compare(
-            &rt,
-            rt.alloc(),
-            &table,
-            &index,
-            &mut draws,
-            &mut Seen::default(),
-        )?;
+        assert_eq!(rt; index.follow(table), followed, "{what}");
+        compare(rt, alloc, table, index, &mut draws, &mut Seen::default())?;
     }
+    Ok(())
+}
+
+#[test]
+fn follow_says_what_a_put_changed(rt: HostRuntime) -> Result<(), Fail> {
+    let mut index = Index::new(rt.alloc())?;
+    let mut table = one_tag_table(rt.alloc())?;
+    look_at_follows(&rt, rt.alloc(), &mut index, &mut table)
+}
+
+/// Changes two treatments, and looks what the index says of them.
+fn look_at_two_changes(
+    rt: &impl Abort,
+    index: &mut Index,
+    table: &mut RuleTable,
+) -> Result<(), Fail> {
+    index.rebuild(table);
+    table.put(entry(0xf8000000_80320000, UNCHANGED))?;
+    table.put(entry(0xf8000000_e8000000, UNCHANGED))?;
+    assert_eq!(rt; index.follow(table), Followed::Rebuilt);
+    assert_eq!(rt; index.follow(table), Followed::Unchanged);
     Ok(())
 }
 
@@ -207,12 +249,7 @@ fn follow_says_what_a_put_changed(rt: HostRuntime) -> Result<(), Fail> {
 fn two_treatments_are_no_single_one(rt: HostRuntime) -> Result<(), Fail> {
     let mut index = Index::new(rt.alloc())?;
     let mut table = one_tag_table(rt.alloc())?;
-    index.rebuild(&table);
-    table.put(entry(0xf8000000_80320000, UNCHANGED))?;
-    table.put(entry(0xf8000000_e8000000, UNCHANGED))?;
-    assert_eq!(rt; index.follow(&table), Followed::Rebuilt);
-    assert_eq!(rt; index.follow(&table), Followed::Unchanged);
-    Ok(())
+    look_at_two_changes(&rt, &mut index, &mut table)
 }
 
 #[test]
@@ -404,20 +441,30 @@ fn compare(
     Ok(())
 }
 
-#[test]
-fn find_agrees_with_a_walk(rt: HostRuntime) -> Result<(), Fail> {
+/// Draws tables and frames, and compares what is found with what a walk finds.
+fn agree(
+    rt: &impl Abort,
+    alloc: Global,
+    table: &mut RuleTable,
+    index: &mut Index,
+) -> Result<(), Fail> {
     let mut draws = Draws {
         state: 0x2545f4914f6cdd1d,
     };
-    let mut table = RuleTable::new(rt.alloc())?;
-    let mut index = Index::new(rt.alloc())?;
     let mut seen = Seen::default();
     for _ in 0..1000 {
-        draw_table(&mut table, &mut draws)?;
+        draw_table(table, &mut draws)?;
         assert_eq!(rt; table.len(), 128);
-        index.rebuild(&table);
-        compare(&rt, rt.alloc(), &table, &index, &mut draws, &mut seen)?;
+        index.rebuild(table);
+        compare(rt, alloc, table, index, &mut draws, &mut seen)?;
     }
     assert!(rt; seen.least() > 1000);
     Ok(())
+}
+
+#[test]
+fn find_agrees_with_a_walk(rt: HostRuntime) -> Result<(), Fail> {
+    let mut table = RuleTable::new(rt.alloc())?;
+    let mut index = Index::new(rt.alloc())?;
+    agree(&rt, rt.alloc(), &mut table, &mut index)
 }
