@@ -15,6 +15,7 @@ impl Access {
     ghost use Rattle.std.specs.Prelude.{◌≡◌};
     ghost use Rattle.managed_entity.specs.Class.{is_read_only, is_table};
 
+    /// Whether the attribute is a table, of which a Set writes one entry.
     pub fn is_table(self) -> bool
         ensures { result ≡ is_table self }
     {
