@@ -115,6 +115,30 @@ fn publish_beside<R: Wait>(
     told
 }
 
+/// Two lanes learn of port 257 and its entities, and one forwards by them.
+fn learn_version_4<R: Wait + Abort>(rt: &R, control: &mut Control, zero: &mut Lane, one: &mut Lane)
+    requires { (home_of zero.old ≡ control.old.home) × (home_of one.old ≡ control.old.home) }
+    ensures control { control.new.home ≡ control.old.home }
+    ensures zero { home_of zero.new ≡ home_of zero.old }
+    ensures one { home_of one.new ≡ home_of one.old }
+{
+    ask_all(rt, control, &PORT_257);
+    let first = control.publish(rt);
+    assert_eq!(rt; first.version(), 4);
+    zero.learn(&first);
+    one.learn(&first);
+    assert_eq!(rt; enter_and_leave(zero, &[]), Some((4, true)));
+}
+
+/// A lane learns of the tag of VLAN 100, and forwards with it.
+fn learn_version_5(rt: &impl Abort, told: &Told, lane: &mut Lane)
+    requires { home_of lane.old ≡ told_home told.now }
+{
+    assert_eq!(rt; told.version(), 5);
+    lane.learn(told);
+    assert_eq!(rt; enter_and_leave(lane, &[TAG_100]), Some((5, true)));
+}
+
 /// A lane that is in keeps its version while another one is published.
 fn keep_a_version<R: Wait + Threads + Abort + Sync>(
     rt: &R,
@@ -124,12 +148,7 @@ fn keep_a_version<R: Wait + Threads + Abort + Sync>(
 )
     requires { (home_of zero ≡ control.old.home) × (home_of one ≡ control.old.home) }
 {
-    ask_all(rt, control, &PORT_257);
-    let first = control.publish(rt);
-    assert_eq!(rt; first.version(), 4);
-    zero.learn(&first);
-    one.learn(&first);
-    assert_eq!(rt; enter_and_leave(&mut zero, &[]), Some((4, true)));
+    learn_version_4(rt, control, &mut zero, &mut one);
     ask(rt, control, PUSH_VLAN_100.0, PUSH_VLAN_100.1);
     let flags = (AtomicU64::new(0), AtomicU64::new(0));
     let (entered, published) = (&flags.0, &flags.1);
@@ -143,16 +162,14 @@ fn keep_a_version<R: Wait + Threads + Abort + Sync>(
         { publish_beside(rt, control, entered, published) },
     );
     assert_eq!(rt; seen, Some((4, 10_000)));
-    assert_eq!(rt; second.version(), 5);
-    zero.learn(&second);
-    one.learn(&second);
-    assert_eq!(rt; enter_and_leave(&mut zero, &[TAG_100]), Some((5, true)));
-    assert_eq!(rt; enter_and_leave(&mut one, &[TAG_100]), Some((5, true)));
+    learn_version_5(rt, &second, &mut zero);
+    learn_version_5(rt, &second, &mut one);
 }
 
-/// What is accepted counts, published or not; a token that is learnt late makes no lane go back.
-fn count_versions<R: Wait + Abort>(rt: &R, control: &mut Control, lane: &mut Lane)
-    requires { home_of lane.old ≡ control.old.home }
+/// Sends a message that is refused, one that wants no answer and those that make port 257. A lane that learns nothing sees none.
+fn send_past_a_lane<R: Wait + Abort>(rt: &R, control: &mut Control, lane: &mut Lane)
+    ensures control { control.new.home ≡ control.old.home }
+    ensures lane { home_of lane.new ≡ home_of lane.old }
 {
     assert_eq!(rt; control.publish(rt).version(), 0);
     assert_eq!(rt; first_verdict(lane), Some((0, Some(Reason::NoMapper))));
@@ -165,6 +182,13 @@ fn count_versions<R: Wait + Abort>(rt: &R, control: &mut Control, lane: &mut Lan
     tell(rt, control, "0001040a010c0499 0400800103");
     ask_all(rt, control, &PORT_257);
     assert_eq!(rt; first_verdict(lane), Some((0, Some(Reason::NoMapper))));
+}
+
+/// What is accepted counts, published or not; a token that is learnt late makes no lane go back.
+fn count_versions<R: Wait + Abort>(rt: &R, control: &mut Control, lane: &mut Lane)
+    requires { home_of lane.old ≡ control.old.home }
+{
+    send_past_a_lane(rt, control, lane);
     let older = control.publish(rt);
     assert_eq!(rt; older.version(), 5);
     ask(rt, control, PUSH_VLAN_100.0, PUSH_VLAN_100.1);
