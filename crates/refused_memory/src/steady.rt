@@ -30,16 +30,38 @@ struct Room {
 
 impl Room {
     fn new(memory: &Memory) -> Result<Room, &'static str> {
-        let mut book = book_of(memory)?;
-        let counts = count_of(memory.first(), &[]).map_err(|_| REFUSED_AGAIN)?;
-        add(memory, &mut book, 0, &counts, [0, 0])?;
-        Ok(Room {
-            desk: Desk::new(memory.first()).map_err(|_| REFUSED_AGAIN)?,
-            live: live_of(memory)?,
-            book,
-            verdicts: Vec::with_capacity(memory.first(), FRAMES).map_err(|_| REFUSED_AGAIN)?,
-        })
+        let book = counted_book(memory)?;
+        let verdicts = Vec::with_capacity(memory.first(), FRAMES).map_err(|_| REFUSED_AGAIN)?;
+        match Desk::new(memory.first()) {
+            Ok(desk) => Room::with_desk(memory, desk, book, verdicts),
+            Err(_) => Err(REFUSED_AGAIN),
+        }
     }
+
+    fn with_desk(
+        memory: &Memory,
+        desk: Desk,
+        book: StatBook,
+        verdicts: Vec<Verdict<'static>>,
+    ) -> Result<Room, &'static str> {
+        match live_of(memory) {
+            Ok(live) => Ok(Room {
+                desk,
+                live,
+                book,
+                verdicts,
+            }),
+            Err(wrong) => Err(wrong),
+        }
+    }
+}
+
+/// A book to which the counts of no verdicts were added.
+fn counted_book(memory: &Memory) -> Result<StatBook, &'static str> {
+    let mut book = book_of(memory)?;
+    let counts = count_of(memory.first(), &[]).map_err(|_| REFUSED_AGAIN)?;
+    add(memory, &mut book, 0, &counts, [0, 0])?;
+    Ok(book)
 }
 
 /// A Set of an entry for frames with one tag, of a VLAN.
@@ -140,6 +162,21 @@ fn go_on<R: Wait>(rt: &R, control: &mut Control, lane: &mut Lane, room: &mut Roo
     publish(rt, control, lane)
 }
 
+/// All that needs no memory where it is wanted, and then requests until one is refused.
+fn count_requests<R: Wait>(
+    rt: &R,
+    memory: &Memory,
+    control: &mut Control,
+    lane: &mut Lane,
+    room: &mut Room,
+    goes_on: bool,
+) -> Result<Option<u32>, &'static str> {
+    if goes_on {
+        go_on(rt, control, lane, room)?;
+    }
+    Ok(requests_until_refusal(memory.first()))
+}
+
 /// The set-up, then all that needs no memory where it is wanted, and then requests until one is refused.
 fn set_up<R: Wait>(
     rt: &R,
@@ -149,11 +186,10 @@ fn set_up<R: Wait>(
     goes_on: bool,
 ) -> Result<Option<u32>, &'static str> {
     send_pending(control)?;
-    let mut room = Room::new(memory)?;
-    if goes_on {
-        go_on(rt, control, lane, &mut room)?;
+    match Room::new(memory) {
+        Ok(mut room) => count_requests(rt, memory, control, lane, &mut room, goes_on),
+        Err(wrong) => Err(wrong),
     }
-    Ok(requests_until_refusal(memory.first()))
 }
 
 /// Prints how many requests there were until one was refused, or what was wrong.
