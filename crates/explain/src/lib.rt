@@ -33,8 +33,6 @@ pub use priority::PriorityOrigin;
 pub use step::Step;
 
 #[cfg(test)]
-mod agree_tests;
-#[cfg(test)]
 mod showing;
 #[cfg(test)]
 mod table_tests;

@@ -6,7 +6,7 @@ ghost use Rattle.plan_publish.specs.Told.{told_home};
 
 use crate::{BatchFault, Gate, Report, run_batch};
 use draws::Draws;
-use forward_plan::{Verdict, plain_walk};
+use forward_plan::{Reason, Verdict, plain_walk};
 use mib_state::Mib;
 use omci_msg::{Request, write_request};
 use plan_publish::{Control, Held, Lane, OpenFault, Told, open};
@@ -15,6 +15,7 @@ use std::marker::{Brand, PhantomData};
 use std::sync::Wait;
 use std::sync::atomic::{AtomicU64, Ordering};
 use std::thread::{Threads, join_mut, map_indices, map_vec, yield_now};
+use tag_view::Tag;
 
 /// What comes in a storm.
 #[derive(Drop)]
@@ -476,30 +477,22 @@ impl From<AllocError> for Wrong {
     }
 }
 
-/// Whether two verdicts are the same.
-fn same(a: &Verdict<'_>, b: &Verdict<'_>) -> bool {
-    match (a, b) {
-        (
-            Verdict::Forward { gem: one, frame: a },
-            Verdict::Forward {
-                gem: other,
-                frame: b,
-            },
-        ) => {
-            one == other
-                && a.addresses() == b.addresses()
-                && a.tags() == b.tags()
-                && a.rest() == b.rest()
+/// The GEM port of a frame that leaves, its addresses, its tags and what follows them, or the reason to drop it.
+type Parts<'v> = Result<(u16, &'v [u8], &'v [Tag], &'v [u8]), Reason>;
+
+fn parts<'v>(verdict: &'v Verdict<'_>) -> Parts<'v> {
+    match verdict {
+        Verdict::Forward { gem, frame } => {
+            Ok((*gem, frame.addresses(), frame.tags(), frame.rest()))
         }
-        (Verdict::Drop(one), Verdict::Drop(other)) => one == other,
-        _ => false,
+        Verdict::Drop(reason) => Err(*reason),
     }
 }
 
 /// The place of the first verdict that isn't that of the plain walk.
 fn first_other(mib: &Mib, port: u16, frames: &[&[u8]], verdicts: &[Verdict<'_>]) -> Option<usize> {
     for (place, (frame, verdict)) in frames.iter().zip(verdicts).enumerate() {
-        if !same(&plain_walk(mib, port, frame), verdict) {
+        if parts(&plain_walk(mib, port, frame)) != parts(verdict) {
             return Some(place);
         }
     }

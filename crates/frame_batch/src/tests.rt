@@ -2,6 +2,7 @@ use crate::{
     BatchFault, Gate, GatherFault, Report, Tally, forward_all, gather, gather_tallies,
     law_of_arrival, run_batch,
 };
+use draws::{PORT_257, UNTAGGED, message};
 use forward_plan::{Reason, Verdict};
 use frame_stats::{Counts, count_of};
 use plan_publish::{Held, Lane, OpenFault, open};
@@ -12,48 +13,11 @@ use std::sync::atomic::{AtomicU64, Ordering};
 use std::test::Fail;
 use std::thread::{Threads, join, yield_now};
 
-/// A frame without a tag.
-const UNTAGGED: [u8; 16] = [2, 0, 0, 0, 0, 1, 2, 0, 0, 0, 0, 2, 8, 0, 0x45, 0];
-
 /// A frame that is cut in its tag.
 const CUT: [u8; 14] = [2, 0, 0, 0, 0, 1, 2, 0, 0, 0, 0, 2, 0x81, 0];
 
 /// A frame that is too short.
 const SHORT: [u8; 13] = [2, 0, 0, 0, 0, 1, 2, 0, 0, 0, 0, 2, 8];
-
-/// What makes port 257, which leads to GEM port 1024, and then an entry that pushes a tag of VID 100.
-const MESSAGES: [&str; 5] = [
-    "0001440a010c0401 0400800103",
-    "0002440a010a0501 0401050601",
-    "0003440a00820601 0101 0501050105010501 0501050105010501 010001",
-    "0004440a00ab0701 020101",
-    "0005480a00ab0701 0400 f8000000f8000000 000f000000000324",
-];
-
-/// The value of a hexadecimal digit.
-fn digit(byte: u8) -> Option<u8> {
-    match byte {
-        b'0'..=b'9' => Some(byte - b'0'),
-        b'a'..=b'f' => Some(byte - b'a' + 10),
-        _ => None,
-    }
-}
-
-/// A message that begins with these digits, with zeros up to byte 40, and the trailer.
-fn message(digits: &str) -> [u8; 48] {
-    let mut bytes = [0u8; 48];
-    let mut count = 0usize;
-    for byte in digits.bytes() {
-        if let Some(value) = digit(byte)
-            && count < 80
-        {
-            bytes[count / 2] = bytes[count / 2].wrapping_mul(16).wrapping_add(value);
-            count += 1;
-        }
-    }
-    bytes[43] = 0x28;
-    bytes
-}
 
 /// Whether a frame leaves by GEM port 1024, with its addresses and rest as they were and a tag of VID 100.
 fn is_tagged(verdict: &Verdict<'_>) -> bool {
@@ -478,7 +442,7 @@ fn play<R: Wait + Threads + Abort + Sync>(
     scene: Scene,
 ) -> Result<(), OpenFault> {
     let (mut control, mut lanes) = open(rt, alloc, 2)?;
-    for digits in &MESSAGES {
+    for digits in &PORT_257 {
         let answer = control.message(&message(digits));
         assert!(rt; matches!(answer, Ok(Some(_))), "{digits}");
     }

@@ -20,7 +20,7 @@ const DOUBLE: [u8; 24] = [
 type Parts<'v> = Result<(u16, &'v [u8], &'v [Tag], &'v [u8]), Reason>;
 
 /// The parts of a verdict.
-fn parts<'v>(verdict: &'v Verdict<'_>) -> Parts<'v> {
+pub(crate) fn parts<'v>(verdict: &'v Verdict<'_>) -> Parts<'v> {
     match verdict {
         Verdict::Forward { gem, frame } => {
             Ok((*gem, frame.addresses(), frame.tags(), frame.rest()))

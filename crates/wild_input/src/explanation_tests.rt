@@ -1,27 +1,14 @@
 //! The last steps of explanations beside the verdicts of the plan, after each of many drawn messages.
 
-use crate::{Step, explain};
+use crate::live_tests::parts;
 use draws::{Draws, PORTS};
-use forward_plan::Live;
-use frame_meaning::{Reason, Verdict};
+use explain::{Step, explain};
+use forward_plan::{Live, Verdict};
 use std::alloc::{AllocError, Global};
 use std::process::Abort;
-use tag_view::Tag;
 
 /// How many messages change the entities.
 const MESSAGES: usize = 2000;
-
-/// The GEM port of a frame that leaves, its addresses, its tags and what follows them, or the reason to drop it.
-type Parts<'v> = Result<(u16, &'v [u8], &'v [Tag], &'v [u8]), Reason>;
-
-fn parts<'v>(verdict: &'v Verdict<'_>) -> Parts<'v> {
-    match verdict {
-        Verdict::Forward { gem, frame } => {
-            Ok((*gem, frame.addresses(), frame.tags(), frame.rest()))
-        }
-        Verdict::Drop(reason) => Err(*reason),
-    }
-}
 
 /// Compares the last of a frame's steps with its verdict.
 fn compare_last(rt: &impl Abort, steps: &[Step], forwarded: &Verdict, port: u16, frame: &[u8]) {
