@@ -6,8 +6,8 @@ use Rattle.frame_meaning.specs.declared.verdict.Verdict.{Verdict}
 use Rattle.frame_stats.specs.Figures.{counted}
 use Rattle.frame_stats.specs.declared.counts.Counts.{Counts}
 use Rattle.lane_run.specs.Run.{IsRun, verdicts_from}
-use Rattle.lane_run.specs.Trace.{requests_of}
-use Rattle.lane_run.specs.declared.RunSettings.{RunSettings}
+use Rattle.mib_trace.specs.Trace.{requests_of}
+use Rattle.run_settings.specs.declared.settings.RunSettings.{RunSettings}
 use Rattle.mib_state.specs.After.{accepted}
 use Rattle.capture_run.specs.Lines.{accepted_line, batch_lines_from, figure_lines, total_lines}
 use Rattle.capture_run.specs.Outcome.{IsOutput}

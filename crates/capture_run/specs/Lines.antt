@@ -9,7 +9,7 @@ use Rattle.frame_meaning.specs.declared.reason.Reason.TheVariants.{Runt, CutTag,
 use Rattle.frame_meaning.specs.declared.verdict.Verdict.{Verdict}
 use Rattle.frame_stats.specs.Figures.{Figure, Frames, Bytes, DropsFor, FramesTo, figure}
 use Rattle.lane_run.specs.Run.{verdicts_from}
-use Rattle.lane_run.specs.declared.RunSettings.{RunSettings}
+use Rattle.run_settings.specs.declared.settings.RunSettings.{RunSettings}
 
 -- ---- one line
 

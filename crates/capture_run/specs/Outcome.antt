@@ -1,20 +1,17 @@
 -- What a run leaves, by how it ends.
-use Rattle.std.specs.Prelude.{◌≡◌, ℕ, ◌&&◌, nat_le, if◌then◌else◌, Bool, List, Option, Some, None, Result, Ok, Err, length}
+use Rattle.std.specs.Prelude.{◌≡◌, ℕ, if◌then◌else◌, List, Option, Some, None, Result, Ok, Err, length}
 use Rattle.std.specs.Io.KnownBytes.{Appends, Keeps}
 use Rattle.capture.specs.Records.{capture_of}
 use Rattle.capture.specs.declared.fault.CaptureFault.{CaptureFault}
 use Rattle.lane_run.specs.Run.{AreAdmissible, batches_in}
-use Rattle.lane_run.specs.Trace.{first_bad, requests_of}
-use Rattle.lane_run.specs.declared.RunSettings.{RunSettings}
+use Rattle.mib_trace.specs.Trace.{first_bad, requests_of}
+use Rattle.run_settings.specs.Settings.{can_run}
+use Rattle.run_settings.specs.declared.settings.RunSettings.{RunSettings}
 use Rattle.mib_state.specs.After.{accepted}
 use Rattle.writing.specs.Written.{AppendsPart}
 use Rattle.capture_run.specs.Lines.{run_lines}
 use Rattle.capture_run.specs.declared.fault.RunFault.{RunFault}
 use Rattle.capture_run.specs.declared.fault.RunFault.TheVariants.{Settings, BadTrace, Capture, NoMemory, Refused, CountFull, Write}
-
--- 1 to 16 lanes, and batches of 1 to 65,536 frames
-abbrev pub are_settings : RunSettings → Bool
-are_settings s = (nat_le 1 s.lanes && nat_le s.lanes 16) && (nat_le 1 s.batch && nat_le s.batch 65536)
 
 -- the fault of a trace whose first bad line is this, or else that of the capture
 abbrev pub file_fault : Option ℕ → Result (List (List ℕ)) CaptureFault → Option RunFault
@@ -24,7 +21,7 @@ file_fault None (Ok frames) = None
 
 -- the first fault of what a run is given
 abbrev pub input_fault : List ℕ → List ℕ → RunSettings → Option RunFault
-input_fault trace file s = if are_settings s then file_fault (first_bad trace) (capture_of file) else Some Settings
+input_fault trace file s = if can_run s then file_fault (first_bad trace) (capture_of file) else Some Settings
 
 -- this is written by a run of the file under the trace: the lines of some versions that its batches may have
 pub record IsOutput (trace file : List ℕ) (s : RunSettings) (out : List ℕ) : Type 0 where

@@ -17,9 +17,9 @@ mod report;
 mod run;
 
 pub use fault::RunFault;
-pub use lane_run::RunSettings;
 pub use report::report_run;
 pub use run::{run_over, run_over_shown};
+pub use run_settings::RunSettings;
 
 #[cfg(test)]
 mod run_tests;

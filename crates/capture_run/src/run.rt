@@ -2,26 +2,21 @@
 ghost use Rattle.std.specs.Prelude.{◌≡◌, None, IfOk, IfErr, OnOk, OnErr};
 ghost use Rattle.std.specs.Io.KnownBytes.{Appends};
 ghost use Rattle.writing.specs.Written.{AppendsPart};
-ghost use Rattle.capture_run.specs.Outcome.{are_settings, input_fault, IsOutput, IsWhyNone, Runs};
+ghost use Rattle.capture_run.specs.Outcome.{input_fault, IsOutput, IsWhyNone, Runs};
 
 use crate::fault::RunFault;
 use crate::lines::lines_of;
 use crate::progress::{Progress, Watched, show};
 use capture::{ListFault, list_frames};
-use lane_run::{LaneFault, RunSettings, first_bad_line, run_lanes};
+use lane_run::{LaneFault, run_lanes};
+use mib_trace::first_bad_line;
+use run_settings::RunSettings;
 use std::alloc::Global;
 use std::io::Write;
 use std::rt::Clock;
 use std::sync::Wait;
 use std::thread::{Threads, join};
 use writing::write_whole;
-
-/// Whether a run may have these settings.
-fn are_settings(settings: &RunSettings) -> bool
-    ensures { result ≡ are_settings settings.now }
-{
-    matches!(settings.lanes, 1..=16) && matches!(settings.batch, 1..=65_536)
-}
 
 /// What a run writes, or why it writes nothing.
 fn output_of<R: Threads + Wait + Sync>(
@@ -36,7 +31,7 @@ fn output_of<R: Threads + Wait + Sync>(
     ensures output { IfOk result (λ out. IsOutput trace.now file.now settings.now out.items) }
     ensures fault { IfErr result (IsWhyNone trace.now file.now settings.now) }
 {
-    if !are_settings(settings) {
+    if !settings.can_run() {
         return Err(RunFault::Settings);
     }
     if let Some(line) = first_bad_line(trace) {

@@ -1,6 +1,6 @@
 -- What the numbers of the words may be.
 use Rattle.std.specs.Prelude.{◌≤◌}
-use Rattle.lane_run.specs.declared.job.RunSettings.{RunSettings}
+use Rattle.run_settings.specs.declared.settings.RunSettings.{RunSettings}
 use Rattle.command_line.specs.declared.words.Words.{Words}
 use Rattle.command_line.specs.declared.words.Words.TheVariants.{Replay, Run, Decode, Mib, Rules, Explain}
 

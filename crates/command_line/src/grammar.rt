@@ -8,16 +8,11 @@ ghost use Rattle.command_line.specs.Grammar.{after, batch, decode, explain, fram
 
 use clap::builder::ValueParser;
 use clap::{Arg, ArgAction, Command, value_parser};
+use run_settings::{BATCH_LIMIT, LANE_LIMIT};
 use std::alloc::{AllocError, Global};
 
 /// What `--version` shows.
 const VERSION: &str = "0.1.0";
-
-/// The most lanes of a run.
-pub const LANE_LIMIT: u16 = 16;
-
-/// The most frames of a batch.
-pub const BATCH_LIMIT: u32 = 65_536;
 
 /// A required option with a value, by its name, which is its id too.
 fn valued<'a>(

@@ -12,11 +12,11 @@ ghost use Rattle.command_line.specs.declared.words.ExplainWords.{ExplainWords};
 ghost use Rattle.command_line.specs.Grammar.{onuctl};
 ghost use Rattle.command_line.specs.Range.{AreInRange, IsInRange};
 
-use crate::grammar::{BATCH_LIMIT, LANE_LIMIT, onuctl};
+use crate::grammar::onuctl;
 use crate::words::{ExplainWords, MibWords, RulesWords, RunWords, Words};
 use clap::error::ErrorKind;
 use clap::{ArgMatches, Error};
-use lane_run::RunSettings;
+use run_settings::{BATCH_LIMIT, LANE_LIMIT, RunSettings};
 use std::alloc::Global;
 
 /// What the options behind `run` ask for; None where one is missing, or no number in its range.

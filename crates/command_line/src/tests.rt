@@ -2,7 +2,7 @@
 
 use crate::{ExplainWords, MibWords, RulesWords, RunWords, Words, read_words, report_words};
 use clap::Error;
-use lane_run::RunSettings;
+use run_settings::RunSettings;
 use std::alloc::AllocError;
 use std::test::Fail;
 

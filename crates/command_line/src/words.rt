@@ -1,5 +1,5 @@
 //! What the words of a command line ask for.
-use lane_run::RunSettings;
+use run_settings::RunSettings;
 
 /// What the words of the command line ask for. The names of files lie in the words.
 #[derive(Clone, Copy, Debug, PartialEq, Eq)]

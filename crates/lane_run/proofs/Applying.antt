@@ -1,15 +1,13 @@
 -- What requests leave of a control, one after the other.
 use Rattle.std.proofs.Common.{◌≡◌, [], ◌∷◌, ◌++◌, List, refl, true, false, cond, ap, sym, ◌∙◌, append_assoc, append-nil, ℕ, length, arith}
 use Rattle.omci_msg.specs.declared.Request.{Request}
-use Rattle.capture.specs.Line.{asked_by}
-use Rattle.capture.specs.Text.{lines_of}
 use Rattle.mib_state.specs.Entities.{Entities}
 use Rattle.mib_state.specs.Step.{left}
 use Rattle.mib_state.specs.After.{is_accepted, after_from, accepted_from, accepted}
 use Rattle.mib_upload.proofs.Left.{desk_left}
 use Rattle.plan_publish.specs.Control.{Progress, accepted_of, carried_out}
 use Rattle.lane_run.specs.Control.{IsNewControl, Applied}
-use Rattle.lane_run.specs.Trace.{request_in, requests_of}
+use Rattle.mib_trace.specs.Trace.{requests_of}
 
 -- ---- lists of requests
 
@@ -74,9 +72,6 @@ pub applied_new : (p n : Progress) (qs : List Request) → IsNewControl p → Ap
 applied_new p n qs is x = x.joined ∙ ap (λ (o : Progress). accepted_of o ++ accepted_from o.desk.mib.entities qs) is
 
 -- ---- a text, line by line
-
-pub requests_first : (text line rest : List _) → lines_of text ≡ line ∷ lines_of rest → requests_of text ≡ request_in (asked_by line) ++ requests_of rest
-requests_first text line rest is = rw is refl
 
 -- behind the last line there is nothing
 pub applied_end : (p : Progress) (rest : List ℕ) → length rest ≡ 0 → Applied p p (requests_of rest)

@@ -1,5 +1,4 @@
 pub mod Applying
-pub mod Lines
 pub mod Working
 pub mod Zips
 pub mod Confirming

@@ -18,7 +18,7 @@ use Rattle.plan_publish.specs.Lane.{number_of, learnt_by, home_of, IsNew}
 use Rattle.frame_stats.specs.Figures.{AreCountsOf}
 use Rattle.frame_batch.specs.declared.batch.Tally.{Tally}
 use Rattle.frame_batch.specs.Batches.{meanings}
-use Rattle.lane_run.specs.declared.job.RunSettings.{RunSettings}
+use Rattle.run_settings.specs.declared.settings.RunSettings.{RunSettings}
 use Rattle.lane_run.specs.declared.settling.Done.{Done}
 use Rattle.lane_run.specs.declared.settling.Settled.{Settled}
 use Rattle.lane_run.specs.Run.{batches_in, AreAdmissible, IsRun}

@@ -16,7 +16,7 @@ use Rattle.plan_publish.specs.Requests.{StartsWith, StartsWithEach, version_of}
 use Rattle.plan_publish.specs.Holding.{Holds}
 use Rattle.plan_publish.proofs.Beginnings.{version_grows}
 use Rattle.frame_batch.specs.declared.batch.Tally.{Tally}
-use Rattle.lane_run.specs.declared.job.RunSettings.{RunSettings}
+use Rattle.run_settings.specs.declared.settings.RunSettings.{RunSettings}
 use Rattle.lane_run.specs.Work.{batch_of, IsTally, Forwarded, OfLane, Worked}
 
 -- what begins with each list begins with any of them

@@ -1,4 +1,3 @@
-pub mod Trace
 pub mod Run
 pub mod Work
 pub mod Control

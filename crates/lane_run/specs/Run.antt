@@ -7,7 +7,7 @@ use Rattle.frame_meaning.specs.declared.verdict.Verdict.{Verdict}
 use Rattle.frame_meaning.specs.Meaning.{meaning}
 use Rattle.frame_stats.specs.declared.counts.Counts.{Counts}
 use Rattle.frame_stats.specs.Figures.{AreCountsOf}
-use Rattle.lane_run.specs.declared.job.RunSettings.{RunSettings}
+use Rattle.run_settings.specs.declared.settings.RunSettings.{RunSettings}
 
 -- how many batches of a size so many frames make: the last may be shorter
 abbrev pub batches_in : ℕ → ℕ → ℕ

@@ -10,12 +10,8 @@ use Rattle.plan_publish.specs.Lane.{number_of, held_by, learnt_by, IsSameLane}
 use Rattle.frame_stats.specs.Figures.{AreCountsOf}
 use Rattle.frame_batch.specs.declared.batch.Tally.{Tally}
 use Rattle.frame_batch.specs.Batches.{meanings}
-use Rattle.lane_run.specs.declared.job.RunSettings.{RunSettings}
+use Rattle.run_settings.specs.declared.settings.RunSettings.{RunSettings}
 use Rattle.lane_run.specs.declared.settling.Done.{Done}
-
--- 1 to 16 lanes, and batches of 1 to 65,536 frames
-abbrev pub CanRun : RunSettings → Type 0
-CanRun s = (1 ≤ s.lanes) × (s.lanes ≤ 16) × (1 ≤ s.batch) × (s.batch ≤ 65536)
 
 -- the lane is out
 abbrev pub IsOut : Lane → Type 0

@@ -8,13 +8,13 @@ ghost use Rattle.plan_publish.specs.Lane.{home_of};
 ghost use Rattle.plan_publish.specs.Told.{told_home, told_list};
 ghost use Rattle.lane_run.specs.Control.{Applied};
 ghost use Rattle.lane_run.specs.Settling.{HeldBeginnings};
-ghost use Rattle.lane_run.specs.Trace.{request_in, request_read, requests_of};
+ghost use Rattle.mib_trace.specs.Trace.{request_in, request_read, requests_of};
 
 use crate::fault::LaneFault;
 use crate::job::Job;
-use crate::trace::MOST_SPELLED;
 use capture::{Line, first_line, read_line};
 use frame_batch::Gate;
+use mib_trace::MOST_SPELLED;
 use omci_msg::read;
 use plan_publish::{Control, Lane, Told};
 use std::sync::Wait;

@@ -1,22 +1,10 @@
 //! What is to be done.
-ghost use Rattle.lane_run.specs.Work.{CanRun};
+ghost use Rattle.run_settings.specs.Settings.{CanRun};
 
 use frame_stats::StatBook;
+use run_settings::RunSettings;
 use std::alloc::Global;
 use std::sync::Mutex;
-
-/// How frames are forwarded.
-#[derive(Clone, Copy, Debug, PartialEq, Eq)]
-pub struct RunSettings {
-    /// The port at which the frames come in.
-    pub port: u16,
-    /// How many lanes there are, 1 to 16.
-    pub lanes: u16,
-    /// How many frames a batch has, 1 to 65,536. The last one may have fewer.
-    pub batch: u32,
-    /// Whether the frames are forwarded after the whole trace, and not while it is applied.
-    pub after: bool,
-}
 
 /// What all lanes and the control share.
 #[derive(Drop)]

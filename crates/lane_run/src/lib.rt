@@ -35,12 +35,9 @@ mod lane_work;
 mod run;
 mod settling;
 mod threads;
-mod trace;
 
 pub use fault::LaneFault;
-pub use job::RunSettings;
 pub use run::{Ran, run_lanes};
-pub use trace::first_bad_line;
 
 #[cfg(test)]
 mod tests;

@@ -1,10 +1,11 @@
 //! Runs beside their gates, and lines that may not stand.
 ghost use Rattle.std.specs.Prelude.{◌<◌, ◌≤◌, ◌^◌, length};
-ghost use Rattle.lane_run.specs.Work.{CanRun};
+ghost use Rattle.run_settings.specs.Settings.{CanRun};
 
-use crate::{LaneFault, Ran, RunSettings, first_bad_line, run_lanes};
+use crate::{LaneFault, Ran, run_lanes};
 use frame_batch::Gate;
 use frame_stats::Counts;
+use run_settings::RunSettings;
 use std::alloc::Global;
 use std::sync::Wait;
 use std::sync::atomic::{AtomicU64, Ordering};
@@ -330,22 +331,5 @@ fn a_gate_that_lets_nothing_pass_is_a_refusal(rt: HostRuntime) -> Result<(), Fai
     let frames = [UNTAGGED.as_slice()];
     let found = versions_of(&rt, rt.alloc(), "", &frames, &settings, &Closed, &NOTHING);
     assert!(rt; matches!(found, Err(LaneFault::Refused)));
-    Ok(())
-}
-
-#[test]
-fn the_first_line_that_may_not_stand_is_found(rt: HostRuntime) -> Result<(), Fail> {
-    let cases: [(&str, Option<u64>); 7] = [
-        ("", None),
-        ("# one\n\n# three\r\n", None),
-        (PORT_257, None),
-        (FAULTY_FIRST, None),
-        ("# one\no 0001\n\no 0002\nf 257 00\nf 257 00\n", Some(5)),
-        ("o 0001\no 000\n", Some(2)),
-        ("x", Some(1)),
-    ];
-    for (trace, expected) in &cases {
-        assert_eq!(rt; first_bad_line(trace.as_bytes()), *expected, "{trace}");
-    }
     Ok(())
 }

@@ -3,7 +3,7 @@ ghost use Rattle.std.specs.Prelude.{◌≡◌, IfOk, OnOk, All};
 ghost use Rattle.std.specs.List.{AllZip};
 ghost use Rattle.std.specs.Option.{ForSome};
 ghost use Rattle.lane_run.specs.Control.{Applied};
-ghost use Rattle.lane_run.specs.Trace.{requests_of};
+ghost use Rattle.mib_trace.specs.Trace.{requests_of};
 ghost use Rattle.lane_run.specs.Work.{Did, IsOut};
 
 use crate::control_work::apply_trace;

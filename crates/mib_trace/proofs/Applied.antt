@@ -6,7 +6,7 @@ use Rattle.capture.specs.Text.{lines_of}
 use Rattle.mib_state.specs.After.{state_from}
 use Rattle.mib_state.specs.Entities.{State}
 use Rattle.mib_state.specs.Step.{step}
-use Rattle.lane_run.specs.Trace.{request_in, requests_of}
+use Rattle.mib_trace.specs.Trace.{request_in, requests_of}
 
 pub state_from-append : (s : State) (qs rs : List Request) → state_from s (qs ++ rs) ≡ state_from (state_from s qs) rs
 state_from-append s [] rs = refl

@@ -2,17 +2,14 @@
 ghost use Rattle.std.specs.Prelude.{◌≡◌, OnErr, OnOk};
 ghost use Rattle.std.specs.Result.{result_err};
 ghost use Rattle.capture.specs.Line.{asked_by};
-ghost use Rattle.lane_run.specs.Trace.{first_bad, request_in, request_read, requests_of};
+ghost use Rattle.mib_trace.specs.Trace.{first_bad, request_in, request_read, requests_of};
 ghost use Rattle.mib_state.specs.After.{after_from, state_from};
 ghost use Rattle.omci_msg.specs.Message.{request_of};
 
+use crate::trace::{MOST_SPELLED, first_bad_line};
 use capture::{Line, first_line, read_line};
-use lane_run::first_bad_line;
 use mib_state::Mib;
 use omci_msg::read;
-
-/// The most bytes that a line can spell.
-const MOST_SPELLED: usize = 10_000;
 
 /// Applies the messages of a trace to a MIB, one after the other, as a run does: one with a fault is passed over, and one that is
 /// refused changes nothing. A trace with a line that is bad or a frame is refused by the number, from 1, of the first such line;

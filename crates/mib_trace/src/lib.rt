@@ -1,9 +1,11 @@
-//! A trace of messages applied to a MIB, without lanes: the entities that a run's trace leaves.
+//! A trace: a script of messages alone. Which line may not stand in one, and the entities that its messages leave, without lanes.
 #![tactic(auto)]
 
 mod apply;
+mod trace;
 
 pub use apply::apply_trace;
+pub use trace::{MOST_SPELLED, first_bad_line};
 
 #[cfg(test)]
 mod tests;

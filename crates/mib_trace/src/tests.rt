@@ -1,5 +1,5 @@
 //! Which entities a trace leaves, and which traces are refused.
-use crate::apply_trace;
+use crate::{apply_trace, first_bad_line};
 use mib_state::Mib;
 use std::alloc::{AllocError, Global};
 use std::test::Fail;
@@ -37,6 +37,7 @@ fn a_trace_leaves_what_its_accepted_messages_leave(rt: HostRuntime) -> Result<()
             "0005490a010c04018000",
         ],
     )?;
+    assert_eq!(rt; first_bad_line(trace.as_bytes()), None);
     assert_eq!(rt; apply_trace(&mut mib, trace.as_bytes()), Ok(()));
     assert_eq!(rt; mib.sync(), 2);
     let port_id = mib.gem_port(0x0401).map(|port| port.port_id);
@@ -63,6 +64,21 @@ fn a_trace_with_a_frame_or_a_bad_line_is_refused_whole(rt: HostRuntime) -> Resul
         );
         assert_eq!(rt; mib.sync(), 0);
         assert!(rt; mib.gem_port(0x0401).is_none());
+    }
+    Ok(())
+}
+
+#[test]
+fn the_first_line_that_may_not_stand_is_found(rt: HostRuntime) -> Result<(), Fail> {
+    let cases: [(&str, Option<u64>); 5] = [
+        ("", None),
+        ("# one\n\n# three\r\n", None),
+        ("# one\no 0001\n\no 0002\nf 257 00\nf 257 00\n", Some(5)),
+        ("o 0001\no 000\n", Some(2)),
+        ("x", Some(1)),
+    ];
+    for (trace, expected) in &cases {
+        assert_eq!(rt; first_bad_line(trace.as_bytes()), *expected, "{trace}");
     }
     Ok(())
 }

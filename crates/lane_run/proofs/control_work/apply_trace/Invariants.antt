@@ -1,7 +1,7 @@
 use Rattle.std.proofs.Common.{length}
 use Rattle.plan_publish.specs.Control.{Progress}
 use Rattle.lane_run.specs.Control.{Applied}
-use Rattle.lane_run.specs.Trace.{requests_of}
+use Rattle.mib_trace.specs.Trace.{requests_of}
 use Rattle.lane_run.proofs.control_work.apply_trace.Given as goal
 
 -- what the rest leaves now the whole trace leaves

@@ -6,7 +6,7 @@ use Rattle.plan_publish.specs.Told.{told_list}
 use Rattle.lane_run.specs.declared.settling.Settled.{Settled}
 use Rattle.lane_run.specs.Run.{IsRun, batches_in}
 use Rattle.lane_run.specs.Settling.{IsSettled}
-use Rattle.lane_run.specs.Trace.{requests_of}
+use Rattle.mib_trace.specs.Trace.{requests_of}
 use Rattle.lane_run.proofs.Applying.{applied_new, published_home, published_all}
 use Rattle.lane_run.proofs.Counting.{bytes_of}
 use Rattle.lane_run.proofs.Learnt.{learnt_out, learnt_home, learnt_numbers}

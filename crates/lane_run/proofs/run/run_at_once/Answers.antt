@@ -13,7 +13,7 @@ use Rattle.lane_run.specs.declared.settling.Settled.{Settled}
 use Rattle.lane_run.specs.Control.{Applied}
 use Rattle.lane_run.specs.Run.{IsRun, batches_in}
 use Rattle.lane_run.specs.Settling.{IsSettled}
-use Rattle.lane_run.specs.Trace.{requests_of}
+use Rattle.mib_trace.specs.Trace.{requests_of}
 use Rattle.lane_run.proofs.Applying.{applied_new}
 use Rattle.lane_run.proofs.Counting.{bytes_of}
 use Rattle.lane_run.proofs.Running.{of_ok, on_ok, new_home, new_numbers, done_home, run_of}

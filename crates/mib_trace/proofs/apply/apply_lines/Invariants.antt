@@ -1,6 +1,6 @@
 use Rattle.std.proofs.Common.{◌≡◌, length}
 use Rattle.mib_state.specs.After.{state_from}
-use Rattle.lane_run.specs.Trace.{requests_of}
+use Rattle.mib_trace.specs.Trace.{requests_of}
 use Rattle.mib_trace.proofs.apply.apply_lines.Given as goal
 
 -- what the rest leaves now the whole trace leaves

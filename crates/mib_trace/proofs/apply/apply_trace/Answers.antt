@@ -1,7 +1,7 @@
 use Rattle.std.proofs.Common.{ap, ◌∙◌}
 use Rattle.mib_state.proofs.Accepted.{latch_is_no_entity}
 use Rattle.mib_state.specs.Entities.{State}
-use Rattle.lane_run.specs.Trace.{requests_of}
+use Rattle.mib_trace.specs.Trace.{requests_of}
 use Rattle.mib_trace.proofs.apply.apply_trace.Goals as goal
 
 pub returns-clause-entities : goal.returns-clause-entities

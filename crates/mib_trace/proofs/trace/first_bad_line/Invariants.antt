@@ -1,7 +1,7 @@
 use Rattle.std.proofs.Common.{◌≡◌, ◌≤◌, ◌+◌, length}
-use Rattle.lane_run.specs.Trace.{first_bad}
-use Rattle.lane_run.proofs.Lines.{bad_from}
-use Rattle.lane_run.proofs.trace.first_bad_line.Given as goal
+use Rattle.mib_trace.specs.Trace.{first_bad}
+use Rattle.mib_trace.proofs.Lines.{bad_from}
+use Rattle.mib_trace.proofs.trace.first_bad_line.Given as goal
 
 abbrev pub invariant-loop-rest : goal.invariant-loop-rest
 invariant-loop-rest l = record {

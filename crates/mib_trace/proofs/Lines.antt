@@ -3,7 +3,7 @@ use Rattle.std.proofs.Common.{ℕ, ◌+◌, List, Option}
 use Rattle.std.specs.Prelude.{not, option_map, position}
 use Rattle.capture.specs.Line.{asked_by}
 use Rattle.capture.specs.Text.{lines_of}
-use Rattle.lane_run.specs.Trace.{may_stand}
+use Rattle.mib_trace.specs.Trace.{may_stand}
 
 -- the number of the first line that may not stand, where the first line has this number
 abbrev pub bad_from : ℕ → List ℕ → Option ℕ

@@ -1,12 +1,12 @@
-//! The lines of a trace, looked at before a run.
+//! The lines of a trace, looked at before anything is applied.
 ghost use Rattle.std.specs.Prelude.{◌≡◌};
 ghost use Rattle.capture.specs.Line.{asked_by};
-ghost use Rattle.lane_run.specs.Trace.{first_bad, may_stand};
+ghost use Rattle.mib_trace.specs.Trace.{first_bad, may_stand};
 
 use capture::{Line, first_line, read_line};
 
 /// The most bytes that a line can spell.
-pub(crate) const MOST_SPELLED: usize = 10_000;
+pub const MOST_SPELLED: usize = 10_000;
 
 /// The number, from 1, of the first line of a trace that is neither a message nor nothing: a frame, or a bad line. A message with
 /// a fault may stand. It takes no memory.

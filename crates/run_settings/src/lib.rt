@@ -1,0 +1,9 @@
+//! How the frames of a capture are forwarded: what a run is asked for.
+#![tactic(auto)]
+
+mod settings;
+
+pub use settings::{BATCH_LIMIT, LANE_LIMIT, RunSettings};
+
+#[cfg(test)]
+mod tests;
