@@ -1,6 +1,7 @@
 //! What a run writes.
-use crate::tests::{HEADER, Sink, applied_first, port_257, push_message};
+use crate::tests::{HEADER, applied_first, port_257};
 use crate::{RunFault, run_over};
+use fixtures::{Sink, push_message};
 use std::alloc::{AllocError, Global};
 use std::test::Fail;
 
@@ -41,6 +42,7 @@ fn tagging(alloc: Global) -> Result<String, AllocError> {
     let mut text = port_257(alloc)?;
     push_message(
         &mut text,
+        "o ",
         "0005480a00ab0701 0400 f8000000f8000000 000f000000000324",
     )?;
     Ok(text)
@@ -68,12 +70,7 @@ fn lines_are_the_same_on_one_lane_and_on_eight(rt: HostRuntime) -> Result<(), Fa
         let mut written = Vec::new(alloc);
         run_over(&rt, alloc, trace.as_bytes(), &file, &settings, &mut written)?;
         assert_eq!(rt; written.as_slice(), LINES.as_bytes(), "{lanes} lanes");
-        let mut dribble = Sink {
-            bytes: Vec::new(alloc),
-            most: 1,
-            room: 1000,
-            fails: true,
-        };
+        let mut dribble = Sink::new(alloc, 1, 1000, true);
         run_over(&rt, alloc, trace.as_bytes(), &file, &settings, &mut dribble)?;
         assert_eq!(rt; dribble.bytes.as_slice(), LINES.as_bytes(), "{lanes} lanes");
     }
@@ -88,12 +85,7 @@ fn a_writer_that_fails_at_any_byte_has_a_front_of_the_lines(rt: HostRuntime) -> 
     let settings = applied_first(1, 2);
     for room in 0..LINES.len() {
         for fails in [false, true] {
-            let mut sink = Sink {
-                bytes: Vec::new(alloc),
-                most: 10,
-                room,
-                fails,
-            };
+            let mut sink = Sink::new(alloc, 10, room, fails);
             assert_eq!(rt;
                 run_over(&rt, alloc, trace.as_bytes(), &file, &settings, &mut sink),
                 Err(RunFault::Write),

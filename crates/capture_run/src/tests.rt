@@ -1,9 +1,8 @@
 //! What a run refuses, and how it is reported.
 use crate::{RunFault, RunSettings, report_run, run_over};
 use capture::CaptureFault;
+use fixtures::{Sink, push_message};
 use std::alloc::{AllocError, Global};
-use std::io;
-use std::io::{ErrorKind, Write};
 use std::test::Fail;
 
 /// The header of a capture with the lowest byte first.
@@ -19,27 +18,11 @@ pub(crate) const PORT_257: [&str; 4] = [
     "0004440a00ab0701 020101",
 ];
 
-/// A line of a trace with a message: the digits that it begins with, zeros up to byte 40, and the trailer.
-pub(crate) fn push_message(text: &mut String, digits: &str) -> Result<(), AllocError> {
-    text.push_str("o ")?;
-    let mut count = 0u32;
-    for digit in digits.chars() {
-        if digit != ' ' {
-            text.push(digit)?;
-            count = count.saturating_add(1);
-        }
-    }
-    for _ in count..80 {
-        text.push('0')?;
-    }
-    text.push_str("0000002800000000\n")
-}
-
 /// The trace that makes port 257.
 pub(crate) fn port_257(alloc: Global) -> Result<String, AllocError> {
     let mut text = String::new(alloc);
     for digits in PORT_257 {
-        push_message(&mut text, digits)?;
+        push_message(&mut text, "o ", digits)?;
     }
     Ok(text)
 }
@@ -51,31 +34,6 @@ pub(crate) fn applied_first(lanes: u16, batch: u32) -> RunSettings {
         lanes,
         batch,
         after: true,
-    }
-}
-
-/// Takes at most so many bytes a write, and so many in all; then it fails, or takes none.
-#[derive(Drop)]
-pub(crate) struct Sink {
-    pub(crate) bytes: Vec<u8>,
-    pub(crate) most: usize,
-    pub(crate) room: usize,
-    pub(crate) fails: bool,
-}
-
-impl Write for Sink {
-    fn write(&mut self, buf: &[u8]) -> io::Result<usize> {
-        if self.room == 0 && self.fails {
-            return Err(io::Error::from(ErrorKind::Interrupted));
-        }
-        let count = self.most.min(buf.len()).min(self.room);
-        self.bytes.extend_from_slice(&buf[..count])?;
-        self.room -= count;
-        Ok(count)
-    }
-
-    fn flush(&mut self) -> io::Result<()> {
-        Ok(())
     }
 }
 
@@ -194,12 +152,7 @@ fn a_report_has_the_words_and_the_status(rt: HostRuntime) -> Result<(), Fail> {
         assert_eq!(rt; report_run(&outcome, &mut written), status, "{words}");
         assert_eq!(rt; written.as_slice(), words.as_bytes());
         for room in 0..words.len() {
-            let mut short = Sink {
-                bytes: Vec::new(alloc),
-                most: 100,
-                room,
-                fails: true,
-            };
+            let mut short = Sink::new(alloc, 100, room, true);
             assert_eq!(rt; report_run(&outcome, &mut short), status, "{words}");
             assert_eq!(rt; short.bytes.as_slice(), &words.as_bytes()[..room]);
         }

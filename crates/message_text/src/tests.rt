@@ -1,29 +1,10 @@
 //! What decoding a script writes, and where it ends.
 use crate::{DecodeFault, decode};
+use fixtures::push_message;
 use std::alloc::{AllocError, Global};
 use std::io;
 use std::io::{ErrorKind, Read};
 use std::test::Fail;
-
-/// A line with a message: a letter, the digits that it begins with, zeros up to byte 40, and the trailer. Spaces are for reading.
-pub(crate) fn push_message(
-    text: &mut String,
-    letter: &str,
-    digits: &str,
-) -> Result<(), AllocError> {
-    text.push_str(letter)?;
-    let mut count = 0u32;
-    for digit in digits.chars() {
-        if digit != ' ' {
-            text.push(digit)?;
-            count = count.saturating_add(1);
-        }
-    }
-    for _ in count..80 {
-        text.push('0')?;
-    }
-    text.push_str("0000002800000000\n")
-}
 
 /// What a script is decoded to.
 pub(crate) fn decoded(alloc: Global, script: &str) -> Result<Vec<u8>, Fail> {

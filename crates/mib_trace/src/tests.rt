@@ -1,24 +1,15 @@
 //! Which entities a trace leaves, and which traces are refused.
 use crate::{apply_trace, first_bad_line};
+use fixtures::push_message;
 use mib_state::Mib;
 use std::alloc::{AllocError, Global};
 use std::test::Fail;
-
-/// A line with a message: the digits that it begins with, zeros up to byte 40, and the trailer.
-fn push_message(text: &mut String, digits: &str) -> Result<(), AllocError> {
-    text.push_str("o ")?;
-    text.push_str(digits)?;
-    for _ in digits.len()..80 {
-        text.push('0')?;
-    }
-    text.push_str("0000002800000000\n")
-}
 
 /// A trace of the messages that begin with these digits.
 fn trace_of(alloc: Global, messages: &[&str]) -> Result<String, AllocError> {
     let mut text = String::from_str(alloc, "# a trace\n\n")?;
     for digits in messages {
-        push_message(&mut text, digits)?;
+        push_message(&mut text, "o ", digits)?;
     }
     Ok(text)
 }

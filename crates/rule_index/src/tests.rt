@@ -1,8 +1,8 @@
 ghost use Rattle.std.specs.Prelude.{◌<◌, length};
 
 use crate::{Followed, Head, Index, law_of_order};
-use byteorder::{BigEndian, ByteOrder};
-use std::alloc::Global;
+use fixtures::frame;
+use std::alloc::{AllocError, Global};
 use std::process::Abort;
 use std::test::Fail;
 use tag_view::{FrameFault, view};
@@ -18,21 +18,7 @@ const DELETION: u64 = 0xffffffff_ffffffff;
 
 /// An entry by its first and its last eight bytes.
 fn entry(key: u64, rest: u64) -> Entry {
-    let mut bytes = [0; 16];
-    BigEndian::write_u64(&mut bytes[..8], key);
-    BigEndian::write_u64(&mut bytes[8..], rest);
-    Entry(bytes)
-}
-
-/// The bytes of a frame with these tags and the type behind them.
-fn frame(alloc: Global, tags: &[u32], ethertype: u16) -> Result<Vec<u8>, Fail> {
-    let mut bytes = [2, 0, 0, 0, 0, 1, 2, 0, 0, 0, 0, 2].to_vec(alloc)?;
-    for tag in tags {
-        bytes.extend_from_slice(&tag.to_be_bytes())?;
-    }
-    bytes.extend_from_slice(&ethertype.to_be_bytes())?;
-    bytes.extend_from_slice(&[0x45, 0x00])?;
-    Ok(bytes)
+    Entry(fixtures::entry(key, rest))
 }
 
 /// The place that is found for a frame with these tags and the type behind them.
@@ -349,7 +335,7 @@ impl Draws {
     }
 
     /// The bytes of a frame.
-    fn frame(&mut self, alloc: Global) -> Result<Vec<u8>, Fail> {
+    fn frame(&mut self, alloc: Global) -> Result<Vec<u8>, AllocError> {
         let tags = [self.tag(), self.tag(), self.tag()];
         let count = self.of(&[0, 1, 1, 2, 2, 3]) as usize;
         let ethertype = self.of(&[0x0800, 0x8863, 0x8864, 0x0806, 0x86dd, 0x888e, 0x1234]);

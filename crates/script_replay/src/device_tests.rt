@@ -1,10 +1,11 @@
 //! What is read and written where a reader or a writer fails at any byte, or gives or takes one at a time.
 
-use crate::devices::{Sink, Source};
+use crate::devices::Source;
 use crate::dialogue::Step::{Put, Send};
 use crate::dialogue::{Dialogue, Step};
 use crate::fault::ReplayFault;
 use crate::script::replay;
+use fixtures::Sink;
 use std::alloc::Global;
 use std::process::Abort;
 use std::test::Fail;

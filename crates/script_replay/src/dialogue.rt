@@ -2,7 +2,8 @@
 
 use crate::fault::ReplayFault;
 use crate::script::replay;
-use crate::tests::{CREATED, PORT_257, messages, push_message};
+use crate::tests::{CREATED, PORT_257, messages};
+use fixtures::push_message;
 use std::alloc::{AllocError, Global};
 use std::process::Abort;
 

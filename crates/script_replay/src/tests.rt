@@ -1,12 +1,12 @@
 //! Scripts and their answers, by hand.
 
-use crate::devices::Sink;
 use crate::dialogue::{Replayed, compare};
 use crate::fault::ReplayFault;
 use crate::report::report_replay;
 use crate::script::replay;
 use Change::{CrLf, Nothing, Odd, Unended, Upper};
 use Part::{Ask, Reply, Text};
+use fixtures::{Sink, push_message};
 use std::alloc::{AllocError, Global};
 use std::process::Abort;
 use std::test::Fail;
@@ -14,23 +14,6 @@ use std::test::Fail;
 const CREATE_GEM_PORT: &str = "0001440a010c0401 0400800103";
 
 pub(crate) const CREATED: &str = "0001240a010c0401 00";
-
-/// A line with a message: its mark, the digits that it begins with, zeros up to byte 40, and the
-/// trailer.
-pub(crate) fn push_message(text: &mut String, mark: &str, digits: &str) -> Result<(), AllocError> {
-    text.push_str(mark)?;
-    let mut count = 0u32;
-    for digit in digits.chars() {
-        if digit != ' ' {
-            text.push(digit)?;
-            count = count.saturating_add(1);
-        }
-    }
-    for _ in count..80 {
-        text.push('0')?;
-    }
-    text.push_str("0000002800000000\n")
-}
 
 pub(crate) fn messages(alloc: Global, mark: &str, all: &[&str]) -> Result<String, AllocError> {
     let mut text = String::new(alloc);

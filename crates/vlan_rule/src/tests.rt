@@ -3,8 +3,8 @@ use crate::{
     Rank, Retag, Rule, RuleFault, RuleTable, TABLE_MAX_SIZE, TableFault, TagFilter, TpidFilter,
     TpidSource, Treatment, VidFilter, VidSource, law_of_choice,
 };
-use byteorder::{BigEndian, ByteOrder};
-use std::alloc::{AllocError, Global};
+use fixtures::frame;
+use std::alloc::Global;
 use std::process::Abort;
 use std::test::Fail;
 use tag_view::view;
@@ -18,21 +18,7 @@ const DELETION: u64 = 0xffffffff_ffffffff;
 
 /// An entry by its first and its last eight bytes.
 fn entry(key: u64, rest: u64) -> Entry {
-    let mut bytes = [0; 16];
-    BigEndian::write_u64(&mut bytes[..8], key);
-    BigEndian::write_u64(&mut bytes[8..], rest);
-    Entry(bytes)
-}
-
-/// A frame with these tags and the type behind them.
-fn frame(alloc: Global, tags: &[u32], ethertype: u16) -> Result<Vec<u8>, AllocError> {
-    let mut bytes = [2, 0, 0, 0, 0, 1, 2, 0, 0, 0, 0, 2].to_vec(alloc)?;
-    for tag in tags {
-        bytes.extend_from_slice(&tag.to_be_bytes())?;
-    }
-    bytes.extend_from_slice(&ethertype.to_be_bytes())?;
-    bytes.extend_from_slice(&[0x45, 0x00])?;
-    Ok(bytes)
+    Entry(fixtures::entry(key, rest))
 }
 
 /// The place of the entry that is used for a frame with these tags and the type behind them.
