@@ -3,6 +3,7 @@ use crate::{
     Rank, Retag, Rule, RuleFault, RuleTable, TABLE_MAX_SIZE, TableFault, TagFilter, TpidFilter,
     TpidSource, Treatment, VidFilter, VidSource, law_of_choice,
 };
+use byteorder::{BigEndian, ByteOrder};
 use fixtures::frame;
 use std::alloc::Global;
 use std::process::Abort;
@@ -18,7 +19,10 @@ const DELETION: u64 = 0xffffffff_ffffffff;
 
 /// An entry by its first and its last eight bytes.
 fn entry(key: u64, rest: u64) -> Entry {
-    Entry(fixtures::entry(key, rest))
+    let mut bytes = [0; 16];
+    BigEndian::write_u64(&mut bytes[..8], key);
+    BigEndian::write_u64(&mut bytes[8..], rest);
+    Entry(bytes)
 }
 
 /// The place of the entry that is used for a frame with these tags and the type behind them.
