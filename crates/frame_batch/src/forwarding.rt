@@ -46,7 +46,7 @@ pub fn forward_all<'a, R: Threads + Sync>(
     }
 }
 
-/// The same on the caller's thread.
+/// The same on the caller's thread. The port is looked up once.
 pub(crate) fn forward_each<'a>(
     alloc: Global,
     live: &Live,
@@ -56,18 +56,7 @@ pub(crate) fn forward_each<'a>(
     ensures { IfOk result (λ verdicts. verdicts.items ≡ meanings live.now port frames.now) }
 {
     let mut verdicts = Vec::with_capacity(alloc, frames.len())?;
-    push_all(live, port, frames, &mut verdicts);
-    Ok(verdicts)
-}
-
-/// Appends the verdict on each frame. The port is looked up once.
-#[inline(never)]
-fn push_all<'a>(live: &Live, port: u16, frames: &[&'a [u8]], verdicts: &mut Vec<Verdict<'a>>)
-    requires { vec_len verdicts.old + length frames.now ≤ vec_capacity verdicts.old }
-    ensures { verdicts.new.items ≡ verdicts.old.items ++ meanings live.now port frames.now }
-{
     let plan = live.port(port);
-    for frame in frames {
-        plan.push(frame, verdicts);
-    }
+    plan.push_all(frames, &mut verdicts);
+    Ok(verdicts)
 }

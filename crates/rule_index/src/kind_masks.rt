@@ -26,8 +26,7 @@ pub(crate) fn type_class(ethertype: u16) -> usize
     ensures bound { result < 6 }
 {
     let place = usize::from((ethertype ^ ethertype >> 8) % 32);
-    let class = usize::from(CLASSES[place]);
-    if TYPES[place] == ethertype { class } else { 0 }
+    usize::from(CLASSES[place]) * usize::from(TYPES[place] == ethertype)
 }
 
 // A mask for each number of tags and class of types, joined from masks by either.
