@@ -1,4 +1,4 @@
-use Rattle.std.proofs.Common.{◌*◌, arith, sym}
+use Rattle.std.proofs.Common.{◌*◌, arith}
 use Rattle.hex.proofs.Pairs.{decode_done, decode_step}
 use Rattle.hex_digits.proofs.read.put_bytes.Goals as goal
 

@@ -1,8 +1,6 @@
-use Rattle.std.proofs.Common.{◌≡◌, ◌∙◌, sym, true, arith, refl}
-use Rattle.std.specs.List.{list_all}
+use Rattle.std.proofs.Common.{arith}
 use Rattle.std.proofs.lemmas.List.Sums.{list_all-from_AllPass}
 use Rattle.hex.specs.Hex.{is_hex_digit}
-use Rattle.hex.proofs.Pairs.{decode_sized-pairs}
 use Rattle.hex_digits.proofs.Refusals.{refused}
 use Rattle.hex_digits.proofs.read.read_digits.Goals as goal
 use Rattle.hex_digits.proofs.read.read_digits.Goals.{then-digits-ne0-via-then-digits-ne0, then-digits-ne0-via-else-digits-ne0+then-digits-bytes, then-digits-ne0-via-else-digits-ne0+else-digits-bytes+then-not-are_digits}
