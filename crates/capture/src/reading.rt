@@ -4,6 +4,7 @@ ghost use Rattle.capture.specs.Line.{asked_by, content_of, frame_asked_by, lette
 ghost use Rattle.capture.specs.Shown.{IsSpelledWithin, shown};
 
 use crate::line::Line;
+use hex_digits::read_digits;
 
 /// The most bytes that a line may have, without its line feed.
 pub const LINE_LIMIT: usize = 20_000;
@@ -15,7 +16,9 @@ fn read_bytes<'a>(digits: &[u8], buffer: &'a mut [u8]) -> Option<&'a [u8]>
     ensures within { IfSome result (λ bytes. 2 * length bytes.now ≤ length digits.now) }
 {
     let bytes = &mut buffer[..digits.len() / 2];
-    hex::decode_to_slice(digits, bytes).ok()?;
+    if !read_digits(digits, bytes) {
+        return None;
+    }
     Some(bytes)
 }
 

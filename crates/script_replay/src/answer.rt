@@ -12,6 +12,7 @@ ghost use Rattle.tag_view.specs.Tag.{tag_bytes};
 use crate::onu::Onu;
 use capture::{Line, read_line};
 use forward_plan::{OutFrame, Reason, Verdict};
+use hex_digits::write_digits;
 use itoa::Buffer;
 use omci_msg::{MsgFault, Reply, read, write};
 use tag_view::Tag;
@@ -36,7 +37,7 @@ fn put_digits(answers: &mut Vec<u8>, bytes: &[u8])
     let begun = answers.len();
     let _ = answers.resize(begun + 2 * bytes.len(), 0);
     let (_, room) = answers.as_mut_slice().split_at_mut(begun);
-    hex::encode_to_slice(bytes, room).unwrap();
+    write_digits(bytes, room);
 }
 
 // Puts the line of a reply behind the answers so far.
@@ -47,10 +48,8 @@ fn put_reply(answers: &mut Vec<u8>, reply: &Reply)
     ensures capacity { vec_capacity answers.old ≤ vec_capacity answers.new }
 {
     let bytes = write(reply);
-    let mut digits = [0; 96];
-    hex::encode_to_slice(bytes.as_slice(), &mut digits).unwrap();
     put(answers, b"r ");
-    put(answers, &digits);
+    put_digits(answers, bytes.as_slice());
     put(answers, b"\n");
 }
 

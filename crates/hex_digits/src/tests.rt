@@ -1,0 +1,183 @@
+use crate::{read_digits, write_digits};
+use std::process::Abort;
+
+/// Compares what two characters are read as.
+fn compare_pair(rt: &impl Abort, pair: [u8; 2], wanted: Option<u32>) {
+    let mut bytes = [0x5a];
+    let read = read_digits(&pair, &mut bytes);
+    assert_eq!(rt; read, wanted.is_some(), "{pair:?}");
+    assert_eq!(rt; u32::from(bytes[0]), wanted.unwrap_or(0x5a), "{pair:?}");
+}
+
+#[test]
+fn each_character_is_a_digit_where_std_says_so(rt: HostRuntime) {
+    for character in 0..=255 {
+        let value = char::from(character).to_digit(16);
+        compare_pair(
+            &rt,
+            [character, b'0'],
+            value.map(|value| value.min(15) * 16),
+        );
+        compare_pair(
+            &rt,
+            [b'F', character],
+            value.map(|value| 240 + value.min(15)),
+        );
+    }
+}
+
+/// The digits of a byte, as the table of digits in RFC 4648, section 8, has them, but in lower case.
+fn compare_digits_of(rt: &impl Abort, byte: u8) {
+    let table = b"0123456789abcdef";
+    let mut digits = [b'?'; 2];
+    write_digits(&[byte], &mut digits);
+    assert_eq!(rt; digits[0], table[usize::from(byte / 16)], "{byte}");
+    assert_eq!(rt; digits[1], table[usize::from(byte % 16)], "{byte}");
+}
+
+#[test]
+fn each_byte_has_two_digits(rt: HostRuntime) {
+    for byte in 0..=255 {
+        compare_digits_of(&rt, byte);
+    }
+}
+
+/// The examples of RFC 4648, section 10, and the same in lower case.
+const EXAMPLES: [(&[u8], &[u8], &[u8]); 7] = [
+    (b"", b"", b""),
+    (b"f", b"66", b"66"),
+    (b"fo", b"666F", b"666f"),
+    (b"foo", b"666F6F", b"666f6f"),
+    (b"foob", b"666F6F62", b"666f6f62"),
+    (b"fooba", b"666F6F6261", b"666f6f6261"),
+    (b"foobar", b"666F6F626172", b"666f6f626172"),
+];
+
+/// Compares the first bytes, as many as wanted, with those that digits are read as.
+fn compare_read(rt: &impl Abort, digits: &[u8], wanted: &[u8]) {
+    let mut room = [0; 6];
+    let bytes = &mut room[..wanted.len().min(6)];
+    assert!(rt; read_digits(digits, bytes), "{digits:?}");
+    assert_eq!(rt; &*bytes, wanted, "{digits:?}");
+}
+
+#[test]
+fn digits_of_either_case_are_read(rt: HostRuntime) {
+    for (bytes, upper, lower) in EXAMPLES {
+        compare_read(&rt, upper, bytes);
+        compare_read(&rt, lower, bytes);
+    }
+    compare_read(&rt, b"aAbBfF", &[0xaa, 0xbb, 0xff]);
+}
+
+#[test]
+fn digits_are_written_in_lower_case(rt: HostRuntime) {
+    for (bytes, _, lower) in EXAMPLES {
+        let mut room = [b'?'; 12];
+        if 2 * bytes.len() <= 12 {
+            let digits = &mut room[..2 * bytes.len()];
+            write_digits(bytes, digits);
+            assert_eq!(rt; &*digits, lower, "{bytes:?}");
+        }
+    }
+}
+
+#[test]
+fn what_is_refused_leaves_the_bytes(rt: HostRuntime) {
+    for (digits, count) in [
+        (&b""[..], 1),
+        (b"0", 0),
+        (b"0", 1),
+        (b"00", 0),
+        (b"00", 2),
+        (b"000", 1),
+        (b"0000", 1),
+        (b"0g", 1),
+        (b"g0", 1),
+        (b"0x", 1),
+        (b" 0", 1),
+        (b"00 0", 2),
+        (b"\xb00", 1),
+    ] {
+        let mut bytes = [1, 2, 3];
+        assert!(rt;
+            !read_digits(digits, &mut bytes[..count]),
+            "{digits:?} into {count}"
+        );
+        assert_eq!(rt; bytes, [1, 2, 3], "{digits:?} into {count}");
+    }
+}
+
+/// Eight bytes with all digits, again and again.
+const BYTES: [u8; 8] = [0x01, 0x23, 0x45, 0x67, 0x89, 0xab, 0xcd, 0xef];
+
+/// The digits of these bytes.
+const DIGITS: [u8; 16] = *b"0123456789abcdef";
+
+/// So many bytes, again and again those eight.
+fn many_bytes() -> [u8; 80] {
+    let mut bytes = [0; 80];
+    for (i, byte) in bytes.iter_mut().enumerate() {
+        *byte = BYTES[i % 8];
+    }
+    bytes
+}
+
+/// The digits of those bytes.
+fn many_digits() -> [u8; 160] {
+    let mut digits = [0; 160];
+    for (i, digit) in digits.iter_mut().enumerate() {
+        *digit = DIGITS[i % 16];
+    }
+    digits
+}
+
+/// Compares the reading and the writing of so many bytes.
+fn compare_length(rt: &impl Abort, bytes: &[u8; 80], digits: &[u8; 160], length: usize) {
+    let length = length.min(80);
+    let mut read = [0xff; 80];
+    assert!(rt;
+        read_digits(&digits[..2 * length], &mut read[..length]),
+        "{length}"
+    );
+    assert_eq!(rt; &read[..length], &bytes[..length], "{length}");
+    assert!(rt; read[length..].iter().all(|byte| *byte == 0xff), "{length}");
+    let mut written = [b'?'; 160];
+    write_digits(&bytes[..length], &mut written[..2 * length]);
+    assert_eq!(rt; &written[..2 * length], &digits[..2 * length], "{length}");
+    assert!(rt;
+        written[2 * length..].iter().all(|digit| *digit == b'?'),
+        "{length}"
+    );
+}
+
+#[test]
+fn digits_of_each_number_of_bytes_are_read_and_written(rt: HostRuntime) {
+    let bytes = many_bytes();
+    let digits = many_digits();
+    for length in 0..=80 {
+        compare_length(&rt, &bytes, &digits, length);
+    }
+}
+
+/// Compares what digits are read as where another character stands at a place.
+fn compare_wrong(rt: &impl Abort, digits: &[u8; 160], place: usize, character: u8) {
+    let mut wrong = *digits;
+    wrong[place % 160] = character;
+    let mut bytes = [0xff; 80];
+    assert!(rt; !read_digits(&wrong, &mut bytes), "{character} at {place}");
+    assert!(rt;
+        bytes.iter().all(|byte| *byte == 0xff),
+        "{character} at {place}"
+    );
+}
+
+#[test]
+fn one_wrong_character_is_found_at_each_place(rt: HostRuntime) {
+    let digits = many_digits();
+    for place in 0..160 {
+        for character in [0, b'/', b':', b'@', b'G', b'`', b'g', 0xb0, 0xff] {
+            compare_wrong(&rt, &digits, place, character);
+        }
+    }
+}
