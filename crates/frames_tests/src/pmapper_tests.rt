@@ -1,6 +1,6 @@
 ghost use Rattle.std.specs.Prelude.{◌<◌};
 
-use crate::{Mapper, pointer, priority};
+use pmapper::{Mapper, pointer, priority};
 use std::test::Fail;
 use tag_view::{DscpMap, Tag};
 

@@ -1,8 +1,8 @@
-use crate::{Treat, Treated, treat};
 use arrayvec::ArrayVec;
 use std::process::Abort;
 use std::test::Fail;
 use tag_view::{DscpMap, view};
+use treatment::{Treat, Treated, treat};
 use vlan_rule::{Entry, Rule, RuleFault, TableSettings};
 
 /// DSCP 46 has priority 5, and all others 0.

@@ -1,4 +1,4 @@
-use crate::{
+use omci_msg::{
     Action, MsgFault, OtherCode, Reply, Request, law_of_action_codes, law_of_spellings, read,
     read_reply, write, write_request,
 };
