@@ -1,4 +1,4 @@
-use crate::Mib;
+use mib_state::Mib;
 use omci_msg::{Action, Request};
 use std::alloc::{AllocError, Global};
 use std::process::Abort;

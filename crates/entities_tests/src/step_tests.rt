@@ -1,5 +1,5 @@
-use crate::{Mib, Touch};
 use draws::{contents, create_interwork, create_table, delete, request, set};
+use mib_state::{Mib, Touch};
 use omci_msg::{Action, OtherCode, Reply, Request};
 use pmapper::{GemPort, Interwork, Mapper};
 use std::alloc::{AllocError, Global};
