@@ -1,14 +1,14 @@
-use crate::{
-    AddedTag, EligibleSource, Entry, EthertypeFilter, Filter, PriorityFilter, PrioritySource, Put,
-    Rank, Retag, Rule, RuleFault, RuleTable, TABLE_MAX_SIZE, TableFault, TagFilter, TpidFilter,
-    TpidSource, Treatment, VidFilter, VidSource, law_of_choice,
-};
 use byteorder::{BigEndian, ByteOrder};
 use fixtures::frame;
 use std::alloc::Global;
 use std::process::Abort;
 use std::test::Fail;
 use tag_view::view;
+use vlan_rule::{
+    AddedTag, EligibleSource, Entry, EthertypeFilter, Filter, PriorityFilter, PrioritySource, Put,
+    Rank, Retag, Rule, RuleFault, RuleTable, TABLE_MAX_SIZE, TableFault, TagFilter, TpidFilter,
+    TpidSource, Treatment, VidFilter, VidSource, law_of_choice,
+};
 
 /// The last eight bytes of an entry that changes nothing, and of one that drops the frame.
 const UNCHANGED: u64 = 0x000f0000_000f0000;

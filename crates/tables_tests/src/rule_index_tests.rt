@@ -1,8 +1,8 @@
 ghost use Rattle.std.specs.Prelude.{◌<◌, length};
 
-use crate::{Followed, Head, Index, law_of_order};
 use byteorder::{BigEndian, ByteOrder};
 use fixtures::frame;
+use rule_index::{Followed, Head, Index, law_of_order};
 use std::alloc::{AllocError, Global};
 use std::process::Abort;
 use std::test::Fail;
