@@ -1,8 +1,8 @@
 //! Storms, whose outcome is the same whatever the order in which threads run.
-use crate::Report;
 use crate::storm::{Drawn, Fault, Storm, Wrong, check, run};
 use draws::{Draws, PORTS, UNTAGGED, set};
 use forward_plan::Verdict;
+use frame_batch::Report;
 use omci_msg::{Request, read};
 use std::alloc::{AllocError, Global};
 use std::sync::Wait;

@@ -4,9 +4,9 @@ ghost use Rattle.std.specs.Option.{ForSome};
 ghost use Rattle.plan_publish.specs.Lane.{home_of};
 ghost use Rattle.plan_publish.specs.Told.{told_home};
 
-use crate::{BatchFault, Gate, Report, run_batch};
 use draws::Draws;
 use forward_plan::{Reason, Verdict, plain_walk};
+use frame_batch::{BatchFault, Gate, Report, run_batch};
 use mib_state::Mib;
 use omci_msg::{Request, write_request};
 use plan_publish::{Control, Held, Lane, OpenFault, Told, open};

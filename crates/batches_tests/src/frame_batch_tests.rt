@@ -1,9 +1,9 @@
-use crate::{
+use draws::{PORT_257, UNTAGGED, message};
+use forward_plan::{Reason, Verdict};
+use frame_batch::{
     BatchFault, Gate, GatherFault, Report, Tally, forward_all, gather, gather_tallies,
     law_of_arrival, run_batch,
 };
-use draws::{PORT_257, UNTAGGED, message};
-use forward_plan::{Reason, Verdict};
 use frame_stats::{Counts, count_of};
 use plan_publish::{Held, Lane, OpenFault, open};
 use std::alloc::Global;

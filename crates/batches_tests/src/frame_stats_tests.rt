@@ -1,7 +1,7 @@
 ghost use Rattle.std.specs.Prelude.{◌≤◌};
 
-use crate::{CountFault, Counts, StatBook, StatFault, count_of, counts_sum};
 use frame_meaning::{OutFrame, Reason, Verdict};
+use frame_stats::{CountFault, Counts, StatBook, StatFault, count_of, counts_sum};
 use std::alloc::{AllocError, Global};
 use std::collections::BTreeMap;
 use std::sync::{Mutex, Wait};
