@@ -6,9 +6,9 @@ ghost use Rattle.plan_publish.specs.Lane.{home_of};
 ghost use Rattle.plan_publish.specs.Told.{told_home};
 
 use crate::dialogue::{PORT_257, PUSH_VLAN_100, ask, ask_all, message, tell};
-use crate::{Control, ControlFault, Held, Lane, OpenFault, Told, open};
 use forward_plan::{Reason, Verdict};
 use omci_msg::MsgFault;
+use plan_publish::{Control, ControlFault, Held, Lane, OpenFault, Told, open};
 use std::alloc::Global;
 use std::process::Abort;
 use std::sync::Wait;

@@ -1,7 +1,7 @@
 //! Messages and their replies, by their digits.
 ghost use Rattle.std.specs.Prelude.{◌≡◌};
 
-use crate::Control;
+use plan_publish::Control;
 use std::process::Abort;
 
 /// What makes a port: a GEM port network CTP with port-ID 1024, an interworking point, a mapper of port 257, and a table of it.

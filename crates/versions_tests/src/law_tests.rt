@@ -1,4 +1,4 @@
-use crate::law_of_interleavings;
+use plan_publish::law_of_interleavings;
 
 #[test]
 fn the_law_of_interleavings_has_nothing_to_do() {

@@ -1,7 +1,7 @@
 //! Replies to messages by a control, byte for byte.
 
 use crate::dialogue::{PORT_257, ask, ask_all};
-use crate::{Control, OpenFault, open};
+use plan_publish::{Control, OpenFault, open};
 use std::alloc::{AllocError, Global};
 use std::process::Abort;
 use std::sync::Wait;
