@@ -27,10 +27,3 @@ pub use fault::{BatchFault, GatherFault};
 pub use forwarding::forward_all;
 pub use gathering::{Gathered, GatheredTallies, gather, gather_tallies};
 pub use law::law_of_arrival;
-
-#[cfg(test)]
-mod storm;
-#[cfg(test)]
-mod storm_tests;
-#[cfg(test)]
-mod tests;

@@ -25,6 +25,3 @@ pub use count::count_of;
 pub use counts::Counts;
 pub use fault::{CountFault, StatFault};
 pub use sums::counts_sum;
-
-#[cfg(test)]
-mod tests;

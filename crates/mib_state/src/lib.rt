@@ -40,8 +40,3 @@ pub fn law_of_accepted()
     ensures suffice { AcceptedSuffice }
     ensures latch { LatchIsNoEntity }
 {}
-
-#[cfg(test)]
-mod held_tests;
-#[cfg(test)]
-mod tests;

@@ -19,6 +19,3 @@ pub use reading::{read, read_reply};
 pub use reply::Reply;
 pub use request::Request;
 pub use writing::{write, write_request};
-
-#[cfg(test)]
-mod tests;

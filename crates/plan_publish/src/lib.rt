@@ -47,12 +47,3 @@ pub use lane::Lane;
 pub use law::law_of_interleavings;
 pub use opening::open;
 pub use told::Told;
-
-#[cfg(test)]
-mod dialogue;
-#[cfg(test)]
-mod lane_tests;
-#[cfg(test)]
-mod law_tests;
-#[cfg(test)]
-mod message_tests;

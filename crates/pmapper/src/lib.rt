@@ -14,6 +14,3 @@ pub use gem_port::GemPort;
 pub use interwork::Interwork;
 pub use mapper::Mapper;
 pub use mapping::{pointer, priority};
-
-#[cfg(test)]
-mod tests;

@@ -52,6 +52,3 @@ pub use followed::Followed;
 pub use head::Head;
 pub use index::Index;
 pub use laws::law_of_order;
-
-#[cfg(test)]
-mod tests;

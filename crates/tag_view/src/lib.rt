@@ -16,6 +16,3 @@ pub use frame::FrameView;
 pub use laws::law_of_readings;
 pub use tag::Tag;
 pub use viewing::view;
-
-#[cfg(test)]
-mod tests;

@@ -31,6 +31,3 @@ pub use compiled::Treat;
 pub use copy::added_tag;
 pub use treated::Treated;
 pub use treating::treat;
-
-#[cfg(test)]
-mod tests;

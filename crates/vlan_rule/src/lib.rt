@@ -31,6 +31,3 @@ pub use table::{RuleTable, TABLE_MAX_SIZE};
 pub use treatment::{
     AddedTag, EligibleSource, PrioritySource, Retag, TpidSource, Treatment, VidSource,
 };
-
-#[cfg(test)]
-mod tests;

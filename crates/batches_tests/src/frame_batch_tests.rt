@@ -1,0 +1,506 @@
+use draws::{PORT_257, UNTAGGED, message};
+use forward_plan::{Reason, Verdict};
+use frame_batch::{
+    BatchFault, Gate, GatherFault, Report, Tally, forward_all, gather, gather_tallies,
+    law_of_arrival, run_batch,
+};
+use frame_stats::{Counts, count_of};
+use plan_publish::{Held, Lane, OpenFault, open};
+use std::alloc::Global;
+use std::process::Abort;
+use std::sync::Wait;
+use std::sync::atomic::{AtomicU64, Ordering};
+use std::test::Fail;
+use std::thread::{Threads, join, yield_now};
+
+/// A frame that is cut in its tag.
+const CUT: [u8; 14] = [2, 0, 0, 0, 0, 1, 2, 0, 0, 0, 0, 2, 0x81, 0];
+
+/// A frame that is too short.
+const SHORT: [u8; 13] = [2, 0, 0, 0, 0, 1, 2, 0, 0, 0, 0, 2, 8];
+
+/// Whether a frame leaves by GEM port 1024, with its addresses and rest as they were and a tag of VID 100.
+fn is_tagged(verdict: &Verdict<'_>) -> bool {
+    match verdict {
+        Verdict::Forward { gem: 1024, frame } => {
+            let tagged = match frame.tags() {
+                [tag] => tag.bytes() == [0x81, 0, 0, 0x64],
+                _ => false,
+            };
+            tagged && frame.addresses() == &UNTAGGED[..12] && frame.rest() == &UNTAGGED[12..]
+        }
+        _ => false,
+    }
+}
+
+/// How many verdicts are of tagged frames.
+fn tagged(verdicts: &[Verdict<'_>]) -> usize {
+    let mut count = 0usize;
+    for verdict in verdicts {
+        if is_tagged(verdict) {
+            count = count.saturating_add(1);
+        }
+    }
+    count
+}
+
+/// Whether counts show these figures, and GEM port 1024 with this many frames and no other port.
+fn show(counts: &Counts, frames: u64, bytes: u64, drops: [u64; 9], of_1024: u64) -> bool {
+    let ports = if of_1024 == 0 { 0 } else { 1 };
+    counts.frames == frames
+        && counts.bytes == bytes
+        && counts.drops == drops
+        && counts.ports.len() == ports
+        && counts.ports.get(&1024).copied().unwrap_or(0) == of_1024
+}
+
+/// Lets every batch pass.
+#[derive(Drop)]
+struct Open;
+
+impl Gate for Open {
+    ghost use Rattle.std.specs.Prelude.{◌≡◌, true};
+
+    ghost may_answer = { λ _ _ _ _ answer. answer ≡ true };
+
+    fn pass(&self, _lane: u16, _batch: u32, _turns: u32) -> bool {
+        true
+    }
+}
+
+/// Lets a lane's batch pass once the other lane has come too.
+#[derive(Drop)]
+struct Meeting {
+    flags: [AtomicU64; 2],
+}
+
+impl Gate for Meeting {
+    fn pass(&self, lane: u16, _batch: u32, turns: u32) -> bool {
+        let own = usize::from(lane % 2);
+        self.flags[own].store(1, Ordering::SeqCst);
+        for _ in 0..turns {
+            if self.flags[1 - own].load(Ordering::SeqCst) == 1 {
+                return true;
+            }
+            yield_now();
+        }
+        false
+    }
+}
+
+/// A report of a batch of this number: of two frames that are tagged for batch 0, else of one that is cut.
+fn report_of(alloc: Global, held: &Held<'_>, batch: u32) -> Result<Report<'static>, BatchFault> {
+    let whole = [UNTAGGED.as_slice(), UNTAGGED.as_slice()];
+    let cut = [CUT.as_slice()];
+    let frames = if batch == 0 {
+        whole.as_slice()
+    } else {
+        cut.as_slice()
+    };
+    run_batch(alloc, held, batch, 257, frames, 1, &Open)
+}
+
+/// What gathering gives: how many there are, and whether each is in its place and the counts are those of the frames.
+type Outcome = Result<(usize, bool), GatherFault>;
+
+/// What gathering the reports of batches of these numbers gives.
+fn gathered(alloc: Global, held: &Held<'_>, batches: &[u32], count: u32) -> Option<Outcome> {
+    let mut reports = Vec::new(alloc);
+    for batch in batches {
+        let Ok(report) = report_of(alloc, held, *batch) else {
+            return None;
+        };
+        let Ok(()) = reports.push(report) else {
+            return None;
+        };
+    }
+    match gather(alloc, reports, count) {
+        Ok(all) => {
+            let whole = in_places(&all.reports) && counted(all.reports.len(), &all.counts);
+            Some(Ok((all.reports.len(), whole)))
+        }
+        Err(fault) => Some(Err(fault)),
+    }
+}
+
+/// What gathering their tallies gives.
+fn tallied(alloc: Global, held: &Held<'_>, batches: &[u32], count: u32) -> Option<Outcome> {
+    let mut tallies = Vec::new(alloc);
+    for batch in batches {
+        let Ok(report) = report_of(alloc, held, *batch) else {
+            return None;
+        };
+        let Ok(()) = tallies.push(report.tally()) else {
+            return None;
+        };
+    }
+    match gather_tallies(alloc, tallies, count) {
+        Ok(all) => {
+            let whole = tallies_in_places(&all.tallies) && counted(all.tallies.len(), &all.counts);
+            Some(Ok((all.tallies.len(), whole)))
+        }
+        Err(fault) => Some(Err(fault)),
+    }
+}
+
+/// Whether each report is in its place.
+fn in_places(reports: &[Report<'_>]) -> bool {
+    let mut place = 0u32;
+    for report in reports {
+        if report.batch != place || report.version != 5 || report.lane != 0 {
+            return false;
+        }
+        place = place.wrapping_add(1);
+    }
+    true
+}
+
+/// Whether each tally is in its place, with the counts of its batch.
+fn tallies_in_places(tallies: &[Tally]) -> bool {
+    let mut place = 0u32;
+    for tally in tallies {
+        if tally.batch != place || tally.version != 5 || tally.lane != 0 {
+            return false;
+        }
+        let own = if place == 0 {
+            show(&tally.counts, 2, 40, [0; 9], 2)
+        } else {
+            show(&tally.counts, 1, 0, [0, 1, 0, 0, 0, 0, 0, 0, 0], 0)
+        };
+        if !own {
+            return false;
+        }
+        place = place.wrapping_add(1);
+    }
+    true
+}
+
+/// Whether these are the counts of so many batches: of batch 0 with two tagged frames, and others with a cut one.
+fn counted(batches: usize, counts: &Counts) -> bool {
+    if batches == 0 {
+        return show(counts, 0, 0, [0; 9], 0);
+    }
+    let cut = (batches - 1) as u64;
+    show(
+        counts,
+        cut.saturating_add(2),
+        40,
+        [0, cut, 0, 0, 0, 0, 0, 0, 0],
+        2,
+    )
+}
+
+/// So many times the same frame.
+fn repeated(alloc: Global, frame: &[u8], times: usize) -> Option<Vec<&[u8]>> {
+    let mut frames = Vec::new(alloc);
+    for _ in 0..times {
+        let Ok(()) = frames.push(frame) else {
+            return None;
+        };
+    }
+    Some(frames)
+}
+
+/// How many verdicts a list of frames gets, and how many of them are of tagged frames.
+fn forwarded<R: Threads + Sync>(
+    rt: &R,
+    alloc: Global,
+    held: &Held<'_>,
+    frames: &[&[u8]],
+) -> Result<(usize, usize), BatchFault> {
+    let verdicts = forward_all(rt, alloc, held, 257, frames)?;
+    Ok((verdicts.len(), tagged(&verdicts)))
+}
+
+/// A list with a runt between two frames, and an empty one.
+fn forward_short<R: Wait + Threads + Abort + Sync>(rt: &R, alloc: Global, held: &Held<'_>) {
+    let short = [UNTAGGED.as_slice(), SHORT.as_slice(), UNTAGGED.as_slice()];
+    let as_meant = match &forward_all(rt, alloc, held, 257, &short) {
+        Ok(verdicts) => match verdicts.as_slice() {
+            [first, Verdict::Drop(Reason::Runt), last] => is_tagged(first) && is_tagged(last),
+            _ => false,
+        },
+        Err(_) => false,
+    };
+    assert!(rt; as_meant, "a runt between two frames");
+    assert_eq!(rt; forwarded(rt, alloc, held, &[]), Ok((0, 0)));
+}
+
+/// A list of as many frames as a batch may have.
+fn forward_most<R: Wait + Threads + Abort + Sync>(
+    rt: &R,
+    alloc: Global,
+    held: &Held<'_>,
+    most: &[&[u8]],
+) {
+    assert_eq!(rt; forwarded(rt, alloc, held, most), Ok((65_536, 65_536)));
+    assert!(rt; counts_of_most(rt, alloc, held, most), "counts");
+}
+
+/// Lists of frames, short ones, and the longest that there may be.
+fn forward_lists<R: Wait + Threads + Abort + Sync>(rt: &R, alloc: Global, held: &Held<'_>) {
+    forward_short(rt, alloc, held);
+    if let Some(most) = repeated(alloc, &UNTAGGED, 65_536) {
+        forward_most(rt, alloc, held, &most);
+    }
+    if let Some(more) = repeated(alloc, &UNTAGGED, 65_537) {
+        let refused = Err(BatchFault::TooMany(65_537));
+        assert_eq!(rt; forwarded(rt, alloc, held, &more), refused);
+    }
+}
+
+/// Whether the counts of 65,536 frames are as they have to be.
+fn counts_of_most<R: Threads + Sync>(
+    rt: &R,
+    alloc: Global,
+    held: &Held<'_>,
+    frames: &[&[u8]],
+) -> bool {
+    let Ok(verdicts) = forward_all(rt, alloc, held, 257, frames) else {
+        return false;
+    };
+    match count_of(alloc, &verdicts) {
+        Ok(counts) => show(&counts, 65_536, 1_310_720, [0; 9], 65_536),
+        Err(_) => false,
+    }
+}
+
+/// The numbers of batches that are gathered, how many there should be, and what comes of it: how many, and whether in order.
+const CASES: [(&str, &[u32], u32, Outcome); 16] = [
+    ("both", &[1, 0], 2, Ok((2, true))),
+    ("one twice", &[0, 0], 2, Err(GatherFault::Double(0))),
+    ("one too high", &[0, 2], 2, Err(GatherFault::Stranger(2))),
+    ("the first missing", &[1], 2, Err(GatherFault::Missing(0))),
+    ("none of none", &[], 0, Ok((0, true))),
+    (
+        "too high, then twice",
+        &[2, 0, 0],
+        2,
+        Err(GatherFault::Stranger(2)),
+    ),
+    (
+        "twice, then too high",
+        &[0, 0, 2],
+        2,
+        Err(GatherFault::Double(0)),
+    ),
+    (
+        "too high and missing",
+        &[0, 3],
+        3,
+        Err(GatherFault::Stranger(3)),
+    ),
+    ("two missing", &[2], 3, Err(GatherFault::Missing(0))),
+    ("one of none", &[0], 0, Err(GatherFault::Stranger(0))),
+    ("0, 1, 2", &[0, 1, 2], 3, Ok((3, true))),
+    ("0, 2, 1", &[0, 2, 1], 3, Ok((3, true))),
+    ("1, 0, 2", &[1, 0, 2], 3, Ok((3, true))),
+    ("1, 2, 0", &[1, 2, 0], 3, Ok((3, true))),
+    ("2, 0, 1", &[2, 0, 1], 3, Ok((3, true))),
+    ("2, 1, 0", &[2, 1, 0], 3, Ok((3, true))),
+];
+
+/// Reports, and their tallies, in every order, twice, of no batch and missing.
+fn gather_reports<R: Abort>(rt: &R, alloc: Global, held: &Held<'_>) {
+    for (what, batches, count, expected) in &CASES {
+        assert_eq!(rt;
+            gathered(alloc, held, batches, *count),
+            Some(*expected),
+            "{what}"
+        );
+        assert_eq!(rt;
+            tallied(alloc, held, batches, *count),
+            Some(*expected),
+            "{what}"
+        );
+    }
+}
+
+/// Whether the tallies of reports of batches 1, 0 and 2 have the counts that the reports have, all together.
+fn same_counts(alloc: Global, held: &Held<'_>) -> bool {
+    let mut reports = Vec::new(alloc);
+    let mut tallies = Vec::new(alloc);
+    for batch in [1, 0, 2] {
+        let (Ok(kept), Ok(dropped)) = (report_of(alloc, held, batch), report_of(alloc, held, batch))
+        else {
+            return false;
+        };
+        let (Ok(()), Ok(())) = (reports.push(kept), tallies.push(dropped.tally())) else {
+            return false;
+        };
+    }
+    match (gather(alloc, reports, 3), gather_tallies(alloc, tallies, 3)) {
+        (Ok(whole), Ok(short)) => same(&whole.counts, &short.counts),
+        _ => false,
+    }
+}
+
+/// Whether counts are the same, and of GEM port 1024 alone.
+fn same(a: &Counts, b: &Counts) -> bool {
+    a.frames == b.frames
+        && a.bytes == b.bytes
+        && a.drops == b.drops
+        && a.ports.len() == 1
+        && b.ports.len() == 1
+        && a.ports.get(&1024) == b.ports.get(&1024)
+}
+
+/// The lane that a batch was run by, or why it wasn't.
+fn meet(
+    alloc: Global,
+    mut lane: Lane,
+    gate: &Meeting,
+    turns: u32,
+) -> Option<Result<u16, BatchFault>> {
+    let held = lane.enter()?;
+    let frames = [UNTAGGED.as_slice()];
+    match run_batch(alloc, &held, 7, 257, &frames, turns, gate) {
+        Ok(report) => {
+            let whole = report.batch == 7 && report.version == 5 && tagged(&report.verdicts) == 1;
+            if whole && show(&report.counts, 1, 20, [0; 9], 1) {
+                Some(Ok(report.lane))
+            } else {
+                None
+            }
+        }
+        Err(fault) => Some(Err(fault)),
+    }
+}
+
+/// What is done with two lanes.
+#[derive(Clone, Copy)]
+enum Scene {
+    ForwardLists,
+    GatherReports,
+    CountTallies,
+    MeetOnThreads,
+    MeetInTurn,
+}
+
+/// Plays a scene by what a lane that may enter version 5 holds.
+fn with_held<R: Wait + Threads + Abort + Sync>(
+    rt: &R,
+    alloc: Global,
+    lane: &mut Lane,
+    scene: Scene,
+) {
+    let Some(held) = lane.enter() else {
+        return;
+    };
+    match scene {
+        Scene::ForwardLists => forward_lists(rt, alloc, &held),
+        Scene::GatherReports => gather_reports(rt, alloc, &held),
+        _ => assert!(rt; same_counts(alloc, &held), "counts of tallies"),
+    }
+}
+
+/// Two lanes that may enter version 5 meet on two threads.
+fn meet_on_threads<R: Wait + Threads + Abort + Sync>(
+    rt: &R,
+    alloc: Global,
+    zero: Lane,
+    one: Lane,
+    gate: &Meeting,
+) {
+    let (first, second) = join(
+        rt,
+        move || meet(alloc, zero, gate, 10_000_000),
+        move || meet(alloc, one, gate, 10_000_000),
+    );
+    assert_eq!(rt; (first, second), (Some(Ok(0)), Some(Ok(1))));
+}
+
+/// Two lanes that may enter version 5 forward one after the other: the first waits for the second in vain.
+fn meet_in_turn(rt: &impl Abort, alloc: Global, zero: Lane, one: Lane, gate: &Meeting) {
+    let first = meet(alloc, zero, gate, 1_000);
+    let second = meet(alloc, one, gate, 1_000);
+    assert_eq!(rt; first, Some(Err(BatchFault::Stalled)));
+    assert_eq!(rt; second, Some(Ok(1)));
+}
+
+/// Plays a scene with two lanes that may enter version 5.
+fn with_lanes<R: Wait + Threads + Abort + Sync>(
+    rt: &R,
+    alloc: Global,
+    mut zero: Lane,
+    one: Lane,
+    scene: Scene,
+) {
+    let flags = [AtomicU64::new(0), AtomicU64::new(0)];
+    let gate = Meeting { flags };
+    match scene {
+        Scene::MeetOnThreads => meet_on_threads(rt, alloc, zero, one, &gate),
+        Scene::MeetInTurn => meet_in_turn(rt, alloc, zero, one, &gate),
+        _ => with_held(rt, alloc, &mut zero, scene),
+    }
+}
+
+/// Opens a control with two lanes, publishes version 5, and plays a scene.
+fn play<R: Wait + Threads + Abort + Sync>(
+    rt: &R,
+    alloc: Global,
+    scene: Scene,
+) -> Result<(), OpenFault> {
+    let (mut control, mut lanes) = open(rt, alloc, 2)?;
+    for digits in &PORT_257 {
+        let answer = control.message(&message(digits));
+        assert!(rt; matches!(answer, Ok(Some(_))), "{digits}");
+    }
+    assert_eq!(rt; control.publish(rt).version(), 5);
+    if let (Some(one), Some(zero)) = (lanes.pop(), lanes.pop()) {
+        with_lanes(rt, alloc, zero, one, scene);
+    }
+    control.close(rt);
+    Ok(())
+}
+
+#[test]
+fn lists_are_forwarded_in_order(rt: HostRuntime) -> Result<(), Fail> {
+    assert_eq!(rt; play(&rt, rt.alloc(), Scene::ForwardLists), Ok(()));
+    Ok(())
+}
+
+#[test]
+fn reports_are_gathered_in_every_order(rt: HostRuntime) -> Result<(), Fail> {
+    assert_eq!(rt; play(&rt, rt.alloc(), Scene::GatherReports), Ok(()));
+    Ok(())
+}
+
+#[test]
+fn tallies_have_the_counts_of_their_reports(rt: HostRuntime) -> Result<(), Fail> {
+    assert_eq!(rt; play(&rt, rt.alloc(), Scene::CountTallies), Ok(()));
+    Ok(())
+}
+
+#[test]
+fn lanes_on_two_threads_meet(rt: HostRuntime) -> Result<(), Fail> {
+    assert_eq!(rt; play(&rt, rt.alloc(), Scene::MeetOnThreads), Ok(()));
+    Ok(())
+}
+
+#[test]
+fn a_batch_that_the_gate_stops_is_stalled(rt: HostRuntime) -> Result<(), Fail> {
+    assert_eq!(rt; play(&rt, rt.alloc(), Scene::MeetInTurn), Ok(()));
+    Ok(())
+}
+
+#[test]
+fn faults_have_their_numbers(rt: HostRuntime) -> Result<(), Fail> {
+    law_of_arrival();
+    let of_batches = [
+        BatchFault::TooMany(65_537).code(),
+        BatchFault::NoMemory.code(),
+        BatchFault::Stalled.code(),
+        BatchFault::CountFull.code(),
+    ];
+    assert_eq!(rt; of_batches, [1, 2, 3, 4]);
+    let of_gathering = [
+        GatherFault::Double(0).code(),
+        GatherFault::Stranger(0).code(),
+        GatherFault::Missing(0).code(),
+        GatherFault::NoMemory.code(),
+        GatherFault::CountFull.code(),
+    ];
+    assert_eq!(rt; of_gathering, [1, 2, 3, 4, 5]);
+    Ok(())
+}

@@ -1,0 +1,743 @@
+use draws::{contents, create_interwork, create_table, delete, request, set};
+use mib_state::{Mib, Touch};
+use omci_msg::{Action, OtherCode, Reply, Request};
+use pmapper::{GemPort, Interwork, Mapper};
+use std::alloc::{AllocError, Global};
+use std::process::Abort;
+use std::test::Fail;
+use tag_view::DscpMap;
+
+/// The contents of the answer to a Get: its first bytes, and the two masks behind the values.
+fn got(first: &[u8], masks: [u8; 4]) -> [u8; 32] {
+    let mut contents = contents(first);
+    contents[28..].copy_from_slice(&masks);
+    contents
+}
+
+/// A Get of the attributes of a mask.
+fn get(class: u16, instance: u16, mask: u16) -> Request {
+    request(Action::Get, class, instance, &mask.to_be_bytes())
+}
+
+/// The creation of a GEM port network CTP: port-ID 1024, T-CONT 0x8001, both directions.
+fn create_gem_port(instance: u16) -> Request {
+    request(Action::Create, 268, instance, &[4, 0, 0x80, 1, 3])
+}
+
+/// The creation of a mapper of a port, whose pointers are all the same; option 1, default 0, TP type 1.
+fn create_mapper(instance: u16, port: u16, pointer: u16) -> Request {
+    draws::create_mapper(instance, port, [pointer; 8], 0)
+}
+
+/// The creation of an extended VLAN tagging operation configuration data of a port.
+fn create_vlan(instance: u16, port: u16) -> Request {
+    create_table(instance, 2, port)
+}
+
+/// A Set of an entry of table 0x0701, by its four words.
+fn set_entry(words: [u32; 4]) -> Request {
+    let mut set = set(171, 0x0701, 0x0400, &[]);
+    for (to, word) in set.contents[2..].chunks_exact_mut(4).zip(words) {
+        to.copy_from_slice(&word.to_be_bytes());
+    }
+    set
+}
+
+/// A port, 257, with its GEM port network CTP, interworking termination point, mapper and table.
+fn set_up(alloc: Global) -> Result<Mib, AllocError> {
+    let mut mib = Mib::new(alloc)?;
+    let _ = mib.step(&create_gem_port(0x0401));
+    let _ = mib.step(&create_interwork(0x0501));
+    let _ = mib.step(&create_mapper(0x0601, 257, 0x0501));
+    let _ = mib.step(&create_vlan(0x0701, 257));
+    Ok(mib)
+}
+
+/// A request, the contents of its answer, and the sync after it.
+type Turn = (Request, [u8; 32], u8);
+
+/// Carries requests out, one after another. `result_of` gives the result of each before.
+fn take(rt: &impl Abort, mib: &mut Mib, turns: &[Turn]) -> Result<(), Fail> {
+    for (at, (sent, wanted, sync)) in turns.iter().enumerate() {
+        let told = mib.result_of(sent);
+        assert_eq!(rt; mib.step(sent).contents, *wanted, "the answer of turn {at}");
+        assert_eq!(rt; told, wanted[0], "the result of turn {at}");
+        assert_eq!(rt; mib.sync(), *sync, "the sync after turn {at}");
+    }
+    Ok(())
+}
+
+/// The contents of an answer that has the result alone.
+fn only(code: u8) -> [u8; 32] {
+    contents(&[code])
+}
+
+#[test]
+fn a_create_is_answered_and_one_that_exists_changes_nothing(rt: HostRuntime) -> Result<(), Fail> {
+    let mut mib = Mib::new(rt.alloc())?;
+    create_twice(&rt, &mut mib)
+}
+
+fn create_twice(rt: &impl Abort, mib: &mut Mib) -> Result<(), Fail> {
+    let mut wanted = Reply {
+        tci: 1,
+        action: Action::Create,
+        class: 268,
+        instance: 0x0401,
+        contents: [0; 32],
+    };
+    let port = GemPort {
+        port_id: 1024,
+        t_cont_pointer: 0x8001,
+        direction: 3,
+        ..GemPort::default()
+    };
+    assert_eq!(rt; mib.step(&create_gem_port(0x0401)), wanted);
+    assert_eq!(rt; mib.sync(), 1);
+    assert_eq!(rt; mib.gem_port(0x0401).copied(), Some(port));
+    wanted.contents[0] = 7;
+    let other = request(Action::Create, 268, 0x0401, &[5, 0, 0, 0, 1]);
+    assert_eq!(rt; mib.step(&other), wanted);
+    assert_eq!(rt; mib.sync(), 1);
+    assert_eq!(rt; mib.gem_port(0x0401).copied(), Some(port));
+    assert_eq!(rt; mib.gem_port(0x0402).copied(), None);
+    Ok(())
+}
+
+#[test]
+fn a_get_returns_each_attribute_that_fits_and_names_the_others(
+    rt: HostRuntime,
+) -> Result<(), Fail> {
+    let mut mib = set_up(rt.alloc())?;
+    get_from_each_class(&rt, &mut mib)
+}
+
+fn get_from_each_class(rt: &impl Abort, mib: &mut Mib) -> Result<(), Fail> {
+    let ten = [9, 0xff, 0xc0, 4, 0, 0x80, 1, 3];
+    let of_table = [
+        9, 0xfe, 0, 2, 0, 128, 0x81, 0, 0x81, 0, 0, 0, 0, 0, 0x30, 1, 1,
+    ];
+    let size = [0, 4, 0, 0, 0, 0, 0x30];
+    let map = [0, 0, 0, 0x20];
+    take(
+        rt,
+        mib,
+        &[
+            (get(268, 0x0401, 0xffff), got(&ten, [0, 0x3f, 0, 0]), 4),
+            (get(130, 0x0601, 0x8020), got(&[9, 0x80, 0, 1, 1], map), 4),
+            (
+                get(130, 0x0601, 0x8030),
+                got(&[9, 0x80, 0x10, 1, 1], map),
+                4,
+            ),
+            (get(130, 0x0601, 0x0030), contents(&[0, 0, 0x30]), 4),
+            (get(266, 0x0501, 0x8100), contents(&[0, 0x81, 0, 4, 1]), 4),
+            (get(171, 0x0701, 0x0400), contents(&size), 4),
+            (get(171, 0x0701, 0xff00), got(&of_table, [0, 0, 1, 0]), 4),
+            (get(268, 0x0401, 0), only(0), 4),
+        ],
+    )
+}
+
+#[test]
+fn the_sync_is_an_attribute_of_onu_data_and_a_set_of_it_counts_nothing(
+    rt: HostRuntime,
+) -> Result<(), Fail> {
+    let mut mib = Mib::new(rt.alloc())?;
+    set_the_sync(&rt, &mut mib)
+}
+
+fn set_the_sync(rt: &impl Abort, mib: &mut Mib) -> Result<(), Fail> {
+    let two = got(&[9, 0x80, 0, 1], [0x40, 0, 0, 0]);
+    take(
+        rt,
+        mib,
+        &[
+            (create_gem_port(0x0401), only(0), 1),
+            (create_gem_port(0x0401), only(7), 1),
+            (get(2, 0, 0x8000), contents(&[0, 0x80, 0, 1]), 1),
+            (get(2, 0, 0xc000), two, 1),
+            (set(2, 0, 0x8000, &[254]), only(0), 254),
+            (set(2, 0, 0, &[7]), only(0), 254),
+            (set(2, 0, 0xc000, &[7]), contents(&[9, 0x40]), 254),
+            (create_gem_port(0x0402), only(0), 255),
+            (create_gem_port(0x0403), only(0), 1),
+        ],
+    )
+}
+
+#[test]
+fn refusals_have_their_results(rt: HostRuntime) -> Result<(), Fail> {
+    let mut mib = Mib::new(rt.alloc())?;
+    ask_for_what_is_refused(&rt, &mut mib)
+}
+
+fn ask_for_what_is_refused(rt: &impl Abort, mib: &mut Mib) -> Result<(), Fail> {
+    let _ = mib.step(&create_gem_port(0x0401));
+    let other = Action::Other(OtherCode { code: 25 });
+    for (action, class, instance, wanted) in [
+        (Action::Create, 45, 1, 4),
+        (Action::Create, 45, 0xffff, 4),
+        (Action::Delete, 45, 1, 4),
+        (Action::Set, 45, 1, 4),
+        (Action::Get, 45, 1, 4),
+        (Action::Create, 2, 0, 2),
+        (Action::Create, 2, 0xffff, 2),
+        (Action::Delete, 2, 0, 2),
+        (Action::Delete, 2, 7, 2),
+        (Action::Create, 268, 0xffff, 3),
+        (Action::Create, 268, 0x0401, 7),
+        (Action::Delete, 268, 0x0999, 5),
+        (Action::Set, 268, 0x0999, 5),
+        (Action::Get, 268, 0x0999, 5),
+        (Action::Get, 130, 0x0999, 5),
+        (Action::Get, 171, 0x0999, 5),
+        (Action::Set, 2, 1, 5),
+        (Action::Get, 2, 1, 5),
+        (Action::GetNext, 45, 1, 4),
+        (Action::GetNext, 171, 0x0999, 5),
+        (Action::GetNext, 2, 1, 5),
+        (Action::GetNext, 2, 0, 3),
+        (Action::GetNext, 268, 0x0401, 3),
+        (Action::MibUpload, 2, 0, 2),
+        (Action::MibUploadNext, 2, 0, 2),
+        (other, 2, 0, 2),
+    ] {
+        let sent = request(action, class, instance, &[0xff, 0xff]);
+        assert_eq!(rt;
+            mib.result_of(&sent),
+            wanted,
+            "{action:?} of {class} {instance}"
+        );
+        assert_eq!(rt;
+            mib.step(&sent).contents,
+            only(wanted),
+            "{action:?} of {class} {instance}"
+        );
+        assert_eq!(rt;
+            mib.sync(),
+            1,
+            "the sync after {action:?} of {class} {instance}"
+        );
+    }
+    Ok(())
+}
+
+#[test]
+fn the_sync_goes_from_255_to_1(rt: HostRuntime) -> Result<(), Fail> {
+    let mut mib = Mib::new(rt.alloc())?;
+    create_256(&rt, &mut mib)
+}
+
+fn create_256(rt: &impl Abort, mib: &mut Mib) -> Result<(), Fail> {
+    for made in 1..=256 {
+        // From the greatest number down, so that each goes before the others.
+        assert_eq!(rt;
+            mib.step(&create_gem_port(1000 - made)).contents,
+            only(0),
+            "Create {made}"
+        );
+        let wanted = if made == 256 { 1 } else { made };
+        assert_eq!(rt; mib.sync() as u16, wanted, "the sync after Create {made}");
+    }
+    assert_eq!(rt; mib.gem_port(999).is_some(), true);
+    assert_eq!(rt; mib.gem_port(744).is_some(), true);
+    Ok(())
+}
+
+#[test]
+fn a_mib_reset_leaves_no_instance_and_sync_0(rt: HostRuntime) -> Result<(), Fail> {
+    let mut mib = set_up(rt.alloc())?;
+    reset_and_fill(&rt, &mut mib)
+}
+
+fn reset_and_fill(rt: &impl Abort, mib: &mut Mib) -> Result<(), Fail> {
+    // Its class and its instance aren't looked at.
+    let reset = request(Action::MibReset, 45, 0xffff, &[0xff]);
+    let write = set(268, 0x0401, 0x8000, &[4, 0]);
+    take(rt, mib, &[(reset, only(0), 0)])?;
+    for class in [130, 171, 266, 268] {
+        assert_eq!(rt;
+            mib.next_instance(class, 0),
+            None,
+            "class {class} after a MIB reset"
+        );
+    }
+    take(rt, mib, &[(create_gem_port(0x0401), only(0), 1)])?;
+    for count in 2..=255 {
+        take(rt, mib, &[(write, only(0), count)])?;
+    }
+    take(
+        rt,
+        mib,
+        &[
+            (write, only(0), 1),
+            (create_vlan(0, 257), only(0), 2),
+            (reset, only(0), 0),
+        ],
+    )?;
+    for number in 0..16 {
+        assert_eq!(rt;
+            mib.step(&create_vlan(number, 257)).contents,
+            only(0),
+            "table {number}"
+        );
+    }
+    take(rt, mib, &[(create_vlan(16, 257), only(1), 16)])
+}
+
+#[test]
+fn attributes_are_shown_by_number(rt: HostRuntime) -> Result<(), Fail> {
+    let mut mib = Mib::new(rt.alloc())?;
+    look_at_attributes(&rt, &mut mib)
+}
+
+fn look_at_attributes(rt: &impl Abort, mib: &mut Mib) -> Result<(), Fail> {
+    let _ = mib.step(&create_gem_port(0x0401));
+    for (class, instance, n, wanted) in [
+        (268, 0x0401, 1, Some([4, 0].as_slice())),
+        (268, 0x0401, 2, Some([0x80, 1].as_slice())),
+        (268, 0x0401, 3, Some([3].as_slice())),
+        (268, 0x0401, 10, Some([0].as_slice())),
+        (2, 0, 1, Some([1].as_slice())),
+        (268, 0x0401, 0, None),
+        (268, 0x0401, 11, None),
+        (268, 0x0402, 1, None),
+        (2, 1, 1, None),
+        (2, 0, 2, None),
+        (45, 0, 1, None),
+    ] {
+        let shown = mib.attribute(class, instance, n);
+        assert_eq!(rt;
+            shown.as_ref().map(|bytes| bytes.as_slice()),
+            wanted,
+            "attribute {n} of {class} {instance}"
+        );
+    }
+    Ok(())
+}
+
+#[test]
+fn the_next_instance_is_the_least_that_is_not_under_a_number(rt: HostRuntime) -> Result<(), Fail> {
+    let mut mib = set_up(rt.alloc())?;
+    look_for_instances(&rt, &mut mib)
+}
+
+fn look_for_instances(rt: &impl Abort, mib: &mut Mib) -> Result<(), Fail> {
+    let _ = mib.step(&create_gem_port(0x0410));
+    let _ = mib.step(&create_gem_port(0x0300));
+    for (class, from, wanted) in [
+        (2, 0, Some(0)),
+        (2, 1, None),
+        (130, 0, Some(0x0601)),
+        (171, 0x0701, Some(0x0701)),
+        (171, 0x0702, None),
+        (266, 0x0500, Some(0x0501)),
+        (268, 0, Some(0x0300)),
+        (268, 0x0300, Some(0x0300)),
+        (268, 0x0301, Some(0x0401)),
+        (268, 0x0402, Some(0x0410)),
+        (268, 0xffff, None),
+        (45, 0, None),
+    ] {
+        let next = mib.next_instance(class, from);
+        assert_eq!(rt; next, wanted, "the next of {class} from {from}");
+    }
+    Ok(())
+}
+
+#[test]
+fn points_and_mappers_are_created_shown_and_deleted(rt: HostRuntime) -> Result<(), Fail> {
+    let mut mib = Mib::new(rt.alloc())?;
+    create_and_delete(&rt, &mut mib)
+}
+
+fn create_and_delete(rt: &impl Abort, mib: &mut Mib) -> Result<(), Fail> {
+    let mapper = Mapper {
+        tp_pointer: 257,
+        interwork_tp_pointers: [0x0501; 8],
+        unmarked_frame_option: 1,
+        dscp_map: DscpMap([0; 24]),
+        default_p_bit_assumption: 0,
+        tp_type: 1,
+    };
+    let point = Interwork {
+        gem_port_pointer: 0x0401,
+        interworking_option: 5,
+        service_profile_pointer: 0x0601,
+        ..Interwork::default()
+    };
+    let port = GemPort {
+        port_id: 1024,
+        t_cont_pointer: 0x8001,
+        direction: 2,
+        ..GemPort::default()
+    };
+    take(
+        rt,
+        mib,
+        &[
+            (create_interwork(0x0501), only(0), 1),
+            (create_mapper(0x0601, 257, 0x0501), only(0), 2),
+            (create_mapper(0x0602, 258, 0xffff), only(0), 3),
+        ],
+    )?;
+    assert_eq!(rt; mib.interwork(0x0501).copied(), Some(point));
+    assert_eq!(rt; mib.mapper(0x0601).copied(), Some(mapper));
+    assert_eq!(rt; mib.mapper_of_port(257), Some(0x0601));
+    assert_eq!(rt; mib.mapper_of_port(258), Some(0x0602));
+    assert_eq!(rt; mib.mapper_of_port(259), None);
+    let again = request(Action::Create, 268, 0x0401, &[4, 0, 0x80, 1, 2]);
+    take(
+        rt,
+        mib,
+        &[
+            (create_gem_port(0x0401), only(0), 4),
+            (delete(268, 0x0401), only(0), 5),
+            (again, only(0), 6),
+            (delete(266, 0x0501), only(0), 7),
+            (delete(130, 0x0601), only(0), 8),
+        ],
+    )?;
+    assert_eq!(rt; mib.gem_port(0x0401).copied(), Some(port));
+    assert_eq!(rt; mib.interwork(0x0501).copied(), None);
+    assert_eq!(rt; mib.mapper(0x0601).copied(), None);
+    assert_eq!(rt; mib.mapper_of_port(257), None);
+    assert_eq!(rt; mib.mapper_of_port(258), Some(0x0602));
+    Ok(())
+}
+
+#[test]
+fn of_two_mappers_of_a_port_the_least_is_its_own(rt: HostRuntime) -> Result<(), Fail> {
+    let mut mib = Mib::new(rt.alloc())?;
+    change_mappers(&rt, &mut mib)
+}
+
+fn change_mappers(rt: &impl Abort, mib: &mut Mib) -> Result<(), Fail> {
+    let of_bridge = request(Action::Create, 130, 0x0500, &[1, 1]);
+    for (change, wanted, what) in [
+        (
+            create_mapper(0x0601, 257, 0x0501),
+            Some(0x0601),
+            "the first is made",
+        ),
+        (
+            create_mapper(0x0600, 257, 0xffff),
+            Some(0x0600),
+            "a lesser one is made",
+        ),
+        (
+            create_mapper(0x0602, 257, 0xffff),
+            Some(0x0600),
+            "a greater one is made",
+        ),
+        (of_bridge, Some(0x0600), "one with another TP type is made"),
+        (delete(130, 0x0600), Some(0x0601), "the least is deleted"),
+        (delete(130, 0x0601), Some(0x0602), "the next is deleted"),
+        (delete(130, 0x0602), None, "the last is deleted"),
+    ] {
+        assert_eq!(rt;
+            mib.step(&change).contents,
+            only(0),
+            "the answer where {what}"
+        );
+        assert_eq!(rt; mib.mapper_of_port(257), wanted, "the mapper after {what}");
+    }
+    Ok(())
+}
+
+#[test]
+fn of_two_tables_of_a_port_the_least_is_its_own(rt: HostRuntime) -> Result<(), Fail> {
+    let mut mib = set_up(rt.alloc())?;
+    change_tables(&rt, &mut mib)
+}
+
+fn change_tables(rt: &impl Abort, mib: &mut Mib) -> Result<(), Fail> {
+    let of_mapper = request(Action::Create, 171, 0x0600, &[1, 1, 1]);
+    let entry = set_entry([0xf800_0000, 0xf800_0000, 0x000f_0000, 0x0000_0324]);
+    for (change, wanted, what) in [
+        (entry, Some(0x0701), "an entry is set"),
+        (
+            create_vlan(0x0700, 257),
+            Some(0x0700),
+            "a lesser one is made",
+        ),
+        (of_mapper, Some(0x0700), "one of a mapper is made"),
+        (delete(171, 0x0700), Some(0x0701), "the least is deleted"),
+        (delete(171, 0x0701), None, "the last is deleted"),
+        (create_vlan(0x0701, 257), Some(0x0701), "it is made again"),
+    ] {
+        assert_eq!(rt;
+            mib.step(&change).contents,
+            only(0),
+            "the answer where {what}"
+        );
+        assert_eq!(rt; mib.table_of_port(257), wanted, "the table after {what}");
+    }
+    assert_eq!(rt; mib.table_of_port(258), None);
+    let vlan = mib.vlan(0x0701).ok_or("the table is gone")?;
+    assert_eq!(rt; vlan.table.len(), 3, "a table that is made again is new");
+    Ok(())
+}
+
+#[test]
+fn a_port_without_a_table_of_its_own_has_that_of_its_mapper(rt: HostRuntime) -> Result<(), Fail> {
+    let mut mib = set_up(rt.alloc())?;
+    take_the_table_away(&rt, &mut mib)
+}
+
+fn take_the_table_away(rt: &impl Abort, mib: &mut Mib) -> Result<(), Fail> {
+    let _ = mib.step(&request(Action::Create, 171, 0x0700, &[1, 6, 1]));
+    assert_eq!(rt; mib.table_of_port(257), Some(0x0701));
+    let _ = mib.step(&delete(171, 0x0701));
+    assert_eq!(rt; mib.table_of_port(257), Some(0x0700));
+    let _ = mib.step(&create_mapper(0x0600, 257, 0x0501));
+    assert_eq!(rt;
+        mib.table_of_port(257),
+        None,
+        "its mapper is another, which has none"
+    );
+    Ok(())
+}
+
+#[test]
+fn a_table_is_read_as_the_get_of_its_size_found_it(rt: HostRuntime) -> Result<(), Fail> {
+    let mut mib = set_up(rt.alloc())?;
+    read_what_was_latched(&rt, &mut mib)
+}
+
+fn read_what_was_latched(rt: &impl Abort, mib: &mut Mib) -> Result<(), Fail> {
+    let next = request(Action::GetNext, 171, 0x0701, &[4, 0, 0, 1]);
+    assert_eq!(rt; mib.step(&next).contents, only(3), "nothing is latched");
+    let _ = mib.step(&get(171, 0x0701, 0x0400));
+    let _ = mib.step(&delete(171, 0x0701));
+    assert_eq!(rt; mib.step(&next).contents, only(5), "it is gone");
+    let _ = mib.step(&create_vlan(0x0701, 257));
+    let last = contents(&[
+        0, 4, 0, 0x0f, 0, 0, 0xe0, 0, 0, 0, 0xe0, 0, 0, 0, 0, 0x0f, 0, 0, 0, 0x0f,
+    ]);
+    assert_eq!(rt; mib.step(&next).contents, last);
+    Ok(())
+}
+
+#[test]
+fn a_class_has_room_of_its_own_and_a_deletion_gives_it_back(rt: HostRuntime) -> Result<(), Fail> {
+    let mut mib = Mib::new(rt.alloc())?;
+    fill_two_classes(&rt, &mut mib)
+}
+
+fn fill_two_classes(rt: &impl Abort, mib: &mut Mib) -> Result<(), Fail> {
+    for number in 0..32 {
+        let reply = mib.step(&create_mapper(number, 257, 0x0501));
+        assert_eq!(rt; reply.contents, only(0), "the answer to mapper {number}");
+    }
+    for number in 0..256 {
+        let reply = mib.step(&create_interwork(number));
+        assert_eq!(rt; reply.contents, only(0), "the answer to point {number}");
+    }
+    take(
+        rt,
+        mib,
+        &[
+            (create_mapper(32, 257, 0x0501), only(1), 33),
+            (create_interwork(256), only(1), 33),
+            (delete(130, 7), only(0), 34),
+            (delete(130, 7), only(5), 34),
+            (create_mapper(32, 257, 0x0501), only(0), 35),
+            (create_mapper(33, 257, 0x0501), only(1), 35),
+        ],
+    )
+}
+
+#[test]
+fn a_table_holds_128_entries_and_overwrites_a_held_key(rt: HostRuntime) -> Result<(), Fail> {
+    let mut mib = set_up(rt.alloc())?;
+    fill_a_table(&rt, &mut mib)
+}
+
+fn fill_a_table(rt: &impl Abort, mib: &mut Mib) -> Result<(), Fail> {
+    for k in 1..=126 {
+        let entry = set_entry([
+            0xf800_0000,
+            0x8000_0000 + k * 32768,
+            0x000f_0000,
+            0x000f_0000,
+        ]);
+        let wanted = if k == 126 { 1 } else { 0 };
+        assert_eq!(rt; mib.result_of(&entry), wanted, "the result of entry {k}");
+        assert_eq!(rt;
+            mib.step(&entry).contents,
+            only(wanted),
+            "the answer to entry {k}"
+        );
+    }
+    let again = set_entry([0xf800_0000, 0x803e_8000, 0xc00f_0000, 0x000f_0000]);
+    take(
+        rt,
+        mib,
+        &[
+            (again, only(0), 130),
+            (get(171, 0x0701, 0x0400), contents(&[0, 4, 0, 0, 0, 8]), 130),
+        ],
+    )?;
+    assert_eq!(rt; mib.vlan(0x0701).map(|vlan| vlan.table.len()), Some(128));
+    Ok(())
+}
+
+#[test]
+fn a_refused_set_keeps_nothing(rt: HostRuntime) -> Result<(), Fail> {
+    let mut mib = set_up(rt.alloc())?;
+    set_what_is_refused(&rt, &mut mib)
+}
+
+fn set_what_is_refused(rt: &impl Abort, mib: &mut Mib) -> Result<(), Fail> {
+    let bad_vid = set_entry([0xf800_0000, 0xf800_0000, 0x000f_0000, 0x0000_7ffc]);
+    let bad_priority = set_entry([0xf800_0000, 0x9800_0000, 0x000f_0000, 0x000f_0000]);
+    let no_kind = set_entry([0x3800_0000, 0xe800_0000, 0x000f_0000, 0x000f_0000]);
+    let mut with_tpid = set(171, 0x0701, 0x1400, &[0x91, 0]);
+    with_tpid.contents[4..20].copy_from_slice(&bad_vid.contents[2..18]);
+    let fixed = contents(&[9, 0, 0, 0x40, 0]);
+    let ninth = contents(&[9, 0, 0x80, 0, 0]);
+    let as_new = contents(&[0, 0x34, 0, 0x81, 0, 0x81, 0, 0, 0, 0, 0x30]);
+    take(
+        rt,
+        mib,
+        &[
+            // A reserved VID to add, a reserved priority, priorities of no kind.
+            (bad_vid, only(3), 4),
+            (bad_priority, only(3), 4),
+            (no_kind, only(3), 4),
+            // The output TPID with the first of them, the max size with the input TPID.
+            (with_tpid, only(3), 4),
+            (set(171, 0x0701, 0x6000, &[0, 5, 0x91, 0]), fixed, 4),
+            // Attribute 9, attributes of 40 bytes with it and without it.
+            (set(171, 0x0701, 0x0080, &[]), ninth, 4),
+            (set(171, 0x0701, 0x0580, &[]), ninth, 4),
+            (set(171, 0x0701, 0x0500, &[]), only(3), 4),
+            (get(171, 0x0701, 0x3400), as_new, 4),
+            (set(171, 0x0701, 0, &[]), only(0), 5),
+            (set(171, 0x0702, 0, &[]), only(5), 5),
+        ],
+    )?;
+    let vlan = mib.vlan(0x0701).ok_or("the table is gone")?;
+    assert_eq!(rt; vlan.table.len(), 3);
+    assert_eq!(rt; vlan.settings.input_tpid, 0x8100);
+    assert_eq!(rt; vlan.settings.output_tpid, 0x8100);
+    Ok(())
+}
+
+#[test]
+fn each_class_is_written(rt: HostRuntime) -> Result<(), Fail> {
+    let mut mib = set_up(rt.alloc())?;
+    set_in_each_class(&rt, &mut mib)
+}
+
+fn set_in_each_class(rt: &impl Abort, mib: &mut Mib) -> Result<(), Fail> {
+    let vlan_values = [
+        0x88, 0xa8, 0x91, 0, 0xf8, 0, 0, 0, 0xf8, 0, 0, 0, 0, 0x0f, 0, 0, 0, 0, 0x03, 0x24,
+    ];
+    take(
+        rt,
+        mib,
+        &[
+            (set(268, 0x0401, 0xa000, &[4, 1, 2]), only(0), 5),
+            (set(266, 0x0501, 0x8100, &[4, 0x99, 7]), only(0), 6),
+            (set(130, 0x0601, 0x0820, &[0xff, 0xfe, 0x38]), only(0), 7),
+            (set(171, 0x0701, 0x3400, &vlan_values), only(0), 8),
+        ],
+    )?;
+    for (class, instance, n, wanted) in [
+        (268, 0x0401, 1, [4, 1].as_slice()),
+        (268, 0x0401, 2, [0x80, 1].as_slice()),
+        (268, 0x0401, 3, [2].as_slice()),
+        (266, 0x0501, 1, [4, 0x99].as_slice()),
+        (266, 0x0501, 8, [7].as_slice()),
+        (130, 0x0601, 4, [5, 1].as_slice()),
+        (130, 0x0601, 5, [0xff, 0xfe].as_slice()),
+        (130, 0x0601, 6, [5, 1].as_slice()),
+        (171, 0x0701, 2, [0, 128].as_slice()),
+        (171, 0x0701, 3, [0x88, 0xa8].as_slice()),
+        (171, 0x0701, 4, [0x91, 0].as_slice()),
+    ] {
+        let shown = mib.attribute(class, instance, n);
+        assert_eq!(rt;
+            shown.as_ref().map(|bytes| bytes.as_slice()),
+            Some(wanted),
+            "attribute {n} of {class}"
+        );
+    }
+    assert_eq!(rt;
+        mib.attribute(171, 0x0701, 6).is_none(),
+        true,
+        "the table has no bytes of its own"
+    );
+    assert_eq!(rt; mib.vlan(0x0701).map(|vlan| vlan.table.len()), Some(4));
+    Ok(())
+}
+
+/// Carries requests out, one after another, in two of the same: what each is answered by `step_touching` is what `step`
+/// answers, with this result, and it touches this.
+fn touch(rt: &impl Abort, alloc: Global, turns: &[(Request, u8, Touch)]) -> Result<(), Fail> {
+    let mut mib = set_up(alloc)?;
+    let mut same = set_up(alloc)?;
+    touch_both(rt, &mut mib, &mut same, turns)
+}
+
+/// The same in two that are there.
+fn touch_both(
+    rt: &impl Abort,
+    mib: &mut Mib,
+    same: &mut Mib,
+    turns: &[(Request, u8, Touch)],
+) -> Result<(), Fail> {
+    for (at, (sent, result, touched)) in turns.iter().enumerate() {
+        let (reply, touch) = mib.step_touching(sent);
+        assert_eq!(rt; touch, *touched, "what turn {at} touches");
+        assert_eq!(rt; reply.contents[0], *result, "the result of turn {at}");
+        assert_eq!(rt; reply, same.step(sent), "the reply of turn {at}");
+        assert_eq!(rt; mib.sync(), same.sync(), "the sync after turn {at}");
+    }
+    Ok(())
+}
+
+#[test]
+fn an_accepted_change_touches_its_instance(rt: HostRuntime) -> Result<(), Fail> {
+    let of_mapper = set(130, 0x0601, 0x0800, &[0xff, 0xfe]);
+    let of_no_attribute = set(171, 0x0701, 0, &[]);
+    let reset = request(Action::MibReset, 2, 0, &[]);
+    touch(
+        &rt,
+        rt.alloc(),
+        &[
+            (create_gem_port(0x0402), 0, Touch::One(268, 0x0402)),
+            (of_mapper, 0, Touch::One(130, 0x0601)),
+            (of_no_attribute, 0, Touch::One(171, 0x0701)),
+            (delete(266, 0x0501), 0, Touch::One(266, 0x0501)),
+            (reset, 0, Touch::All),
+            (delete(268, 0x0402), 5, Touch::Nothing),
+        ],
+    )
+}
+
+#[test]
+fn a_refusal_and_a_reading_touch_nothing(rt: HostRuntime) -> Result<(), Fail> {
+    let of_unknown_class = request(Action::Create, 45, 1, &[]);
+    let of_read_only = set(171, 0x0701, 0x4000, &[0, 5]);
+    let of_sync = set(2, 0, 0x8000, &[7]);
+    let next = request(Action::GetNext, 171, 0x0701, &[4, 0]);
+    let upload = request(Action::MibUpload, 2, 0, &[]);
+    touch(
+        &rt,
+        rt.alloc(),
+        &[
+            (create_gem_port(0x0401), 7, Touch::Nothing),
+            (of_unknown_class, 4, Touch::Nothing),
+            (of_read_only, 9, Touch::Nothing),
+            (of_sync, 0, Touch::Nothing),
+            (get(171, 0x0701, 0x0400), 0, Touch::Nothing),
+            (next, 0, Touch::Nothing),
+            (delete(266, 0x0502), 5, Touch::Nothing),
+            (upload, 2, Touch::Nothing),
+        ],
+    )
+}

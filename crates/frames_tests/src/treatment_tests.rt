@@ -1,0 +1,339 @@
+use arrayvec::ArrayVec;
+use std::process::Abort;
+use std::test::Fail;
+use tag_view::{DscpMap, view};
+use treatment::{Treat, Treated, treat};
+use vlan_rule::{Entry, Rule, RuleFault, TableSettings};
+
+/// DSCP 46 has priority 5, and all others 0.
+const SETTINGS: TableSettings = TableSettings {
+    input_tpid: 0x8100,
+    output_tpid: 0x9100,
+    dscp_map: DscpMap([
+        0, 0, 0, 0, 0, 0, 0, 0, 0, 0, 0, 0, 0, 0, 0, 0, 0, 0x28, 0, 0, 0, 0, 0, 0,
+    ]),
+};
+
+/// Frames with an IPv4 packet of DSCP 46: untagged, behind a tag with priority 3, DE 1 and VID 100,
+/// and behind another with priority 6, DE 0 and VID 200 inside that.
+const UNTAGGED: &[u8] = &[2, 0, 0, 0, 0, 1, 2, 0, 0, 0, 0, 2, 0x08, 0x00, 0x45, 0xb8];
+
+const ONE_TAG: &[u8] = &[
+    2, 0, 0, 0, 0, 1, 2, 0, 0, 0, 0, 2, 0x88, 0xa8, 0x70, 0x64, 0x08, 0x00, 0x45, 0xb8,
+];
+
+const TWO_TAGS: &[u8] = &[
+    2, 0, 0, 0, 0, 1, 2, 0, 0, 0, 0, 2, 0x88, 0xa8, 0x70, 0x64, 0x81, 0x00, 0xc0, 0xc8, 0x08, 0x00,
+    0x45, 0xb8,
+];
+
+/// The rule of an entry for all untagged frames, with these last eight bytes.
+fn rule(treatments: u64) -> Result<Rule, RuleFault> {
+    let mut entry = [0; 16];
+    entry[..8].copy_from_slice(&[0xf8, 0, 0, 0, 0xf8, 0, 0, 0]);
+    entry[8..].copy_from_slice(&treatments.to_be_bytes());
+    Rule::read(&Entry(entry))
+}
+
+/// The tags that a frame leaves with, each by its four bytes, or None where it is dropped.
+fn treated(treatments: u64, frame: &[u8]) -> Result<Option<ArrayVec<u32, 4>>, Fail> {
+    let rule = rule(treatments)?;
+    let frame = view(frame, 0x8100)?;
+    let Treated::Tags(tags) = treat(&rule, &SETTINGS, &frame) else {
+        return Ok(None);
+    };
+    let mut all = ArrayVec::new();
+    for tag in tags.as_slice() {
+        let _ = all.try_push(u32::from_be_bytes(tag.bytes()));
+    }
+    Ok(Some(all))
+}
+
+/// The same by the compiled treatment. Of the DSCP it is told only where it asks for it.
+fn compiled(treatments: u64, frame: &[u8]) -> Result<Option<ArrayVec<u32, 4>>, Fail> {
+    let rule = rule(treatments)?;
+    let frame = view(frame, 0x8100)?;
+    let Some(treat) = Treat::of(&rule.treatment, &SETTINGS, frame.tags().len()) else {
+        return Ok(None);
+    };
+    let (first, last) = match frame.tags() {
+        [] => (Treat::NO_TAG, Treat::NO_TAG),
+        [only] => (only.word(), only.word()),
+        [first, .., last] => (first.word(), last.word()),
+    };
+    let priority = match frame.dscp() {
+        Some(dscp) if treat.uses_dscp() => SETTINGS.dscp_map.get(dscp),
+        _ => 0,
+    };
+    let words = treat.words(first, last, priority);
+    let mut all = ArrayVec::new();
+    for word in &words[..treat.count()] {
+        let _ = all.try_push(*word);
+    }
+    Ok(Some(all))
+}
+
+/// Ends the test where a frame doesn't leave with these tags, by the treatment as it stands or compiled.
+fn expect(
+    rt: &impl Abort,
+    what: &str,
+    treatments: u64,
+    frame: &[u8],
+    want: Option<&[u32]>,
+) -> Result<(), Fail> {
+    let tags = treated(treatments, frame)?;
+    assert_eq!(rt; tags.as_ref().map(|t| t.as_slice()), want, "{what}");
+    let tags = compiled(treatments, frame)?;
+    assert_eq!(rt;
+        tags.as_ref().map(|t| t.as_slice()),
+        want,
+        "{what}, compiled"
+    );
+    Ok(())
+}
+
+#[test]
+fn each_code_adds_its_tag_in_front_of_those_received(rt: HostRuntime) -> Result<(), Fail> {
+    let rows = [
+        (
+            "priority 0",
+            0x00000964,
+            [0x8100012c, 0x8100012c, 0x8100012c],
+        ),
+        (
+            "priority 7",
+            0x00070964,
+            [0x8100e12c, 0x8100e12c, 0x8100e12c],
+        ),
+        (
+            "priority of the inner tag",
+            0x00080964,
+            [0x8100012c, 0x8100612c, 0x8100c12c],
+        ),
+        (
+            "priority of the outer tag",
+            0x00090964,
+            [0x8100012c, 0x8100612c, 0x8100612c],
+        ),
+        (
+            "priority of the DSCP",
+            0x000a0964,
+            [0x8100a12c, 0x8100a12c, 0x8100a12c],
+        ),
+        ("VID 0", 0x00010004, [0x81002000, 0x81002000, 0x81002000]),
+        ("VID 4094", 0x00017ff4, [0x81002ffe, 0x81002ffe, 0x81002ffe]),
+        (
+            "VID of the inner tag",
+            0x00018004,
+            [0x81002000, 0x81002064, 0x810020c8],
+        ),
+        (
+            "VID of the outer tag",
+            0x0001800c,
+            [0x81002000, 0x81002064, 0x81002064],
+        ),
+        (
+            "TPID and DE of the inner tag",
+            0x00010960,
+            [0x8100212c, 0x88a8312c, 0x8100212c],
+        ),
+        (
+            "TPID and DE of the outer tag",
+            0x00010961,
+            [0x8100212c, 0x88a8312c, 0x88a8312c],
+        ),
+        (
+            "output TPID, DE of the inner tag",
+            0x00010962,
+            [0x9100212c, 0x9100312c, 0x9100212c],
+        ),
+        (
+            "output TPID, DE of the outer tag",
+            0x00010963,
+            [0x9100212c, 0x9100312c, 0x9100312c],
+        ),
+        (
+            "TPID 0x8100",
+            0x00010964,
+            [0x8100212c, 0x8100212c, 0x8100212c],
+        ),
+        (
+            "output TPID, DE 0",
+            0x00010966,
+            [0x9100212c, 0x9100212c, 0x9100212c],
+        ),
+        (
+            "output TPID, DE 1",
+            0x00010967,
+            [0x9100312c, 0x9100312c, 0x9100312c],
+        ),
+    ];
+    for (what, inner, [none, one, two]) in rows {
+        let treatments = 0x000f0000_00000000 + inner;
+        let one_left = &[one, 0x88a87064][..];
+        let two_left = &[two, 0x88a87064, 0x8100c0c8][..];
+        expect(&rt, what, treatments, UNTAGGED, Some(&[none][..]))?;
+        expect(&rt, what, treatments, ONE_TAG, Some(one_left))?;
+        expect(&rt, what, treatments, TWO_TAGS, Some(two_left))?;
+    }
+    Ok(())
+}
+
+#[test]
+fn tags_are_removed_from_the_outermost_on(rt: HostRuntime) -> Result<(), Fail> {
+    let outer = 0x88a87064;
+    let inner = 0x8100c0c8;
+    let rows = [
+        (
+            "none",
+            0x000f0000_000f0000,
+            &[][..],
+            &[outer][..],
+            &[outer, inner][..],
+        ),
+        ("one", 0x400f0000_000f0000, &[][..], &[][..], &[inner][..]),
+        ("two", 0x800f0000_000f0000, &[][..], &[][..], &[][..]),
+    ];
+    for (what, treatments, none, one, two) in rows {
+        expect(&rt, what, treatments, UNTAGGED, Some(none))?;
+        expect(&rt, what, treatments, ONE_TAG, Some(one))?;
+        expect(&rt, what, treatments, TWO_TAGS, Some(two))?;
+    }
+    for frame in [UNTAGGED, ONE_TAG, TWO_TAGS] {
+        expect(
+            &rt,
+            "three are to be removed",
+            0xc00f0000_000f0000,
+            frame,
+            None,
+        )?;
+    }
+    Ok(())
+}
+
+#[test]
+fn the_added_outer_tag_stands_before_the_added_inner_tag(rt: HostRuntime) -> Result<(), Fail> {
+    // The outer tag: priority 1, VID 300, output TPID. The inner one: that of the received inner tag.
+    let rows = [
+        (
+            "none",
+            0x00010966_00088000,
+            UNTAGGED,
+            &[0x9100212c, 0x81000000][..],
+        ),
+        (
+            "two",
+            0x00010966_00088000,
+            TWO_TAGS,
+            &[0x9100212c, 0x8100c0c8, 0x88a87064, 0x8100c0c8][..],
+        ),
+        (
+            "two, which go",
+            0x80010966_00088000,
+            TWO_TAGS,
+            &[0x9100212c, 0x8100c0c8][..],
+        ),
+        (
+            "one, the outer tag added alone",
+            0x00010966_000f0000,
+            ONE_TAG,
+            &[0x9100212c, 0x88a87064][..],
+        ),
+    ];
+    for (what, treatments, frame, want) in rows {
+        expect(&rt, what, treatments, frame, Some(want))?;
+    }
+    Ok(())
+}
+
+#[test]
+fn worked_frames_leave_with_their_tags(rt: HostRuntime) -> Result<(), Fail> {
+    let plain = &[2, 0, 0, 0, 0, 1, 2, 0, 0, 0, 0, 2, 0x08, 0x00, 0x45, 0x00][..];
+    let voice = &[
+        2, 0, 0, 0, 0, 1, 2, 0, 0, 0, 0, 2, 0x81, 0x00, 0xa0, 0x64, 0x08, 0x00, 0x45, 0x00,
+    ][..];
+    let double = &[
+        2, 0, 0, 0, 0, 1, 2, 0, 0, 0, 0, 2, 0x88, 0xa8, 0x00, 0x64, 0x81, 0x00, 0x00, 0xc8, 0x08,
+        0x00, 0x45, 0x00,
+    ][..];
+    let ipv6 = &[2, 0, 0, 0, 0, 1, 2, 0, 0, 0, 0, 2, 0x86, 0xdd, 0x6b, 0x80][..];
+    let arp = &[2, 0, 0, 0, 0, 1, 2, 0, 0, 0, 0, 2, 0x08, 0x06, 0x00, 0x01][..];
+    let rows = [
+        (
+            "VLAN 100 is added",
+            0x000f0000_00000324,
+            plain,
+            &[0x81000064][..],
+        ),
+        (
+            "the VID changes and the priority stays",
+            0x400f0000_00080644,
+            voice,
+            &[0x8100a0c8][..],
+        ),
+        (
+            "copies of no tag",
+            0x000f0000_00088000,
+            plain,
+            &[0x81000000][..],
+        ),
+        ("two of one tag go", 0x800f0000_000f0000, voice, &[][..]),
+        (
+            "the outer of two tags goes",
+            0x400f0000_000f0000,
+            double,
+            &[0x810000c8][..],
+        ),
+        (
+            "the priority of an IPv4 packet",
+            0x000f0000_000a0324,
+            UNTAGGED,
+            &[0x8100a064][..],
+        ),
+        (
+            "the priority of an IPv6 packet",
+            0x000f0000_000a0324,
+            ipv6,
+            &[0x8100a064][..],
+        ),
+        (
+            "the priority without a DSCP",
+            0x000f0000_000a0324,
+            arp,
+            &[0x81000064][..],
+        ),
+    ];
+    for (what, treatments, frame, want) in rows {
+        expect(&rt, what, treatments, frame, Some(want))?;
+    }
+    for frame in [voice, double] {
+        expect(&rt, "dropped", 0xc00f0000_000f0000, frame, None)?;
+    }
+    Ok(())
+}
+
+#[test]
+fn a_compiled_treatment_asks_for_the_dscp_where_a_tag_takes_its_priority(
+    rt: HostRuntime,
+) -> Result<(), Fail> {
+    let rows = [
+        ("no tag is added", 0x000f0000_000f0000, false),
+        ("a fixed priority", 0x000f0000_00000324, false),
+        ("that of a received tag", 0x00080644_00090644, false),
+        ("the inner tag's is the DSCP's", 0x000f0000_000a0324, true),
+        ("the outer tag's is the DSCP's", 0x000a0324_000f0000, true),
+        ("the inner of two is the DSCP's", 0x00010966_000a0324, true),
+    ];
+    for (what, treatments, want) in rows {
+        let rule = rule(treatments)?;
+        for received in 0..3 {
+            let treat = Treat::of(&rule.treatment, &SETTINGS, received);
+            assert_eq!(rt;
+                treat.map(|t| t.uses_dscp()),
+                Some(want),
+                "{what}, {received} tags"
+            );
+        }
+    }
+    Ok(())
+}

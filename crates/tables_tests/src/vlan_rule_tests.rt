@@ -1,0 +1,584 @@
+use byteorder::{BigEndian, ByteOrder};
+use fixtures::frame;
+use std::alloc::Global;
+use std::process::Abort;
+use std::test::Fail;
+use tag_view::view;
+use vlan_rule::{
+    AddedTag, EligibleSource, Entry, EthertypeFilter, Filter, PriorityFilter, PrioritySource, Put,
+    Rank, Retag, Rule, RuleFault, RuleTable, TABLE_MAX_SIZE, TableFault, TagFilter, TpidFilter,
+    TpidSource, Treatment, VidFilter, VidSource, law_of_choice,
+};
+
+/// The last eight bytes of an entry that changes nothing, and of one that drops the frame.
+const UNCHANGED: u64 = 0x000f0000_000f0000;
+
+const DROPPED: u64 = 0xc00f0000_000f0000;
+
+const DELETION: u64 = 0xffffffff_ffffffff;
+
+/// An entry by its first and its last eight bytes.
+fn entry(key: u64, rest: u64) -> Entry {
+    let mut bytes = [0; 16];
+    BigEndian::write_u64(&mut bytes[..8], key);
+    BigEndian::write_u64(&mut bytes[8..], rest);
+    Entry(bytes)
+}
+
+/// The place of the entry that is used for a frame with these tags and the type behind them.
+fn used(
+    table: &RuleTable,
+    alloc: Global,
+    input_tpid: u16,
+    tags: &[u32],
+    ethertype: u16,
+) -> Result<Option<usize>, Fail> {
+    let bytes = frame(alloc, tags, ethertype)?;
+    let frame = view(&bytes, input_tpid)?;
+    Ok(table.walk(&frame, input_tpid))
+}
+
+#[test]
+fn each_refusal_has_its_number(rt: HostRuntime) {
+    let any = 0xf8000000_88000000;
+    let rows = [
+        (
+            "inner priority 9",
+            0xf8000000_98000000,
+            UNCHANGED,
+            RuleFault::Priority,
+            1,
+        ),
+        (
+            "inner priority 13",
+            0xf8000000_d8000000,
+            UNCHANGED,
+            RuleFault::Priority,
+            1,
+        ),
+        (
+            "outer priority 9",
+            0x98000000_88000000,
+            UNCHANGED,
+            RuleFault::Priority,
+            1,
+        ),
+        (
+            "outer default, inner 9",
+            0xe8000000_98000000,
+            UNCHANGED,
+            RuleFault::Priority,
+            1,
+        ),
+        (
+            "outer 3, inner default",
+            0x38000000_e8000000,
+            UNCHANGED,
+            RuleFault::Mixed,
+            2,
+        ),
+        (
+            "outer any, inner default",
+            0x88000000_e8000000,
+            UNCHANGED,
+            RuleFault::Mixed,
+            2,
+        ),
+        (
+            "one tag's VID 4097",
+            0xf8000000_88008000,
+            UNCHANGED,
+            RuleFault::Vid,
+            3,
+        ),
+        (
+            "outer VID 4097",
+            0x88008000_88000000,
+            UNCHANGED,
+            RuleFault::Vid,
+            3,
+        ),
+        (
+            "one tag's TPID/DE 1",
+            0xf8000000_88001000,
+            UNCHANGED,
+            RuleFault::Tpid,
+            4,
+        ),
+        (
+            "outer TPID/DE 3",
+            0x88003000_88000000,
+            UNCHANGED,
+            RuleFault::Tpid,
+            4,
+        ),
+        (
+            "Ethertype 6",
+            0xf8000000_f8000006,
+            UNCHANGED,
+            RuleFault::Ethertype,
+            5,
+        ),
+        (
+            "added outer priority 11",
+            any,
+            0x000b0000_000f0000,
+            RuleFault::TreatPriority,
+            6,
+        ),
+        (
+            "added inner priority 14",
+            any,
+            0x000f0000_000e0000,
+            RuleFault::TreatPriority,
+            6,
+        ),
+        (
+            "added inner VID 4095",
+            any,
+            0x000f0000_00007ffc,
+            RuleFault::TreatVid,
+            7,
+        ),
+        (
+            "added outer VID 4098",
+            any,
+            0x00008010_000f0000,
+            RuleFault::TreatVid,
+            7,
+        ),
+        (
+            "added inner TPID/DE 5",
+            any,
+            0x000f0000_00000325,
+            RuleFault::TreatTpid,
+            8,
+        ),
+        (
+            "a bad VID before a bad Ethertype",
+            0xf8000000_88008006,
+            UNCHANGED,
+            RuleFault::Vid,
+            3,
+        ),
+    ];
+    for (what, key, rest, fault, number) in rows {
+        assert_eq!(rt; Rule::read(&entry(key, rest)).err(), Some(fault), "{what}");
+        assert_eq!(rt; fault.code(), number, "{what}");
+        assert_eq!(rt; TableFault::Bad(fault).code(), 1, "{what}");
+    }
+    assert_eq!(rt; TableFault::Full.code(), 2);
+}
+
+#[test]
+fn fields_that_do_not_count_are_not_refused(rt: HostRuntime) {
+    let rows = [
+        (
+            "outer priority 9 of a no-tag entry",
+            0x98000000_f8000000,
+            UNCHANGED,
+        ),
+        ("filters of a no-tag entry", 0xd8009000_f8009000, UNCHANGED),
+        (
+            "outer filters of a one-tag entry",
+            0xf8009000_88000000,
+            UNCHANGED,
+        ),
+        (
+            "filters of a one-tag default",
+            0xf8009000_e8009000,
+            UNCHANGED,
+        ),
+        (
+            "filters of a two-tag default",
+            0xe8009000_88009000,
+            UNCHANGED,
+        ),
+        (
+            "VIDs and TPIDs where no tag is added",
+            0xf8000000_88000000,
+            0x000f7ffd_000f7ffd,
+        ),
+        (
+            "treatments of a frame that is dropped",
+            0xf8000000_88000000,
+            0xc00b7ffd_000b7ffd,
+        ),
+        ("padding", 0x80000fff_80000ff0, 0x3ff00000_fff00000),
+    ];
+    for (what, key, rest) in rows {
+        assert_eq!(rt; Rule::read(&entry(key, rest)).err(), None, "{what}");
+    }
+}
+
+#[test]
+fn a_rule_has_the_parts_of_its_entry(rt: HostRuntime) -> Result<(), Fail> {
+    let translated = Rule::read(&entry(0xf8000000_80320000, 0x400f0000_00080644))?;
+    let any = TagFilter {
+        priority: PriorityFilter::Any,
+        vid: VidFilter::Any,
+        tpid: TpidFilter::Any,
+    };
+    let vid_100 = TagFilter {
+        vid: VidFilter::Exactly(100),
+        ..any
+    };
+    assert_eq!(rt; translated.filter, Filter::OneTag(vid_100));
+    assert_eq!(rt; translated.ethertype, EthertypeFilter::Any);
+    assert_eq!(rt; translated.rank, Rank::Ordinary);
+    let vid_200 = AddedTag {
+        priority: PrioritySource::Inner,
+        vid: VidSource::Fixed(200),
+        tpid: TpidSource::Standard,
+        eligible: EligibleSource::Clear,
+    };
+    let swapped = Retag {
+        remove: 1,
+        outer: None,
+        inner: Some(vid_200),
+    };
+    assert_eq!(rt; translated.treatment, Treatment::Retag(swapped));
+
+    let copied = Rule::read(&entry(0x5003e000_88007002, 0x8009800b_000a8007))?;
+    let outer = TagFilter {
+        priority: PriorityFilter::Exactly(5),
+        vid: VidFilter::Exactly(7),
+        tpid: TpidFilter::InputNotEligible,
+    };
+    let inner = TagFilter {
+        tpid: TpidFilter::InputEligible,
+        ..any
+    };
+    assert_eq!(rt; copied.filter, Filter::TwoTag { outer, inner });
+    assert_eq!(rt; copied.ethertype, EthertypeFilter::Pppoe);
+    let from_outer = AddedTag {
+        priority: PrioritySource::Outer,
+        vid: VidSource::Outer,
+        tpid: TpidSource::Output,
+        eligible: EligibleSource::Outer,
+    };
+    let from_dscp = AddedTag {
+        priority: PrioritySource::Dscp,
+        vid: VidSource::Inner,
+        tpid: TpidSource::Output,
+        eligible: EligibleSource::Set,
+    };
+    let replaced = Retag {
+        remove: 2,
+        outer: Some(from_outer),
+        inner: Some(from_dscp),
+    };
+    assert_eq!(rt; copied.treatment, Treatment::Retag(replaced));
+    Ok(())
+}
+
+#[test]
+fn the_rank_is_that_of_the_key_and_the_kind(rt: HostRuntime) -> Result<(), Fail> {
+    let rows = [
+        ("no tag", 0xf8000000_f8000000, Rank::Ordinary, 0),
+        ("one tag", 0xf8000000_88000000, Rank::Ordinary, 0),
+        ("two tags", 0x88000000_88000000, Rank::Ordinary, 0),
+        ("one tag, default", 0xf8000000_e8000000, Rank::Default, 1),
+        ("two tags, default", 0xe8000000_e8000000, Rank::Default, 1),
+        (
+            "no tag, predefined",
+            0xf0000000_f0000000,
+            Rank::Predefined,
+            2,
+        ),
+        (
+            "one tag, predefined",
+            0xf0000000_e0000000,
+            Rank::Predefined,
+            2,
+        ),
+        (
+            "two tags, predefined",
+            0xe0000000_e0000000,
+            Rank::Predefined,
+            2,
+        ),
+        (
+            "one bit beside a predefined key",
+            0xf0000000_f0000001,
+            Rank::Ordinary,
+            0,
+        ),
+        (
+            "one bit beside another",
+            0xf0000000_e0000001,
+            Rank::Default,
+            1,
+        ),
+    ];
+    for (what, key, rank, number) in rows {
+        let rule = Rule::read(&entry(key, DROPPED))?;
+        assert_eq!(rt; rule.rank, rank, "{what}");
+        assert_eq!(rt; rank.number(), number, "{what}");
+        assert_eq!(rt; rule.treatment, Treatment::Discard, "{what}");
+    }
+    Ok(())
+}
+
+/// Looks which entry is used where several match.
+fn look_by_rank(rt: &impl Abort, alloc: Global, table: &mut RuleTable) -> Result<(), Fail> {
+    let untagged = used(table, alloc, 0x8100, &[], 0x0800)?;
+    assert_eq!(rt; untagged, Some(0), "the first predefined entry");
+    let default = table.put(entry(0xf8000000_e8000000, DROPPED));
+    assert_eq!(rt; default, Ok(Put::Added));
+    let vid_100 = table.put(entry(0xf8000000_80320000, 0x400f0000_00080644));
+    assert_eq!(rt; vid_100, Ok(Put::Added));
+    let double = [0x88a80064, 0x810000c8];
+    let rows = [
+        ("VID 100", &[0x8100a064][..], Some(4)),
+        ("VID 101", &[0x8100a065][..], Some(3)),
+        ("no tag", &[][..], Some(0)),
+        ("two tags", &double[..], Some(2)),
+    ];
+    for (what, tags, place) in rows {
+        let found = used(table, alloc, 0x8100, tags, 0x0800)?;
+        assert_eq!(rt; found, place, "{what}");
+    }
+    let deletion = entry(0xe0000000_e0000000, DELETION);
+    assert_eq!(rt; table.put(deletion), Ok(Put::Deleted));
+    let found = used(table, alloc, 0x8100, &double, 0x0800)?;
+    assert_eq!(rt; found, None, "two tags, of which no entry is left");
+    assert_eq!(rt; table.put(deletion), Ok(Put::Absent));
+    Ok(())
+}
+
+#[test]
+fn the_first_entry_of_least_rank_is_used(rt: HostRuntime) -> Result<(), Fail> {
+    let mut table = RuleTable::new(rt.alloc())?;
+    look_by_rank(&rt, rt.alloc(), &mut table)
+}
+
+/// Sets, rewrites and deletes two keys, and looks which entry is used then.
+fn look_at_order(rt: &impl Abort, alloc: Global, table: &mut RuleTable) -> Result<(), Fail> {
+    let (a, b) = (0xf8000000_f8000000, 0xf8000000_f8000001);
+    let first = entry(a, 0x000f0000_00000324);
+    let second = entry(b, 0x000f0000_00000644);
+    let second_again = entry(b, 0x000f0000_00000964);
+    let first_again = entry(a, 0x000f0000_0000032c);
+    let rows = [
+        ("A is set", first, Put::Added, first),
+        ("B is set", second, Put::Added, first),
+        ("B is rewritten", second_again, Put::Replaced, first),
+        ("A is rewritten", first_again, Put::Replaced, first_again),
+        (
+            "A is deleted",
+            entry(a, DELETION),
+            Put::Deleted,
+            second_again,
+        ),
+        ("A is set again", first, Put::Added, second_again),
+    ];
+    for (what, put, told, used_entry) in rows {
+        assert_eq!(rt; table.check(&put), Ok(told), "{what}");
+        assert_eq!(rt; table.put(put), Ok(told), "{what}");
+        let place = used(table, alloc, 0x8100, &[], 0x0800)?;
+        assert_eq!(rt; place, Some(3), "{what}");
+        assert_eq!(rt; table.entry(3), Some(used_entry), "{what}");
+    }
+    assert_eq!(rt; table.len(), 5);
+    assert_eq!(rt; table.entry(4), Some(first));
+    assert_eq!(rt; table.entry(5), None);
+    assert_eq!(rt; table.rule(4).map(|rule| rule.filter), Some(Filter::NoTag));
+    assert!(rt; table.rule(5).is_none());
+    Ok(())
+}
+
+#[test]
+fn a_deleted_key_set_again_goes_last(rt: HostRuntime) -> Result<(), Fail> {
+    let mut table = RuleTable::new(rt.alloc())?;
+    look_at_order(&rt, rt.alloc(), &mut table)
+}
+
+/// Fills a table, and looks what it takes then.
+fn look_at_full(rt: &impl Abort, table: &mut RuleTable) {
+    for vid in 1..126 {
+        let put = table.put(entry(0xf8000000_80000000 + vid * 32768, UNCHANGED));
+        assert_eq!(rt; put, Ok(Put::Added), "VID {vid}");
+    }
+    assert_eq!(rt; table.len(), 128);
+    assert_eq!(rt; TABLE_MAX_SIZE, 128);
+    let one_more = entry(0xf8000000_803f0000, UNCHANGED);
+    assert_eq!(rt; table.check(&one_more), Err(TableFault::Full));
+    assert_eq!(rt; table.put(one_more), Err(TableFault::Full));
+    assert_eq!(rt; table.len(), 128);
+    assert_eq!(rt; table.entry(128), None);
+    let held = entry(0xf8000000_803e8000, DROPPED);
+    assert_eq!(rt; table.put(held), Ok(Put::Replaced));
+    assert_eq!(rt; table.entry(127), Some(held));
+    assert_eq!(rt; table.len(), 128);
+    table.reset();
+    assert_eq!(rt; table.len(), 3);
+    assert_eq!(rt; table.entry(0), Some(entry(0xf0000000_f0000000, UNCHANGED)));
+    assert_eq!(rt; table.entry(1), Some(entry(0xf0000000_e0000000, UNCHANGED)));
+    assert_eq!(rt; table.entry(2), Some(entry(0xe0000000_e0000000, UNCHANGED)));
+}
+
+#[test]
+fn a_full_table_takes_only_the_keys_that_it_holds(rt: HostRuntime) -> Result<(), Fail> {
+    let mut table = RuleTable::new(rt.alloc())?;
+    look_at_full(&rt, &mut table);
+    Ok(())
+}
+
+/// Puts entries that are refused.
+fn look_at_refused(rt: &impl Abort, table: &mut RuleTable) {
+    let rows = [
+        (
+            0xf8000000_f8000000,
+            0x000f0000_00007ffc,
+            RuleFault::TreatVid,
+        ),
+        (0xf8000000_98000000, UNCHANGED, RuleFault::Priority),
+        (0x38000000_e8000000, UNCHANGED, RuleFault::Mixed),
+    ];
+    for (key, rest, fault) in rows {
+        let refused = table.put(entry(key, rest));
+        assert_eq!(rt; refused, Err(TableFault::Bad(fault)));
+        assert_eq!(rt; table.len(), 3);
+        let deleted = table.put(entry(key, DELETION));
+        assert_eq!(rt; deleted, Ok(Put::Absent), "a deletion isn't checked");
+    }
+}
+
+#[test]
+fn a_refused_entry_leaves_the_table(rt: HostRuntime) -> Result<(), Fail> {
+    let mut table = RuleTable::new(rt.alloc())?;
+    look_at_refused(&rt, &mut table);
+    Ok(())
+}
+
+/// Looks which entry is used for frames with none to three tags.
+fn look_at_kinds(rt: &impl Abort, alloc: Global, table: &mut RuleTable) -> Result<(), Fail> {
+    let keys = [
+        0xf8000000_f8000004,
+        0xf8000000_80320000,
+        0xf8000000_e8000003,
+        0x80320000_80640000,
+        0xe8000000_e8000004,
+    ];
+    for key in keys {
+        assert_eq!(rt; table.put(entry(key, UNCHANGED)), Ok(Put::Added));
+    }
+    let rows = [
+        ("no tag", &[][..], 0x0800, 0),
+        ("no tag, IPv6", &[][..], 0x86dd, 3),
+        ("VID 100", &[0x81000064][..], 0x0800, 4),
+        ("VID 100, ARP", &[0x81000064][..], 0x0806, 4),
+        ("VID 101", &[0x81000065][..], 0x0800, 1),
+        ("VID 101, ARP", &[0x81000065][..], 0x0806, 5),
+        ("VIDs 100 and 200", &[0x88a80064, 0x810000c8][..], 0x0800, 6),
+        ("VIDs 200 and 100", &[0x88a800c8, 0x81000064][..], 0x0800, 2),
+        ("VIDs 100 and 201", &[0x88a80064, 0x810000c9][..], 0x0800, 2),
+        (
+            "VIDs 101 and 200, IPv6",
+            &[0x88a80065, 0x810000c8][..],
+            0x86dd,
+            7,
+        ),
+        (
+            "a third tag",
+            &[0x88a80064, 0x810000c8, 0x81000001][..],
+            0x0800,
+            6,
+        ),
+    ];
+    for (what, tags, ethertype, place) in rows {
+        let found = used(table, alloc, 0x8100, tags, ethertype)?;
+        assert_eq!(rt; found, Some(place), "{what}");
+    }
+    Ok(())
+}
+
+#[test]
+fn each_kind_takes_the_frames_of_its_number_of_tags(rt: HostRuntime) -> Result<(), Fail> {
+    let mut table = RuleTable::new(rt.alloc())?;
+    look_at_kinds(&rt, rt.alloc(), &mut table)
+}
+
+/// Whether an entry of this key, beside the predefined ones, is used for a frame.
+fn is_used(
+    alloc: Global,
+    key: u64,
+    input_tpid: u16,
+    tags: &[u32],
+    ethertype: u16,
+) -> Result<bool, Fail> {
+    let mut table = RuleTable::new(alloc)?;
+    let _ = table.put(entry(key, UNCHANGED));
+    Ok(used(&table, alloc, input_tpid, tags, ethertype)? == Some(3))
+}
+
+#[test]
+fn a_tag_filter_asks_for_priority_vid_tpid_and_de(rt: HostRuntime) -> Result<(), Fail> {
+    let rows = [
+        ("priority 5", 0x58000000, 0x8100a064, true),
+        ("another than priority 5", 0x58000000, 0x8100c064, false),
+        ("VID 4095", 0x87ff8000, 0x81000fff, true),
+        ("another than VID 4095", 0x87ff8000, 0x81000064, false),
+        ("any TPID", 0x88000000, 0x91001064, true),
+        ("TPID 0x8100", 0x88004000, 0x81000064, true),
+        ("another than TPID 0x8100", 0x88004000, 0x91000064, false),
+        ("the input TPID", 0x88005000, 0x91000064, true),
+        ("another than the input TPID", 0x88005000, 0x81000064, false),
+        ("the input TPID with DE 0", 0x88006000, 0x91000064, true),
+        (
+            "the input TPID with DE 1, not 0",
+            0x88006000,
+            0x91001064,
+            false,
+        ),
+        ("another TPID with DE 0", 0x88006000, 0x81000064, false),
+        ("the input TPID with DE 1", 0x88007000, 0x91001064, true),
+        (
+            "the input TPID with DE 0, not 1",
+            0x88007000,
+            0x91000064,
+            false,
+        ),
+        ("another TPID with DE 1", 0x88007000, 0x81001064, false),
+    ];
+    for (what, filter, tag, want) in rows {
+        let one = is_used(
+            rt.alloc(),
+            0xf8000000_00000000 | filter,
+            0x9100,
+            &[tag],
+            0x0800,
+        )?;
+        assert_eq!(rt; one, want, "{what}");
+        let outer = 0x88000000 | filter << 32;
+        let first = is_used(rt.alloc(), outer, 0x9100, &[tag, 0x88a80001], 0x0800)?;
+        assert_eq!(rt; first, want, "{what}, of the outer tag");
+        let inner = 0x88000000_00000000 | filter;
+        let last = is_used(rt.alloc(), inner, 0x9100, &[0x88a80001, tag], 0x0800)?;
+        assert_eq!(rt; last, want, "{what}, of the inner tag");
+    }
+    Ok(())
+}
+
+#[test]
+fn an_ethertype_filter_asks_for_the_type_behind_the_tags(rt: HostRuntime) -> Result<(), Fail> {
+    let types = [0x0800, 0x8863, 0x8864, 0x0806, 0x86dd, 0x888e, 0x1234];
+    let rows = [
+        (0, [true, true, true, true, true, true, true]),
+        (1, [true, false, false, false, false, false, false]),
+        (2, [false, true, true, false, false, false, false]),
+        (3, [false, false, false, true, false, false, false]),
+        (4, [false, false, false, false, true, false, false]),
+        (5, [false, false, false, false, false, true, false]),
+    ];
+    for (code, wants) in rows {
+        for (ethertype, want) in types.iter().zip(wants.iter()) {
+            let key = 0xf8000000_88000000 | code;
+            let found = is_used(rt.alloc(), key, 0x8100, &[0x81000064], *ethertype)?;
+            assert_eq!(rt; found, *want, "code {code}, type {ethertype:x}");
+        }
+    }
+    law_of_choice();
+    Ok(())
+}
