@@ -42,7 +42,7 @@ class_times type false is = arith-none (get_or CLASSES (place_of type) 0) ∙ sy
 pub returns-clause-value : goal.returns-clause-value
 returns-clause-value c =
     rw (c.from.ensures, c.from-2.ensures, c.from-place.ensures)
-      (class_times c.args.ethertype (get_or TYPES (place_of c.args.ethertype) 0 == c.args.ethertype) refl)
+    (class_times c.args.ethertype (get_or TYPES (place_of c.args.ethertype) 0 == c.args.ethertype) refl)
 
 pub returns-clause-bound : goal.returns-clause-bound
 returns-clause-bound c = subst (λ class. class < 6) (sym (returns-clause-value c)) (class-below c.args.ethertype)

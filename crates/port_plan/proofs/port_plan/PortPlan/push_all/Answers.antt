@@ -23,5 +23,5 @@ loop-frame-preserved c = record {
   so_far = λ e port planned.
       c.push.ensures.verdict e port planned
       ∙ one_more e port c.args.frames.now c.loop-frame.frame-index _ c.args.verdicts.now.items c.loop-frame.verdicts.items c.loop-frame-test.true
-          (c.loop-frame.invariant.so_far e port planned);
+      (c.loop-frame.invariant.so_far e port planned);
 }
