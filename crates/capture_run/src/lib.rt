@@ -20,8 +20,3 @@ pub use fault::RunFault;
 pub use report::report_run;
 pub use run::{run_over, run_over_shown};
 pub use run_settings::RunSettings;
-
-#[cfg(test)]
-mod run_tests;
-#[cfg(test)]
-mod tests;

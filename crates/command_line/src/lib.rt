@@ -9,6 +9,3 @@ mod words;
 pub use reading::read_words;
 pub use report::report_words;
 pub use words::{ExplainWords, MibWords, RulesWords, RunWords, Words};
-
-#[cfg(test)]
-mod tests;

@@ -38,6 +38,3 @@ mod threads;
 
 pub use fault::LaneFault;
 pub use run::{Ran, run_lanes};
-
-#[cfg(test)]
-mod tests;

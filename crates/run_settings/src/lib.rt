@@ -4,6 +4,3 @@
 mod settings;
 
 pub use settings::{BATCH_LIMIT, LANE_LIMIT, RunSettings};
-
-#[cfg(test)]
-mod tests;

@@ -4,6 +4,3 @@
 mod whole;
 
 pub use whole::{WriteFault, write_whole};
-
-#[cfg(test)]
-mod tests;

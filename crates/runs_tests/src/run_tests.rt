@@ -1,15 +1,10 @@
 //! What a run writes.
-use crate::tests::{HEADER, applied_first, port_257};
-use crate::{RunFault, run_over};
+use crate::capture_run_tests::{HEADER, applied_first, port_257};
+use crate::lane_run_tests::{CUT, UNTAGGED};
+use capture_run::{RunFault, run_over};
 use fixtures::{Sink, push_message};
 use std::alloc::{AllocError, Global};
 use std::test::Fail;
-
-/// A frame without a tag.
-const UNTAGGED: [u8; 16] = [2, 0, 0, 0, 0, 1, 2, 0, 0, 0, 0, 2, 8, 0, 0x45, 0];
-
-/// A frame that is cut in its tag.
-const CUT: [u8; 14] = [2, 0, 0, 0, 0, 1, 2, 0, 0, 0, 0, 2, 0x81, 0];
 
 /// What stands before a frame of 16 bytes, and before one of 14.
 const RECORD_16: [u8; 16] = [0, 0, 0, 0, 0, 0, 0, 0, 16, 0, 0, 0, 16, 0, 0, 0];

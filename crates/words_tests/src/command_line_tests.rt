@@ -1,7 +1,7 @@
 //! Words and what they ask for; the texts of help, and of words that are refused.
 
-use crate::{ExplainWords, MibWords, RulesWords, RunWords, Words, read_words, report_words};
 use clap::Error;
+use command_line::{ExplainWords, MibWords, RulesWords, RunWords, Words, read_words, report_words};
 use run_settings::RunSettings;
 use std::alloc::AllocError;
 use std::test::Fail;

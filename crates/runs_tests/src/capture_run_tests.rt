@@ -1,6 +1,6 @@
 //! What a run refuses, and how it is reported.
-use crate::{RunFault, RunSettings, report_run, run_over};
 use capture::CaptureFault;
+use capture_run::{RunFault, RunSettings, report_run, run_over};
 use fixtures::{Sink, push_message};
 use std::alloc::{AllocError, Global};
 use std::test::Fail;

@@ -2,9 +2,9 @@
 ghost use Rattle.std.specs.Prelude.{◌<◌, ◌≤◌, ◌^◌, length};
 ghost use Rattle.run_settings.specs.Settings.{CanRun};
 
-use crate::{LaneFault, Ran, run_lanes};
 use frame_batch::Gate;
 use frame_stats::Counts;
+use lane_run::{LaneFault, Ran, run_lanes};
 use run_settings::RunSettings;
 use std::alloc::Global;
 use std::sync::Wait;
@@ -13,10 +13,10 @@ use std::test::Fail;
 use std::thread::{Threads, yield_now};
 
 /// A frame without a tag.
-const UNTAGGED: [u8; 16] = [2, 0, 0, 0, 0, 1, 2, 0, 0, 0, 0, 2, 8, 0, 0x45, 0];
+pub(crate) const UNTAGGED: [u8; 16] = [2, 0, 0, 0, 0, 1, 2, 0, 0, 0, 0, 2, 8, 0, 0x45, 0];
 
 /// A frame that is cut in its tag.
-const CUT: [u8; 14] = [2, 0, 0, 0, 0, 1, 2, 0, 0, 0, 0, 2, 0x81, 0];
+pub(crate) const CUT: [u8; 14] = [2, 0, 0, 0, 0, 1, 2, 0, 0, 0, 0, 2, 0x81, 0];
 
 /// How often a gate looks for what it waits for.
 const TURNS: u32 = 10_000_000;

@@ -1,5 +1,5 @@
 //! Which settings a run may have.
-use crate::RunSettings;
+use run_settings::RunSettings;
 use std::test::Fail;
 
 #[test]

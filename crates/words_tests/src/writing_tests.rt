@@ -1,6 +1,6 @@
-use crate::{WriteFault, write_whole};
 use fixtures::Sink;
 use std::test::Fail;
+use writing::{WriteFault, write_whole};
 
 #[test]
 fn bytes_are_written_whole_or_to_where_a_write_fails(rt: HostRuntime) -> Result<(), Fail> {
