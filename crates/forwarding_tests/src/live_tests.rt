@@ -3,7 +3,7 @@ use draws::{
     DOUBLE, UNTAGGED, create_gem_port, create_interwork, create_mapper, create_table, delete,
     request, set,
 };
-use forward_plan::{Live, NoMemory, Reason, Verdict};
+use forward_plan::{Live, NoMemory, PortPlan, Reason, Verdict};
 use omci_msg::{Action, Request};
 use std::alloc::Global;
 use std::process::Abort;
@@ -72,6 +72,21 @@ fn check_left(
     let mut verdicts = Vec::with_capacity(alloc, 1)?;
     plan.push(frame, &mut verdicts);
     assert_eq!(rt; verdicts.len(), 1);
+    check_verdicts(rt, alloc, &verdicts, bytes)?;
+    check_list(rt, alloc, &plan, frame, bytes)
+}
+
+/// Checks that each frame of a list leaves with certain bytes.
+fn check_list(
+    rt: &impl Abort,
+    alloc: Global,
+    plan: &PortPlan<'_>,
+    frame: &[u8],
+    bytes: &[u8],
+) -> Result<(), NoMemory> {
+    let mut verdicts = Vec::with_capacity(alloc, 3)?;
+    plan.push_all(&[frame, frame, frame], &mut verdicts);
+    assert_eq!(rt; verdicts.len(), 3);
     check_verdicts(rt, alloc, &verdicts, bytes)
 }
 
