@@ -34,8 +34,3 @@ pub use rule::RuleWords;
 pub use tag::TagWords;
 pub use treatment::{AddedTagWords, TreatmentWords};
 pub use value::ValueWords;
-
-#[cfg(test)]
-mod mib_tests;
-#[cfg(test)]
-mod tests;

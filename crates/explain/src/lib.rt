@@ -31,10 +31,3 @@ pub use order::{number_of, tried_order};
 pub use outgoing::{OutgoingTag, TagOrigin};
 pub use priority::PriorityOrigin;
 pub use step::Step;
-
-#[cfg(test)]
-mod showing;
-#[cfg(test)]
-mod table_tests;
-#[cfg(test)]
-mod tests;

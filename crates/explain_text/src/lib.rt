@@ -16,10 +16,3 @@ pub use steps::write_explanation;
 pub use steps_json::write_explanation_json;
 pub use verdict::VerdictWords;
 pub use words::{MismatchWords, OriginWords};
-
-#[cfg(test)]
-mod reading;
-#[cfg(test)]
-mod rules_tests;
-#[cfg(test)]
-mod steps_tests;

@@ -24,12 +24,3 @@ pub use line::{ScriptLine, read_script_line};
 pub use names::{action_name, message_fault_words, result_name};
 pub use reply::put_reply;
 pub use request::put_request;
-
-#[cfg(test)]
-mod frame_tests;
-#[cfg(test)]
-mod reply_tests;
-#[cfg(test)]
-mod request_tests;
-#[cfg(test)]
-mod tests;

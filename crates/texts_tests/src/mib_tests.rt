@@ -1,6 +1,7 @@
 //! What a MIB holds, as text and as JSON.
-use crate::{TextFault, write_mib, write_mib_json};
+use crate::reading;
 use draws::request;
+use entity_text::{TextFault, write_mib, write_mib_json};
 use mib_state::Mib;
 use omci_msg::Action;
 use serde_json::Value;
@@ -92,8 +93,7 @@ fn write_in_little_room(rt: &impl Abort, alloc: Global, mib: &Mib) -> Result<(),
 fn read_back(alloc: Global, mib: &Mib) -> Result<Value, Fail> {
     let mut written = Vec::new(alloc);
     write_mib_json(alloc, mib, &mut written)?;
-    let value = Value::from_slice(alloc, &written)?;
-    Ok(value)
+    reading::read_back(alloc, &written)
 }
 
 #[test]

@@ -1,5 +1,5 @@
 //! Requests as text.
-use crate::tests::{decoded, decoded_message};
+use crate::message_text_tests::{decoded, decoded_message};
 use std::test::Fail;
 
 /// Messages by their digits, and their texts.

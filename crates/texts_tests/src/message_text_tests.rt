@@ -1,6 +1,6 @@
 //! What decoding a script writes, and where it ends.
-use crate::{DecodeFault, decode};
 use fixtures::push_message;
+use message_text::{DecodeFault, decode};
 use std::alloc::{AllocError, Global};
 use std::io;
 use std::io::{ErrorKind, Read};

@@ -1,5 +1,5 @@
 //! Rules, entries and values in words.
-use crate::{EntityWords, EntryWords, HexWords, TagWords, ValueWords};
+use entity_text::{EntityWords, EntryWords, HexWords, TagWords, ValueWords};
 use managed_entity::AttributeKind;
 use std::alloc::{AllocError, Global};
 use std::test::Fail;

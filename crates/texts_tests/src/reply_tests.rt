@@ -1,5 +1,5 @@
 //! Replies as text.
-use crate::tests::decoded_message;
+use crate::message_text_tests::decoded_message;
 use std::test::Fail;
 
 /// Replies by their digits, and their texts.

@@ -1,8 +1,8 @@
 //! The table in force at a port, as text and as JSON.
 use crate::reading::{check_number, check_words, read_back};
-use crate::{write_rules, write_rules_json};
 use draws::request;
 use entity_text::TextFault;
+use explain_text::{write_rules, write_rules_json};
 use mib_state::Mib;
 use omci_msg::Action;
 use serde_json::Value;

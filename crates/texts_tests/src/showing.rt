@@ -1,6 +1,6 @@
 //! Steps as texts, to be compared in tests.
-use crate::{OutgoingTag, Step, TableInForce, TagOrigin, explain};
 use draws::{PORT_257, message};
+use explain::{OutgoingTag, Step, TableInForce, TagOrigin, explain};
 use frame_meaning::Verdict;
 use mib_state::Mib;
 use omci_msg::read;

@@ -1,8 +1,8 @@
 //! Why a frame goes where it goes, as text and as JSON.
 use crate::reading::{check_number, check_words, read_back};
 use crate::rules_tests::{let_go, port_257};
-use crate::{write_explanation, write_explanation_json};
 use entity_text::TextFault;
+use explain_text::{write_explanation, write_explanation_json};
 use mib_state::Mib;
 use serde_json::Value;
 use std::alloc::Global;

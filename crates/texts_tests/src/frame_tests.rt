@@ -1,5 +1,5 @@
 //! Frames as text.
-use crate::tests::decoded;
+use crate::message_text_tests::decoded;
 use std::test::Fail;
 
 #[test]

@@ -1,6 +1,6 @@
 //! The order of a table's entries, and the entries that are never used.
 
-use crate::{number_of, shadow_of, tried_order};
+use explain::{number_of, shadow_of, tried_order};
 use std::alloc::Global;
 use std::process::Abort;
 use std::test::Fail;
