@@ -24,8 +24,3 @@ pub use listed::{ListFault, list_frames};
 pub use pcap::Pcap;
 pub use reading::{LINE_LIMIT, read_line};
 pub use text::first_line;
-
-#[cfg(test)]
-mod line_tests;
-#[cfg(test)]
-mod tests;

@@ -23,18 +23,3 @@ mod script;
 pub use fault::ReplayFault;
 pub use report::report_replay;
 pub use script::replay;
-
-#[cfg(test)]
-mod device_tests;
-#[cfg(test)]
-mod devices;
-#[cfg(test)]
-mod dialogue;
-#[cfg(test)]
-mod frame_tests;
-#[cfg(test)]
-mod get_next_tests;
-#[cfg(test)]
-mod message_tests;
-#[cfg(test)]
-mod tests;

@@ -1,12 +1,10 @@
 //! Scripts and their answers, by hand.
 
 use crate::dialogue::{Replayed, compare};
-use crate::fault::ReplayFault;
-use crate::report::report_replay;
-use crate::script::replay;
 use Change::{CrLf, Nothing, Odd, Unended, Upper};
 use Part::{Ask, Reply, Text};
 use fixtures::{Sink, push_message};
+use script_replay::{ReplayFault, replay, report_replay};
 use std::alloc::{AllocError, Global};
 use std::process::Abort;
 use std::test::Fail;

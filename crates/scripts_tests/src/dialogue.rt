@@ -1,9 +1,8 @@
 //! A script and its answers, grown step by step.
 
-use crate::fault::ReplayFault;
-use crate::script::replay;
-use crate::tests::{CREATED, PORT_257, messages};
+use crate::replay_tests::{CREATED, PORT_257, messages};
 use fixtures::push_message;
+use script_replay::{ReplayFault, replay};
 use std::alloc::{AllocError, Global};
 use std::process::Abort;
 

@@ -1,6 +1,6 @@
 ghost use Rattle.std.specs.Prelude.{◌≡◌, ◌<◌, length};
 
-use crate::{CaptureFault, ListFault, Pcap, law_of_records, list_frames};
+use capture::{CaptureFault, ListFault, Pcap, law_of_records, list_frames};
 use std::alloc::Global;
 use std::test::Fail;
 

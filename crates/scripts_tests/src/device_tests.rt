@@ -3,9 +3,8 @@
 use crate::devices::Source;
 use crate::dialogue::Step::{Put, Send};
 use crate::dialogue::{Dialogue, Step};
-use crate::fault::ReplayFault;
-use crate::script::replay;
 use fixtures::Sink;
+use script_replay::{ReplayFault, replay};
 use std::alloc::Global;
 use std::process::Abort;
 use std::test::Fail;

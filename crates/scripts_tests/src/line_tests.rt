@@ -1,4 +1,4 @@
-use crate::{Line, read_line};
+use capture::{Line, read_line};
 use std::process::Abort;
 use std::test::Fail;
 
