@@ -6,6 +6,3 @@ mod trace;
 
 pub use apply::apply_trace;
 pub use trace::{MOST_SPELLED, first_bad_line};
-
-#[cfg(test)]
-mod tests;

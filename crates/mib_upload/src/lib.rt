@@ -29,6 +29,3 @@ pub use shelf::{CLASSES, Shelf};
 pub fn law_of_rows()
     ensures { RowsOnce }
 {}
-
-#[cfg(test)]
-mod tests;

@@ -1,6 +1,6 @@
-use crate::{Desk, Shelf, law_of_rows};
 use draws::{contents, create_interwork, create_table, request};
 use mib_state::Mib;
+use mib_upload::{Desk, Shelf, law_of_rows};
 use omci_msg::{Action, OtherCode, Reply, Request};
 use std::alloc::{AllocError, Global};
 use std::process::Abort;

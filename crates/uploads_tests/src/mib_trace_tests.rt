@@ -1,7 +1,7 @@
 //! Which entities a trace leaves, and which traces are refused.
-use crate::{apply_trace, first_bad_line};
 use fixtures::push_message;
 use mib_state::Mib;
+use mib_trace::{apply_trace, first_bad_line};
 use std::alloc::{AllocError, Global};
 use std::test::Fail;
 
