@@ -27,8 +27,4 @@ pub use live::Live;
 pub use port_plan::PortPlan;
 
 #[cfg(test)]
-mod agree_tests;
-#[cfg(test)]
-mod live_tests;
-#[cfg(test)]
 mod ports_tests;

@@ -29,6 +29,3 @@ pub use spelling::NoMemory;
 pub use table::{PortTable, input_tpid, settings_of};
 pub use verdict::Verdict;
 pub use walk::plain_walk;
-
-#[cfg(test)]
-mod tests;

@@ -1,9 +1,9 @@
 use crate::agree_tests::parts;
-use crate::{Live, NoMemory, Reason, Verdict};
 use draws::{
     DOUBLE, UNTAGGED, create_gem_port, create_interwork, create_mapper, create_table, delete,
     request, set,
 };
+use forward_plan::{Live, NoMemory, Reason, Verdict};
 use omci_msg::{Action, Request};
 use std::alloc::Global;
 use std::process::Abort;

@@ -1,7 +1,7 @@
 //! The verdicts of the plan beside those of the plain walk, after each of many drawn messages.
 
-use crate::{Live, Reason, Verdict, plain_walk};
 use draws::{Draws, PORTS};
+use forward_plan::{Live, Reason, Verdict, plain_walk};
 use std::alloc::{AllocError, Global};
 use std::process::Abort;
 use std::test::Fail;

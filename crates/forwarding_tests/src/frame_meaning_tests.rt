@@ -1,5 +1,5 @@
-use crate::{NoMemory, OutFrame, Reason, Verdict, plain_walk};
 use draws::{DOUBLE, UNTAGGED, create_gem_port, create_interwork, create_mapper, request};
+use frame_meaning::{NoMemory, OutFrame, Reason, Verdict, plain_walk};
 use mib_state::Mib;
 use omci_msg::Action;
 use std::alloc::{AllocError, Global};
