@@ -1,6 +1,6 @@
 ghost use Rattle.std.specs.Prelude.{◌<◌, length};
 
-use byteorder::{BigEndian, ByteOrder};
+use crate::vlan_rule_tests::{DELETION, DROPPED, UNCHANGED, entry};
 use fixtures::frame;
 use rule_index::{Followed, Head, Index, law_of_order};
 use std::alloc::{AllocError, Global};
@@ -8,22 +8,6 @@ use std::process::Abort;
 use std::test::Fail;
 use tag_view::{FrameFault, view};
 use vlan_rule::{Entry, Filter, Put, RuleTable, TABLE_MAX_SIZE};
-
-/// The last eight bytes of an entry that changes nothing, of one that drops the frame, and of a
-/// deletion.
-const UNCHANGED: u64 = 0x000f0000_000f0000;
-
-const DROPPED: u64 = 0xc00f0000_000f0000;
-
-const DELETION: u64 = 0xffffffff_ffffffff;
-
-/// An entry by its first and its last eight bytes.
-fn entry(key: u64, rest: u64) -> Entry {
-    let mut bytes = [0; 16];
-    BigEndian::write_u64(&mut bytes[..8], key);
-    BigEndian::write_u64(&mut bytes[8..], rest);
-    Entry(bytes)
-}
 
 /// The place that is found for a frame with these tags and the type behind them.
 fn found(

@@ -10,15 +10,16 @@ use vlan_rule::{
     TpidSource, Treatment, VidFilter, VidSource, law_of_choice,
 };
 
-/// The last eight bytes of an entry that changes nothing, and of one that drops the frame.
-const UNCHANGED: u64 = 0x000f0000_000f0000;
+/// The last eight bytes of an entry that changes nothing, of one that drops the frame, and of a
+/// deletion.
+pub(crate) const UNCHANGED: u64 = 0x000f0000_000f0000;
 
-const DROPPED: u64 = 0xc00f0000_000f0000;
+pub(crate) const DROPPED: u64 = 0xc00f0000_000f0000;
 
-const DELETION: u64 = 0xffffffff_ffffffff;
+pub(crate) const DELETION: u64 = 0xffffffff_ffffffff;
 
 /// An entry by its first and its last eight bytes.
-fn entry(key: u64, rest: u64) -> Entry {
+pub(crate) fn entry(key: u64, rest: u64) -> Entry {
     let mut bytes = [0; 16];
     BigEndian::write_u64(&mut bytes[..8], key);
     BigEndian::write_u64(&mut bytes[8..], rest);
@@ -320,6 +321,9 @@ fn the_rank_is_that_of_the_key_and_the_kind(rt: HostRuntime) -> Result<(), Fail>
     Ok(())
 }
 
+/// Two tags.
+const DOUBLE: [u32; 2] = [0x88a80064, 0x810000c8];
+
 /// Looks which entry is used where several match.
 fn look_by_rank(rt: &impl Abort, alloc: Global, table: &mut RuleTable) -> Result<(), Fail> {
     let untagged = used(table, alloc, 0x8100, &[], 0x0800)?;
@@ -328,20 +332,34 @@ fn look_by_rank(rt: &impl Abort, alloc: Global, table: &mut RuleTable) -> Result
     assert_eq!(rt; default, Ok(Put::Added));
     let vid_100 = table.put(entry(0xf8000000_80320000, 0x400f0000_00080644));
     assert_eq!(rt; vid_100, Ok(Put::Added));
-    let double = [0x88a80064, 0x810000c8];
+    look_by_tags(rt, alloc, table)?;
+    look_behind_a_deletion(rt, alloc, table)
+}
+
+/// Looks for frames in that table.
+fn look_by_tags(rt: &impl Abort, alloc: Global, table: &RuleTable) -> Result<(), Fail> {
     let rows = [
         ("VID 100", &[0x8100a064][..], Some(4)),
         ("VID 101", &[0x8100a065][..], Some(3)),
         ("no tag", &[][..], Some(0)),
-        ("two tags", &double[..], Some(2)),
+        ("two tags", &DOUBLE[..], Some(2)),
     ];
     for (what, tags, place) in rows {
         let found = used(table, alloc, 0x8100, tags, 0x0800)?;
         assert_eq!(rt; found, place, "{what}");
     }
+    Ok(())
+}
+
+/// Deletes the entry for two tags, twice.
+fn look_behind_a_deletion(
+    rt: &impl Abort,
+    alloc: Global,
+    table: &mut RuleTable,
+) -> Result<(), Fail> {
     let deletion = entry(0xe0000000_e0000000, DELETION);
     assert_eq!(rt; table.put(deletion), Ok(Put::Deleted));
-    let found = used(table, alloc, 0x8100, &double, 0x0800)?;
+    let found = used(table, alloc, 0x8100, &DOUBLE, 0x0800)?;
     assert_eq!(rt; found, None, "two tags, of which no entry is left");
     assert_eq!(rt; table.put(deletion), Ok(Put::Absent));
     Ok(())
@@ -500,6 +518,24 @@ fn each_kind_takes_the_frames_of_its_number_of_tags(rt: HostRuntime) -> Result<(
     look_at_kinds(&rt, rt.alloc(), &mut table)
 }
 
+/// A table with an entry of this key beside the predefined ones.
+fn table_of(alloc: Global, key: u64) -> Result<RuleTable, Fail> {
+    let mut table = RuleTable::new(alloc)?;
+    let _ = table.put(entry(key, UNCHANGED));
+    Ok(table)
+}
+
+/// Whether the entry behind the predefined ones is used for a frame.
+fn is_last_used(
+    table: &RuleTable,
+    alloc: Global,
+    input_tpid: u16,
+    tags: &[u32],
+    ethertype: u16,
+) -> Result<bool, Fail> {
+    Ok(used(table, alloc, input_tpid, tags, ethertype)? == Some(3))
+}
+
 /// Whether an entry of this key, beside the predefined ones, is used for a frame.
 fn is_used(
     alloc: Global,
@@ -508,9 +544,8 @@ fn is_used(
     tags: &[u32],
     ethertype: u16,
 ) -> Result<bool, Fail> {
-    let mut table = RuleTable::new(alloc)?;
-    let _ = table.put(entry(key, UNCHANGED));
-    Ok(used(&table, alloc, input_tpid, tags, ethertype)? == Some(3))
+    let table = table_of(alloc, key)?;
+    is_last_used(&table, alloc, input_tpid, tags, ethertype)
 }
 
 #[test]
