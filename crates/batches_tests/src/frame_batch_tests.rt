@@ -316,21 +316,49 @@ fn gather_reports<R: Abort>(rt: &R, alloc: Global, held: &Held<'_>) {
     }
 }
 
-/// Whether the tallies of reports of batches 1, 0 and 2 have the counts that the reports have, all together.
-fn same_counts(alloc: Global, held: &Held<'_>) -> bool {
+/// The reports of batches 1, 0 and 2.
+fn three_reports(alloc: Global, held: &Held<'_>) -> Option<Vec<Report<'static>>> {
     let mut reports = Vec::new(alloc);
+    for batch in [1, 0, 2] {
+        let Ok(report) = report_of(alloc, held, batch) else {
+            return None;
+        };
+        reports.push(report).ok()?;
+    }
+    Some(reports)
+}
+
+/// Their tallies.
+fn three_tallies(alloc: Global, held: &Held<'_>) -> Option<Vec<Tally>> {
     let mut tallies = Vec::new(alloc);
     for batch in [1, 0, 2] {
-        let (Ok(kept), Ok(dropped)) = (report_of(alloc, held, batch), report_of(alloc, held, batch))
-        else {
-            return false;
+        let Ok(report) = report_of(alloc, held, batch) else {
+            return None;
         };
-        let (Ok(()), Ok(())) = (reports.push(kept), tallies.push(dropped.tally())) else {
-            return false;
-        };
+        tallies.push(report.tally()).ok()?;
     }
-    match (gather(alloc, reports, 3), gather_tallies(alloc, tallies, 3)) {
-        (Ok(whole), Ok(short)) => same(&whole.counts, &short.counts),
+    Some(tallies)
+}
+
+/// The counts of what is gathered of reports.
+fn counts_of_reports(alloc: Global, held: &Held<'_>) -> Option<Counts> {
+    let all = gather(alloc, three_reports(alloc, held)?, 3).ok()?;
+    Some(all.counts)
+}
+
+/// The counts of what is gathered of their tallies.
+fn counts_of_tallies(alloc: Global, held: &Held<'_>) -> Option<Counts> {
+    let all = gather_tallies(alloc, three_tallies(alloc, held)?, 3).ok()?;
+    Some(all.counts)
+}
+
+/// Whether the tallies of reports of batches 1, 0 and 2 have the counts that the reports have, all together.
+fn same_counts(alloc: Global, held: &Held<'_>) -> bool {
+    match (
+        counts_of_reports(alloc, held),
+        counts_of_tallies(alloc, held),
+    ) {
+        (Some(whole), Some(short)) => same(&whole, &short),
         _ => false,
     }
 }
