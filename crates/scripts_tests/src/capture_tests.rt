@@ -137,7 +137,7 @@ fn an_empty_record_is_a_frame_and_a_later_fault_has_its_number(
     same!(rt; capture.len(), 3);
     let mut count = 0;
     for frame in capture.frames() {
-        holds!(rt; count < 3);
+        assert!(rt; count < 3);
         same!(rt; frame, wanted[count]);
         count += 1;
     }
