@@ -1,4 +1,5 @@
 use draws::{PORT_257, UNTAGGED, message};
+use fixtures::{holds, same};
 use forward_plan::{Reason, Verdict};
 use frame_batch::{
     BatchFault, Gate, GatherFault, Report, Tally, forward_all, gather, gather_tallies,
@@ -222,8 +223,8 @@ fn forward_short<R: Wait + Threads + Abort + Sync>(rt: &R, alloc: Global, held: 
         },
         Err(_) => false,
     };
-    assert!(rt; as_meant, "a runt between two frames");
-    assert_eq!(rt; forwarded(rt, alloc, held, &[]), Ok((0, 0)));
+    holds!(rt; as_meant, "a runt between two frames");
+    same!(rt; forwarded(rt, alloc, held, &[]), Ok((0, 0)));
 }
 
 /// A list of as many frames as a batch may have.
@@ -233,8 +234,8 @@ fn forward_most<R: Wait + Threads + Abort + Sync>(
     held: &Held<'_>,
     most: &[&[u8]],
 ) {
-    assert_eq!(rt; forwarded(rt, alloc, held, most), Ok((65_536, 65_536)));
-    assert!(rt; counts_of_most(rt, alloc, held, most), "counts");
+    same!(rt; forwarded(rt, alloc, held, most), Ok((65_536, 65_536)));
+    holds!(rt; counts_of_most(rt, alloc, held, most), "counts");
 }
 
 /// Lists of frames, short ones, and the longest that there may be.
@@ -245,7 +246,7 @@ fn forward_lists<R: Wait + Threads + Abort + Sync>(rt: &R, alloc: Global, held: 
     }
     if let Some(more) = repeated(alloc, &UNTAGGED, 65_537) {
         let refused = Err(BatchFault::TooMany(65_537));
-        assert_eq!(rt; forwarded(rt, alloc, held, &more), refused);
+        same!(rt; forwarded(rt, alloc, held, &more), refused);
     }
 }
 
@@ -303,12 +304,12 @@ const CASES: [(&str, &[u32], u32, Outcome); 16] = [
 /// Reports, and their tallies, in every order, twice, of no batch and missing.
 fn gather_reports<R: Abort>(rt: &R, alloc: Global, held: &Held<'_>) {
     for (what, batches, count, expected) in &CASES {
-        assert_eq!(rt;
+        same!(rt;
             gathered(alloc, held, batches, *count),
             Some(*expected),
             "{what}"
         );
-        assert_eq!(rt;
+        same!(rt;
             tallied(alloc, held, batches, *count),
             Some(*expected),
             "{what}"
@@ -358,13 +359,13 @@ fn same_counts(alloc: Global, held: &Held<'_>) -> bool {
         counts_of_reports(alloc, held),
         counts_of_tallies(alloc, held),
     ) {
-        (Some(whole), Some(short)) => same(&whole, &short),
+        (Some(whole), Some(short)) => are_same(&whole, &short),
         _ => false,
     }
 }
 
 /// Whether counts are the same, and of GEM port 1024 alone.
-fn same(a: &Counts, b: &Counts) -> bool {
+fn are_same(a: &Counts, b: &Counts) -> bool {
     a.frames == b.frames
         && a.bytes == b.bytes
         && a.drops == b.drops
@@ -418,7 +419,7 @@ fn with_held<R: Wait + Threads + Abort + Sync>(
     match scene {
         Scene::ForwardLists => forward_lists(rt, alloc, &held),
         Scene::GatherReports => gather_reports(rt, alloc, &held),
-        _ => assert!(rt; same_counts(alloc, &held), "counts of tallies"),
+        _ => holds!(rt; same_counts(alloc, &held), "counts of tallies"),
     }
 }
 
@@ -435,15 +436,15 @@ fn meet_on_threads<R: Wait + Threads + Abort + Sync>(
         move || meet(alloc, zero, gate, 10_000_000),
         move || meet(alloc, one, gate, 10_000_000),
     );
-    assert_eq!(rt; (first, second), (Some(Ok(0)), Some(Ok(1))));
+    same!(rt; (first, second), (Some(Ok(0)), Some(Ok(1))));
 }
 
 /// Two lanes that may enter version 5 forward one after the other: the first waits for the second in vain.
 fn meet_in_turn(rt: &impl Abort, alloc: Global, zero: Lane, one: Lane, gate: &Meeting) {
     let first = meet(alloc, zero, gate, 1_000);
     let second = meet(alloc, one, gate, 1_000);
-    assert_eq!(rt; first, Some(Err(BatchFault::Stalled)));
-    assert_eq!(rt; second, Some(Ok(1)));
+    same!(rt; first, Some(Err(BatchFault::Stalled)));
+    same!(rt; second, Some(Ok(1)));
 }
 
 /// Plays a scene with two lanes that may enter version 5.
@@ -472,9 +473,9 @@ fn play<R: Wait + Threads + Abort + Sync>(
     let (mut control, mut lanes) = open(rt, alloc, 2)?;
     for digits in &PORT_257 {
         let answer = control.message(&message(digits));
-        assert!(rt; matches!(answer, Ok(Some(_))), "{digits}");
+        holds!(rt; matches!(answer, Ok(Some(_))), "{digits}");
     }
-    assert_eq!(rt; control.publish(rt).version(), 5);
+    same!(rt; control.publish(rt).version(), 5);
     if let (Some(one), Some(zero)) = (lanes.pop(), lanes.pop()) {
         with_lanes(rt, alloc, zero, one, scene);
     }
@@ -484,31 +485,31 @@ fn play<R: Wait + Threads + Abort + Sync>(
 
 #[test]
 fn lists_are_forwarded_in_order(rt: HostRuntime) -> Result<(), Fail> {
-    assert_eq!(rt; play(&rt, rt.alloc(), Scene::ForwardLists), Ok(()));
+    same!(rt; play(&rt, rt.alloc(), Scene::ForwardLists), Ok(()));
     Ok(())
 }
 
 #[test]
 fn reports_are_gathered_in_every_order(rt: HostRuntime) -> Result<(), Fail> {
-    assert_eq!(rt; play(&rt, rt.alloc(), Scene::GatherReports), Ok(()));
+    same!(rt; play(&rt, rt.alloc(), Scene::GatherReports), Ok(()));
     Ok(())
 }
 
 #[test]
 fn tallies_have_the_counts_of_their_reports(rt: HostRuntime) -> Result<(), Fail> {
-    assert_eq!(rt; play(&rt, rt.alloc(), Scene::CountTallies), Ok(()));
+    same!(rt; play(&rt, rt.alloc(), Scene::CountTallies), Ok(()));
     Ok(())
 }
 
 #[test]
 fn lanes_on_two_threads_meet(rt: HostRuntime) -> Result<(), Fail> {
-    assert_eq!(rt; play(&rt, rt.alloc(), Scene::MeetOnThreads), Ok(()));
+    same!(rt; play(&rt, rt.alloc(), Scene::MeetOnThreads), Ok(()));
     Ok(())
 }
 
 #[test]
 fn a_batch_that_the_gate_stops_is_stalled(rt: HostRuntime) -> Result<(), Fail> {
-    assert_eq!(rt; play(&rt, rt.alloc(), Scene::MeetInTurn), Ok(()));
+    same!(rt; play(&rt, rt.alloc(), Scene::MeetInTurn), Ok(()));
     Ok(())
 }
 
@@ -521,7 +522,7 @@ fn faults_have_their_numbers(rt: HostRuntime) -> Result<(), Fail> {
         BatchFault::Stalled.code(),
         BatchFault::CountFull.code(),
     ];
-    assert_eq!(rt; of_batches, [1, 2, 3, 4]);
+    same!(rt; of_batches, [1, 2, 3, 4]);
     let of_gathering = [
         GatherFault::Double(0).code(),
         GatherFault::Stranger(0).code(),
@@ -529,6 +530,6 @@ fn faults_have_their_numbers(rt: HostRuntime) -> Result<(), Fail> {
         GatherFault::NoMemory.code(),
         GatherFault::CountFull.code(),
     ];
-    assert_eq!(rt; of_gathering, [1, 2, 3, 4, 5]);
+    same!(rt; of_gathering, [1, 2, 3, 4, 5]);
     Ok(())
 }

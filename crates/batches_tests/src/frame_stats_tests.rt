@@ -1,5 +1,6 @@
 ghost use Rattle.std.specs.Prelude.{◌≤◌};
 
+use fixtures::{holds, same};
 use frame_meaning::{OutFrame, Reason, Verdict};
 use frame_stats::{CountFault, Counts, StatBook, StatFault, count_of, counts_sum};
 use std::alloc::{AllocError, Global};
@@ -51,11 +52,11 @@ fn frames_alone(alloc: Global, frames: u64) -> Counts {
 #[test]
 fn verdicts_are_counted(rt: HostRuntime) -> Result<(), Fail> {
     let none = count_of(rt.alloc(), &[])?;
-    assert!(rt; show(&none, 0, 0, [0; 9], &[]), "no verdict");
+    holds!(rt; show(&none, 0, 0, [0; 9], &[]), "no verdict");
 
     let cut = sample(rt.alloc())?;
     let cuts = [0, 1, 0, 0, 0, 0, 0, 0, 0];
-    assert!(rt; show(&cut, 3, 40, cuts, &[(1024, 2)]), "one frame is cut");
+    holds!(rt; show(&cut, 3, 40, cuts, &[(1024, 2)]), "one frame is cut");
 
     let short = [
         leaves(1024, 1),
@@ -64,7 +65,7 @@ fn verdicts_are_counted(rt: HostRuntime) -> Result<(), Fail> {
     ];
     let short = count_of(rt.alloc(), &short)?;
     let runts = [1, 0, 0, 0, 0, 0, 0, 0, 0];
-    assert!(rt;
+    holds!(rt;
         show(&short, 3, 40, runts, &[(1024, 2)]),
         "one frame is a runt"
     );
@@ -78,7 +79,7 @@ fn verdicts_are_counted(rt: HostRuntime) -> Result<(), Fail> {
     ];
     let late = count_of(rt.alloc(), &late)?;
     let no_mapper = [0, 0, 0, 0, 3, 0, 0, 0, 0];
-    assert!(rt;
+    holds!(rt;
         show(&late, 5, 32, no_mapper, &[(1024, 2)]),
         "the mapper comes late"
     );
@@ -89,7 +90,7 @@ fn verdicts_are_counted(rt: HostRuntime) -> Result<(), Fail> {
 fn ports_that_share_a_place_are_counted(rt: HostRuntime) -> Result<(), Fail> {
     let both = [leaves(1024, 1), leaves(1295, 0), leaves(1024, 1)];
     let both = count_of(rt.alloc(), &both)?;
-    assert!(rt; show(&both, 3, 56, [0; 9], &[(1024, 2), (1295, 1)]));
+    holds!(rt; show(&both, 3, 56, [0; 9], &[(1024, 2), (1295, 1)]));
     Ok(())
 }
 
@@ -100,7 +101,7 @@ fn a_batch_of_65536_frames_is_counted(rt: HostRuntime) -> Result<(), Fail> {
         verdicts.push(leaves(1024, 1)).map_err(AllocError::from)?;
     }
     let counts = count_of(rt.alloc(), &verdicts)?;
-    assert!(rt; show(&counts, 65_536, 1_310_720, [0; 9], &[(1024, 65_536)]));
+    holds!(rt; show(&counts, 65_536, 1_310_720, [0; 9], &[(1024, 65_536)]));
     Ok(())
 }
 
@@ -108,23 +109,23 @@ fn a_batch_of_65536_frames_is_counted(rt: HostRuntime) -> Result<(), Fail> {
 fn a_book_adds_to_a_lane_and_the_total(rt: HostRuntime) -> Result<(), Fail> {
     let cuts = [0, 1, 0, 0, 0, 0, 0, 0, 0];
     let counts = sample(rt.alloc())?;
-    assert!(rt; StatBook::new(rt.alloc(), 0).is_err());
+    holds!(rt; StatBook::new(rt.alloc(), 0).is_err());
     let mut book = StatBook::new(rt.alloc(), 2)?;
-    assert_eq!(rt; book.add(0, &counts), Ok(()));
-    assert_eq!(rt; book.total().frames, 3);
-    assert_eq!(rt; book.add(1, &counts), Ok(()));
+    same!(rt; book.add(0, &counts), Ok(()));
+    same!(rt; book.total().frames, 3);
+    same!(rt; book.add(1, &counts), Ok(()));
     let twice = [0, 2, 0, 0, 0, 0, 0, 0, 0];
-    assert!(rt; show(book.total(), 6, 80, twice, &[(1024, 4)]));
-    assert_eq!(rt; book.add(2, &counts), Err(StatFault::Lane));
+    holds!(rt; show(book.total(), 6, 80, twice, &[(1024, 4)]));
+    same!(rt; book.add(2, &counts), Err(StatFault::Lane));
     let most = frames_alone(rt.alloc(), u64::MAX);
-    assert_eq!(rt; book.add(0, &most), Err(StatFault::CountFull));
-    assert!(rt;
+    same!(rt; book.add(0, &most), Err(StatFault::CountFull));
+    holds!(rt;
         show(book.total(), 6, 80, twice, &[(1024, 4)]),
         "total after a refusal"
     );
     for lane in 0..2 {
         let part = book.part(lane);
-        assert!(rt;
+        holds!(rt;
             part.is_some_and(|part| show(part, 3, 40, cuts, &[(1024, 2)])),
             "part of lane {lane}"
         );
@@ -135,18 +136,18 @@ fn a_book_adds_to_a_lane_and_the_total(rt: HostRuntime) -> Result<(), Fail> {
 #[test]
 fn a_book_is_full_where_its_total_is(rt: HostRuntime) -> Result<(), Fail> {
     let mut book = StatBook::new(rt.alloc(), 2)?;
-    assert_eq!(rt; book.add(0, &frames_alone(rt.alloc(), u64::MAX)), Ok(()));
-    assert_eq!(rt;
+    same!(rt; book.add(0, &frames_alone(rt.alloc(), u64::MAX)), Ok(()));
+    same!(rt;
         book.add(1, &frames_alone(rt.alloc(), 1)),
         Err(StatFault::CountFull)
     );
     let other = book.part(1);
-    assert!(rt; other.is_some_and(|part| show(part, 0, 0, [0; 9], &[])));
-    assert!(rt; show(book.total(), u64::MAX, 0, [0; 9], &[]));
+    holds!(rt; other.is_some_and(|part| show(part, 0, 0, [0; 9], &[])));
+    holds!(rt; show(book.total(), u64::MAX, 0, [0; 9], &[]));
     let mut drop = frames_alone(rt.alloc(), 0);
     drop.drops[8] = 1;
-    assert_eq!(rt; book.add(1, &drop), Ok(()));
-    assert!(rt; book.part(2).is_none());
+    same!(rt; book.add(1, &drop), Ok(()));
+    holds!(rt; book.part(2).is_none());
     Ok(())
 }
 
@@ -156,7 +157,7 @@ fn counts_are_added_up(rt: HostRuntime) -> Result<(), Fail> {
     let other = count_of(rt.alloc(), &[leaves(1025, 0), leaves(1024, 1)])?;
     let sum = counts_sum(rt.alloc(), &counts, &other)?;
     let cuts = [0, 1, 0, 0, 0, 0, 0, 0, 0];
-    assert!(rt; show(&sum, 5, 76, cuts, &[(1024, 3), (1025, 1)]));
+    holds!(rt; show(&sum, 5, 76, cuts, &[(1024, 3), (1025, 1)]));
     Ok(())
 }
 
@@ -206,9 +207,9 @@ fn the_total_is_the_sum_of_the_parts_at_each_lock(rt: HostRuntime) -> Result<(),
             all
         },
     )?;
-    assert!(rt; done.iter().all(|done| *done));
+    holds!(rt; done.iter().all(|done| *done));
     let drops = [0, 800, 0, 0, 0, 0, 0, 0, 0];
-    assert!(rt;
+    holds!(rt;
         show(
             book.lock(&rt).total(),
             2_400,

@@ -1,6 +1,7 @@
 //! Storms, whose outcome is the same whatever the order in which threads run.
 use crate::storm::{Drawn, Fault, Storm, Wrong, check, run};
 use draws::{Draws, PORTS, UNTAGGED, set};
+use fixtures::same;
 use forward_plan::Verdict;
 use frame_batch::Report;
 use omci_msg::{Request, read};
@@ -160,7 +161,7 @@ fn drawn_storm<R: Threads + Wait + Sync>(
 #[test]
 fn frames_leave_by_the_gem_port_of_their_version(rt: HostRuntime) -> Result<(), Fail> {
     for lanes in [1u16, 4, 16] {
-        assert_eq!(rt;
+        same!(rt;
             fixed_storm(&rt, rt.alloc(), lanes),
             Ok((usize::from(lanes), 1_004, None, Ok(()))),
             "{lanes} lanes"
@@ -172,7 +173,7 @@ fn frames_leave_by_the_gem_port_of_their_version(rt: HostRuntime) -> Result<(), 
 #[test]
 fn verdicts_are_those_of_the_plain_walk_at_their_version(rt: HostRuntime) -> Result<(), Fail> {
     for lanes in [1u16, 4, 16] {
-        assert_eq!(rt;
+        same!(rt;
             drawn_storm(&rt, rt.alloc(), lanes),
             Ok((usize::from(lanes), Ok(()))),
             "{lanes} lanes"

@@ -1,3 +1,4 @@
+use fixtures::same;
 use mib_state::Mib;
 use omci_msg::{Action, Request};
 use std::alloc::{AllocError, Global};
@@ -49,20 +50,20 @@ fn look_at_places(rt: &impl Abort, mib: &Mib) -> Result<(), Fail> {
         (268, 1, 0x0402, 1, [4, 1].as_slice()),
     ] {
         let held = mib.instance_at(class, place).ok_or("it is not held")?;
-        assert_eq!(rt;
+        same!(rt;
             (held.class(), held.number()),
             (class, number),
             "place {place} of {class}"
         );
         let shown = held.attribute(n);
-        assert_eq!(rt;
+        same!(rt;
             shown.as_ref().map(|bytes| bytes.as_slice()),
             Some(wanted),
             "attribute {n} at place {place} of {class}"
         );
     }
     for (class, place) in [(2, 1), (130, 1), (171, 1), (266, 1), (268, 2), (45, 0)] {
-        assert_eq!(rt;
+        same!(rt;
             mib.instance_at(class, place).is_none(),
             true,
             "place {place} of {class}"
@@ -81,7 +82,7 @@ fn a_table_and_what_a_class_has_not_have_no_bytes(rt: HostRuntime) -> Result<(),
 fn look_at_no_bytes(rt: &impl Abort, mib: &Mib) -> Result<(), Fail> {
     let held = mib.instance_at(171, 0).ok_or("it is not held")?;
     for (n, what) in [(0, "attribute 0"), (6, "the table"), (9, "attribute 9")] {
-        assert_eq!(rt; held.attribute(n).is_none(), true, "{what} has no bytes");
+        same!(rt; held.attribute(n).is_none(), true, "{what} has no bytes");
     }
     Ok(())
 }
@@ -118,7 +119,7 @@ fn look_for_places(rt: &impl Abort, mib: &Mib) -> Result<(), Fail> {
         (268, 0x0403, None),
         (45, 0x0601, None),
     ] {
-        assert_eq!(rt;
+        same!(rt;
             mib.place_of(class, instance),
             wanted,
             "the place of {instance} of {class}"
@@ -141,12 +142,12 @@ fn look_at_mappers_and_tables(rt: &impl Abort, mib: &Mib) -> Result<(), Fail> {
         (2, None, None),
         (usize::MAX, None, None),
     ] {
-        assert_eq!(rt;
+        same!(rt;
             mib.mapper_at(place).map(|held| (held.0, held.1.tp_pointer)),
             mapper,
             "the mapper at place {place}"
         );
-        assert_eq!(rt;
+        same!(rt;
             mib.vlan_at(place).map(|held| (held.0, held.1.pointer)),
             vlan,
             "the table at place {place}"

@@ -1,4 +1,5 @@
 use draws::{contents, create_interwork, create_table, delete, request, set};
+use fixtures::same;
 use mib_state::{Mib, Touch};
 use omci_msg::{Action, OtherCode, Reply, Request};
 use pmapper::{GemPort, Interwork, Mapper};
@@ -60,9 +61,9 @@ type Turn = (Request, [u8; 32], u8);
 fn take(rt: &impl Abort, mib: &mut Mib, turns: &[Turn]) -> Result<(), Fail> {
     for (at, (sent, wanted, sync)) in turns.iter().enumerate() {
         let told = mib.result_of(sent);
-        assert_eq!(rt; mib.step(sent).contents, *wanted, "the answer of turn {at}");
-        assert_eq!(rt; told, wanted[0], "the result of turn {at}");
-        assert_eq!(rt; mib.sync(), *sync, "the sync after turn {at}");
+        same!(rt; mib.step(sent).contents, *wanted, "the answer of turn {at}");
+        same!(rt; told, wanted[0], "the result of turn {at}");
+        same!(rt; mib.sync(), *sync, "the sync after turn {at}");
     }
     Ok(())
 }
@@ -92,15 +93,15 @@ fn create_twice(rt: &impl Abort, mib: &mut Mib) -> Result<(), Fail> {
         direction: 3,
         ..GemPort::default()
     };
-    assert_eq!(rt; mib.step(&create_gem_port(0x0401)), wanted);
-    assert_eq!(rt; mib.sync(), 1);
-    assert_eq!(rt; mib.gem_port(0x0401).copied(), Some(port));
+    same!(rt; mib.step(&create_gem_port(0x0401)), wanted);
+    same!(rt; mib.sync(), 1);
+    same!(rt; mib.gem_port(0x0401).copied(), Some(port));
     wanted.contents[0] = 7;
     let other = request(Action::Create, 268, 0x0401, &[5, 0, 0, 0, 1]);
-    assert_eq!(rt; mib.step(&other), wanted);
-    assert_eq!(rt; mib.sync(), 1);
-    assert_eq!(rt; mib.gem_port(0x0401).copied(), Some(port));
-    assert_eq!(rt; mib.gem_port(0x0402).copied(), None);
+    same!(rt; mib.step(&other), wanted);
+    same!(rt; mib.sync(), 1);
+    same!(rt; mib.gem_port(0x0401).copied(), Some(port));
+    same!(rt; mib.gem_port(0x0402).copied(), None);
     Ok(())
 }
 
@@ -204,17 +205,17 @@ fn ask_for_what_is_refused(rt: &impl Abort, mib: &mut Mib) -> Result<(), Fail> {
         (other, 2, 0, 2),
     ] {
         let sent = request(action, class, instance, &[0xff, 0xff]);
-        assert_eq!(rt;
+        same!(rt;
             mib.result_of(&sent),
             wanted,
             "{action:?} of {class} {instance}"
         );
-        assert_eq!(rt;
+        same!(rt;
             mib.step(&sent).contents,
             only(wanted),
             "{action:?} of {class} {instance}"
         );
-        assert_eq!(rt;
+        same!(rt;
             mib.sync(),
             1,
             "the sync after {action:?} of {class} {instance}"
@@ -232,16 +233,16 @@ fn the_sync_goes_from_255_to_1(rt: HostRuntime) -> Result<(), Fail> {
 fn create_256(rt: &impl Abort, mib: &mut Mib) -> Result<(), Fail> {
     for made in 1..=256 {
         // From the greatest number down, so that each goes before the others.
-        assert_eq!(rt;
+        same!(rt;
             mib.step(&create_gem_port(1000 - made)).contents,
             only(0),
             "Create {made}"
         );
         let wanted = if made == 256 { 1 } else { made };
-        assert_eq!(rt; mib.sync() as u16, wanted, "the sync after Create {made}");
+        same!(rt; mib.sync() as u16, wanted, "the sync after Create {made}");
     }
-    assert_eq!(rt; mib.gem_port(999).is_some(), true);
-    assert_eq!(rt; mib.gem_port(744).is_some(), true);
+    same!(rt; mib.gem_port(999).is_some(), true);
+    same!(rt; mib.gem_port(744).is_some(), true);
     Ok(())
 }
 
@@ -257,7 +258,7 @@ fn reset_and_fill(rt: &impl Abort, mib: &mut Mib) -> Result<(), Fail> {
     let write = set(268, 0x0401, 0x8000, &[4, 0]);
     take(rt, mib, &[(reset, only(0), 0)])?;
     for class in [130, 171, 266, 268] {
-        assert_eq!(rt;
+        same!(rt;
             mib.next_instance(class, 0),
             None,
             "class {class} after a MIB reset"
@@ -277,7 +278,7 @@ fn reset_and_fill(rt: &impl Abort, mib: &mut Mib) -> Result<(), Fail> {
         ],
     )?;
     for number in 0..16 {
-        assert_eq!(rt;
+        same!(rt;
             mib.step(&create_vlan(number, 257)).contents,
             only(0),
             "table {number}"
@@ -308,7 +309,7 @@ fn look_at_attributes(rt: &impl Abort, mib: &mut Mib) -> Result<(), Fail> {
         (45, 0, 1, None),
     ] {
         let shown = mib.attribute(class, instance, n);
-        assert_eq!(rt;
+        same!(rt;
             shown.as_ref().map(|bytes| bytes.as_slice()),
             wanted,
             "attribute {n} of {class} {instance}"
@@ -341,7 +342,7 @@ fn look_for_instances(rt: &impl Abort, mib: &mut Mib) -> Result<(), Fail> {
         (45, 0, None),
     ] {
         let next = mib.next_instance(class, from);
-        assert_eq!(rt; next, wanted, "the next of {class} from {from}");
+        same!(rt; next, wanted, "the next of {class} from {from}");
     }
     Ok(())
 }
@@ -382,11 +383,11 @@ fn create_and_delete(rt: &impl Abort, mib: &mut Mib) -> Result<(), Fail> {
             (create_mapper(0x0602, 258, 0xffff), only(0), 3),
         ],
     )?;
-    assert_eq!(rt; mib.interwork(0x0501).copied(), Some(point));
-    assert_eq!(rt; mib.mapper(0x0601).copied(), Some(mapper));
-    assert_eq!(rt; mib.mapper_of_port(257), Some(0x0601));
-    assert_eq!(rt; mib.mapper_of_port(258), Some(0x0602));
-    assert_eq!(rt; mib.mapper_of_port(259), None);
+    same!(rt; mib.interwork(0x0501).copied(), Some(point));
+    same!(rt; mib.mapper(0x0601).copied(), Some(mapper));
+    same!(rt; mib.mapper_of_port(257), Some(0x0601));
+    same!(rt; mib.mapper_of_port(258), Some(0x0602));
+    same!(rt; mib.mapper_of_port(259), None);
     let again = request(Action::Create, 268, 0x0401, &[4, 0, 0x80, 1, 2]);
     take(
         rt,
@@ -399,11 +400,11 @@ fn create_and_delete(rt: &impl Abort, mib: &mut Mib) -> Result<(), Fail> {
             (delete(130, 0x0601), only(0), 8),
         ],
     )?;
-    assert_eq!(rt; mib.gem_port(0x0401).copied(), Some(port));
-    assert_eq!(rt; mib.interwork(0x0501).copied(), None);
-    assert_eq!(rt; mib.mapper(0x0601).copied(), None);
-    assert_eq!(rt; mib.mapper_of_port(257), None);
-    assert_eq!(rt; mib.mapper_of_port(258), Some(0x0602));
+    same!(rt; mib.gem_port(0x0401).copied(), Some(port));
+    same!(rt; mib.interwork(0x0501).copied(), None);
+    same!(rt; mib.mapper(0x0601).copied(), None);
+    same!(rt; mib.mapper_of_port(257), None);
+    same!(rt; mib.mapper_of_port(258), Some(0x0602));
     Ok(())
 }
 
@@ -436,12 +437,12 @@ fn change_mappers(rt: &impl Abort, mib: &mut Mib) -> Result<(), Fail> {
         (delete(130, 0x0601), Some(0x0602), "the next is deleted"),
         (delete(130, 0x0602), None, "the last is deleted"),
     ] {
-        assert_eq!(rt;
+        same!(rt;
             mib.step(&change).contents,
             only(0),
             "the answer where {what}"
         );
-        assert_eq!(rt; mib.mapper_of_port(257), wanted, "the mapper after {what}");
+        same!(rt; mib.mapper_of_port(257), wanted, "the mapper after {what}");
     }
     Ok(())
 }
@@ -467,16 +468,16 @@ fn change_tables(rt: &impl Abort, mib: &mut Mib) -> Result<(), Fail> {
         (delete(171, 0x0701), None, "the last is deleted"),
         (create_vlan(0x0701, 257), Some(0x0701), "it is made again"),
     ] {
-        assert_eq!(rt;
+        same!(rt;
             mib.step(&change).contents,
             only(0),
             "the answer where {what}"
         );
-        assert_eq!(rt; mib.table_of_port(257), wanted, "the table after {what}");
+        same!(rt; mib.table_of_port(257), wanted, "the table after {what}");
     }
-    assert_eq!(rt; mib.table_of_port(258), None);
+    same!(rt; mib.table_of_port(258), None);
     let vlan = mib.vlan(0x0701).ok_or("the table is gone")?;
-    assert_eq!(rt; vlan.table.len(), 3, "a table that is made again is new");
+    same!(rt; vlan.table.len(), 3, "a table that is made again is new");
     Ok(())
 }
 
@@ -488,11 +489,11 @@ fn a_port_without_a_table_of_its_own_has_that_of_its_mapper(rt: HostRuntime) -> 
 
 fn take_the_table_away(rt: &impl Abort, mib: &mut Mib) -> Result<(), Fail> {
     let _ = mib.step(&request(Action::Create, 171, 0x0700, &[1, 6, 1]));
-    assert_eq!(rt; mib.table_of_port(257), Some(0x0701));
+    same!(rt; mib.table_of_port(257), Some(0x0701));
     let _ = mib.step(&delete(171, 0x0701));
-    assert_eq!(rt; mib.table_of_port(257), Some(0x0700));
+    same!(rt; mib.table_of_port(257), Some(0x0700));
     let _ = mib.step(&create_mapper(0x0600, 257, 0x0501));
-    assert_eq!(rt;
+    same!(rt;
         mib.table_of_port(257),
         None,
         "its mapper is another, which has none"
@@ -508,15 +509,15 @@ fn a_table_is_read_as_the_get_of_its_size_found_it(rt: HostRuntime) -> Result<()
 
 fn read_what_was_latched(rt: &impl Abort, mib: &mut Mib) -> Result<(), Fail> {
     let next = request(Action::GetNext, 171, 0x0701, &[4, 0, 0, 1]);
-    assert_eq!(rt; mib.step(&next).contents, only(3), "nothing is latched");
+    same!(rt; mib.step(&next).contents, only(3), "nothing is latched");
     let _ = mib.step(&get(171, 0x0701, 0x0400));
     let _ = mib.step(&delete(171, 0x0701));
-    assert_eq!(rt; mib.step(&next).contents, only(5), "it is gone");
+    same!(rt; mib.step(&next).contents, only(5), "it is gone");
     let _ = mib.step(&create_vlan(0x0701, 257));
     let last = contents(&[
         0, 4, 0, 0x0f, 0, 0, 0xe0, 0, 0, 0, 0xe0, 0, 0, 0, 0, 0x0f, 0, 0, 0, 0x0f,
     ]);
-    assert_eq!(rt; mib.step(&next).contents, last);
+    same!(rt; mib.step(&next).contents, last);
     Ok(())
 }
 
@@ -529,11 +530,11 @@ fn a_class_has_room_of_its_own_and_a_deletion_gives_it_back(rt: HostRuntime) -> 
 fn fill_two_classes(rt: &impl Abort, mib: &mut Mib) -> Result<(), Fail> {
     for number in 0..32 {
         let reply = mib.step(&create_mapper(number, 257, 0x0501));
-        assert_eq!(rt; reply.contents, only(0), "the answer to mapper {number}");
+        same!(rt; reply.contents, only(0), "the answer to mapper {number}");
     }
     for number in 0..256 {
         let reply = mib.step(&create_interwork(number));
-        assert_eq!(rt; reply.contents, only(0), "the answer to point {number}");
+        same!(rt; reply.contents, only(0), "the answer to point {number}");
     }
     take(
         rt,
@@ -564,8 +565,8 @@ fn fill_a_table(rt: &impl Abort, mib: &mut Mib) -> Result<(), Fail> {
             0x000f_0000,
         ]);
         let wanted = if k == 126 { 1 } else { 0 };
-        assert_eq!(rt; mib.result_of(&entry), wanted, "the result of entry {k}");
-        assert_eq!(rt;
+        same!(rt; mib.result_of(&entry), wanted, "the result of entry {k}");
+        same!(rt;
             mib.step(&entry).contents,
             only(wanted),
             "the answer to entry {k}"
@@ -580,7 +581,7 @@ fn fill_a_table(rt: &impl Abort, mib: &mut Mib) -> Result<(), Fail> {
             (get(171, 0x0701, 0x0400), contents(&[0, 4, 0, 0, 0, 8]), 130),
         ],
     )?;
-    assert_eq!(rt; mib.vlan(0x0701).map(|vlan| vlan.table.len()), Some(128));
+    same!(rt; mib.vlan(0x0701).map(|vlan| vlan.table.len()), Some(128));
     Ok(())
 }
 
@@ -620,9 +621,9 @@ fn set_what_is_refused(rt: &impl Abort, mib: &mut Mib) -> Result<(), Fail> {
         ],
     )?;
     let vlan = mib.vlan(0x0701).ok_or("the table is gone")?;
-    assert_eq!(rt; vlan.table.len(), 3);
-    assert_eq!(rt; vlan.settings.input_tpid, 0x8100);
-    assert_eq!(rt; vlan.settings.output_tpid, 0x8100);
+    same!(rt; vlan.table.len(), 3);
+    same!(rt; vlan.settings.input_tpid, 0x8100);
+    same!(rt; vlan.settings.output_tpid, 0x8100);
     Ok(())
 }
 
@@ -660,18 +661,18 @@ fn set_in_each_class(rt: &impl Abort, mib: &mut Mib) -> Result<(), Fail> {
         (171, 0x0701, 4, [0x91, 0].as_slice()),
     ] {
         let shown = mib.attribute(class, instance, n);
-        assert_eq!(rt;
+        same!(rt;
             shown.as_ref().map(|bytes| bytes.as_slice()),
             Some(wanted),
             "attribute {n} of {class}"
         );
     }
-    assert_eq!(rt;
+    same!(rt;
         mib.attribute(171, 0x0701, 6).is_none(),
         true,
         "the table has no bytes of its own"
     );
-    assert_eq!(rt; mib.vlan(0x0701).map(|vlan| vlan.table.len()), Some(4));
+    same!(rt; mib.vlan(0x0701).map(|vlan| vlan.table.len()), Some(4));
     Ok(())
 }
 
@@ -692,10 +693,10 @@ fn touch_both(
 ) -> Result<(), Fail> {
     for (at, (sent, result, touched)) in turns.iter().enumerate() {
         let (reply, touch) = mib.step_touching(sent);
-        assert_eq!(rt; touch, *touched, "what turn {at} touches");
-        assert_eq!(rt; reply.contents[0], *result, "the result of turn {at}");
-        assert_eq!(rt; reply, same.step(sent), "the reply of turn {at}");
-        assert_eq!(rt; mib.sync(), same.sync(), "the sync after turn {at}");
+        same!(rt; touch, *touched, "what turn {at} touches");
+        same!(rt; reply.contents[0], *result, "the result of turn {at}");
+        same!(rt; reply, same.step(sent), "the reply of turn {at}");
+        same!(rt; mib.sync(), same.sync(), "the sync after turn {at}");
     }
     Ok(())
 }

@@ -25,6 +25,3 @@ mod setting;
 pub use frame_meaning::{NoMemory, OutFrame, Reason, Verdict, plain_walk};
 pub use live::Live;
 pub use port_plan::PortPlan;
-
-#[cfg(test)]
-mod ports_tests;

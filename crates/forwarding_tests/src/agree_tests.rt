@@ -1,6 +1,7 @@
 //! The verdicts of the plan beside those of the plain walk, after each of many drawn messages.
 
 use draws::{Draws, PORTS};
+use fixtures::{holds, same};
 use forward_plan::{Live, Reason, Verdict, plain_walk};
 use std::alloc::{AllocError, Global};
 use std::process::Abort;
@@ -62,8 +63,8 @@ fn compare(rt: &impl Abort, plans: &Plans, port: u16, frames: &[Vec<u8>], seen: 
         let walked = plain_walk(plans.live.mib(), port, frame);
         let forwarded = plans.live.forward(port, frame);
         let recompiled = plans.anew.forward(port, frame);
-        assert_eq!(rt; parts(&forwarded), parts(&walked), "{frame:?} at {port}");
-        assert_eq!(rt;
+        same!(rt; parts(&forwarded), parts(&walked), "{frame:?} at {port}");
+        same!(rt;
             parts(&recompiled),
             parts(&walked),
             "{frame:?} recompiled at {port}"
@@ -92,7 +93,7 @@ fn agree(rt: &impl Abort, alloc: Global, plans: &mut Plans) -> Result<Seen, Allo
 /// Checks that something was seen often.
 fn are_frequent(rt: &impl Abort, counts: &[u32], what: &str) {
     for (at, count) in counts.iter().enumerate() {
-        assert!(rt; *count >= 100, "{what} {at}: {counts:?}");
+        holds!(rt; *count >= 100, "{what} {at}: {counts:?}");
     }
 }
 

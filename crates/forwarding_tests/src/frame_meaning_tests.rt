@@ -1,4 +1,5 @@
 use draws::{DOUBLE, UNTAGGED, create_gem_port, create_interwork, create_mapper, request};
+use fixtures::same;
 use frame_meaning::{NoMemory, OutFrame, Reason, Verdict, plain_walk};
 use mib_state::Mib;
 use omci_msg::Action;
@@ -41,19 +42,19 @@ fn led(alloc: Global) -> Result<Mib, AllocError> {
 fn look_at_two_mappers(rt: &impl Abort, mib: &mut Mib, left: &mut Vec<u8>) -> Result<(), NoMemory> {
     let none = Err(Reason::NullPointer);
     let _ = mib.step(&create_mapper(0x0602, 257, [0xffff; 8], 0));
-    assert_eq!(rt;
+    same!(rt;
         became(mib, 257, &UNTAGGED, left)?,
         Ok((1024, &UNTAGGED[..])),
         "a greater number"
     );
     let _ = mib.step(&create_mapper(0x0600, 257, [0xffff; 8], 0));
-    assert_eq!(rt;
+    same!(rt;
         became(mib, 257, &UNTAGGED, left)?,
         none,
         "a smaller number"
     );
     let _ = mib.step(&request(Action::Delete, 130, 0x0600, &[]));
-    assert_eq!(rt;
+    same!(rt;
         became(mib, 257, &UNTAGGED, left)?,
         Ok((1024, &UNTAGGED[..])),
         "the first again"
@@ -77,7 +78,7 @@ fn verdict_of<'a>(alloc: Global, bytes: &'a [u8]) -> Result<Verdict<'a>, AllocEr
 
 /// Looks at the parts of the frame with two tags, as it leaves.
 fn look_at_parts(rt: &impl Abort, frame: &OutFrame) {
-    assert_eq!(rt; frame.addresses(), &DOUBLE[..12]);
+    same!(rt; frame.addresses(), &DOUBLE[..12]);
     let outer = Tag {
         tpid: 0x88a8,
         pcp: 5,
@@ -90,9 +91,9 @@ fn look_at_parts(rt: &impl Abort, frame: &OutFrame) {
         dei: false,
         vid: 200,
     };
-    assert_eq!(rt; frame.tags(), &[outer, inner][..]);
-    assert_eq!(rt; frame.rest(), &DOUBLE[20..]);
-    assert_eq!(rt; frame.len(), 24);
+    same!(rt; frame.tags(), &[outer, inner][..]);
+    same!(rt; frame.rest(), &DOUBLE[20..]);
+    same!(rt; frame.len(), 24);
 }
 
 /// The bytes that stand behind others, when a frame was appended to them.
@@ -107,10 +108,10 @@ fn what_leaves_outlives_the_entities_in_parts_and_appended(rt: HostRuntime) -> R
     let Verdict::Forward { gem, frame } = verdict_of(rt.alloc(), &DOUBLE)? else {
         return Err(Fail::from(Reason::NoMapper));
     };
-    assert_eq!(rt; gem, 1024);
+    same!(rt; gem, 1024);
     look_at_parts(&rt, &frame);
     let bytes = appended(rt.alloc(), &frame)?;
-    assert_eq!(rt; bytes.split_first(), Some((&0xee, &DOUBLE[..])));
+    same!(rt; bytes.split_first(), Some((&0xee, &DOUBLE[..])));
     Ok(())
 }
 
@@ -159,10 +160,10 @@ fn reasons_have_their_numbers(rt: HostRuntime) -> Result<(), Fail> {
             "the GEM port doesn't carry frames upstream",
         ),
     ] {
-        assert_eq!(rt; reason.code(), code, "{text}");
+        same!(rt; reason.code(), code, "{text}");
         let mut shown = String::new(rt.alloc());
         write!(shown, "{reason}")?;
-        assert_eq!(rt; shown.as_str(), text);
+        same!(rt; shown.as_str(), text);
     }
     Ok(())
 }

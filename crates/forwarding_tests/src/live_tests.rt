@@ -3,6 +3,7 @@ use draws::{
     DOUBLE, UNTAGGED, create_gem_port, create_interwork, create_mapper, create_table, delete,
     request, set,
 };
+use fixtures::same;
 use forward_plan::{Live, NoMemory, PortPlan, Reason, Verdict};
 use omci_msg::{Action, Request};
 use std::alloc::Global;
@@ -52,8 +53,8 @@ fn check_verdicts(
     bytes: &[u8],
 ) -> Result<(), NoMemory> {
     for verdict in verdicts {
-        assert_eq!(rt; parts(verdict).map(|parts| parts.0), Ok(1024));
-        assert_eq!(rt; left(alloc, verdict)?.as_slice(), bytes);
+        same!(rt; parts(verdict).map(|parts| parts.0), Ok(1024));
+        same!(rt; left(alloc, verdict)?.as_slice(), bytes);
     }
     Ok(())
 }
@@ -71,7 +72,7 @@ fn check_left(
     check_verdicts(rt, alloc, &forwarded, bytes)?;
     let mut verdicts = Vec::with_capacity(alloc, 1)?;
     plan.push(frame, &mut verdicts);
-    assert_eq!(rt; verdicts.len(), 1);
+    same!(rt; verdicts.len(), 1);
     check_verdicts(rt, alloc, &verdicts, bytes)?;
     check_list(rt, alloc, &plan, frame, bytes)
 }
@@ -86,15 +87,15 @@ fn check_list(
 ) -> Result<(), NoMemory> {
     let mut verdicts = Vec::with_capacity(alloc, 3)?;
     plan.push_all(&[frame, frame, frame], &mut verdicts);
-    assert_eq!(rt; verdicts.len(), 3);
+    same!(rt; verdicts.len(), 3);
     check_verdicts(rt, alloc, &verdicts, bytes)
 }
 
 /// A frame leaves with the tag of its table.
 fn check_tagging(rt: &impl Abort, alloc: Global, live: &mut Live) -> Result<(), NoMemory> {
     lead(live);
-    assert_eq!(rt; live.mib().mapper_of_port(257), Some(0x0601));
-    assert_eq!(rt; live.mib().table_of_port(257), Some(0x0701));
+    same!(rt; live.mib().mapper_of_port(257), Some(0x0601));
+    same!(rt; live.mib().table_of_port(257), Some(0x0701));
     check_left(rt, alloc, live, &UNTAGGED, &UNTAGGED)?;
     live.apply(&tagging());
     check_left(rt, alloc, live, &UNTAGGED, &TAGGED)?;
@@ -109,7 +110,7 @@ fn check_drops(rt: &impl Abort, live: &Live) {
         (257, &DOUBLE[..21], Reason::CutTag),
     ] {
         let verdict = live.forward(port, frame);
-        assert_eq!(rt; parts(&verdict), Err(reason), "{} bytes", frame.len());
+        same!(rt; parts(&verdict), Err(reason), "{} bytes", frame.len());
     }
 }
 
@@ -137,10 +138,10 @@ fn follow(rt: &impl Abort, live: &mut Live, steps: &[Step]) {
     lead(live);
     for (sent, rebuilt, left) in steps {
         live.apply(sent);
-        assert_eq!(rt; live.rebuilt(), *rebuilt, "{sent:?}");
-        assert_eq!(rt; word_left(live), *left, "{sent:?}");
+        same!(rt; live.rebuilt(), *rebuilt, "{sent:?}");
+        same!(rt; word_left(live), *left, "{sent:?}");
         live.recompile();
-        assert_eq!(rt; word_left(live), *left, "{sent:?}, compiled anew");
+        same!(rt; word_left(live), *left, "{sent:?}, compiled anew");
     }
 }
 
@@ -219,7 +220,7 @@ fn look_at_changes(rt: &impl Abort, alloc: Global, live: &mut Live) -> Result<()
     check_tagging(rt, alloc, live)?;
     check_drops(rt, live);
     live.recompile();
-    assert_eq!(rt; live.rebuilt(), (1, 1));
+    same!(rt; live.rebuilt(), (1, 1));
     follow(rt, live, &table_steps());
     follow(rt, live, &route_steps());
     follow(rt, live, &steps_of_a_table_of_a_mapper());

@@ -3,6 +3,8 @@
 #![tactic(auto)]
 
 #[cfg(test)]
+mod asserting;
+#[cfg(test)]
 mod omci_msg_tests;
 #[cfg(test)]
 mod pmapper_tests;

@@ -1,3 +1,4 @@
+use fixtures::same;
 use omci_msg::{
     Action, MsgFault, OtherCode, Reply, Request, law_of_action_codes, law_of_spellings, read,
     read_reply, write, write_request,
@@ -92,7 +93,7 @@ fn a_message_gives_its_request_or_its_first_fault(rt: HostRuntime) -> Result<(),
         ),
     ];
     for (bytes, want, what) in rows {
-        assert_eq!(rt; read(bytes), want, "{what}");
+        same!(rt; read(bytes), want, "{what}");
     }
     Ok(())
 }
@@ -104,13 +105,13 @@ fn every_field_is_read_from_its_own_bytes(rt: HostRuntime) -> Result<(), Fail> {
     bytes[8] = 0xd1;
     bytes[39] = 0xd2;
     let request = read(&bytes)?;
-    assert_eq!(rt; request.tci, 0x1234);
-    assert_eq!(rt; request.action, Action::MibReset);
-    assert_eq!(rt; request.wants_answer, false, "AR is 0");
-    assert_eq!(rt; request.class, 0x5678);
-    assert_eq!(rt; request.instance, 0x9abc);
-    assert_eq!(rt; request.contents[0], 0xd1);
-    assert_eq!(rt; request.contents[31], 0xd2);
+    same!(rt; request.tci, 0x1234);
+    same!(rt; request.action, Action::MibReset);
+    same!(rt; request.wants_answer, false, "AR is 0");
+    same!(rt; request.class, 0x5678);
+    same!(rt; request.instance, 0x9abc);
+    same!(rt; request.contents[0], 0xd1);
+    same!(rt; request.contents[31], 0xd2);
     Ok(())
 }
 
@@ -154,14 +155,14 @@ fn a_message_gives_its_reply_or_its_first_fault(rt: HostRuntime) -> Result<(), F
         ),
     ];
     for (bytes, want, what) in rows {
-        assert_eq!(rt; read_reply(bytes), want, "{what}");
+        same!(rt; read_reply(bytes), want, "{what}");
     }
     Ok(())
 }
 
 #[test]
 fn a_request_has_one_spelling(rt: HostRuntime) -> Result<(), Fail> {
-    assert_eq!(rt; write_request(&CREATE_REQUEST), CREATE);
+    same!(rt; write_request(&CREATE_REQUEST), CREATE);
     let mut contents = [0; 32];
     contents[0] = 0xd1;
     contents[31] = 0xd2;
@@ -173,18 +174,18 @@ fn a_request_has_one_spelling(rt: HostRuntime) -> Result<(), Fail> {
         instance: 0x9abc,
         contents,
     });
-    assert_eq!(rt;
-        filled[..9],
-        [0x12, 0x34, 0x1a, 0x0a, 0x56, 0x78, 0x9a, 0xbc, 0xd1][..]
+    same!(rt;
+        &filled[..9],
+        &[0x12, 0x34, 0x1a, 0x0a, 0x56, 0x78, 0x9a, 0xbc, 0xd1][..]
     );
-    assert_eq!(rt; filled[39..], [0xd2, 0, 0, 0, 0x28, 0, 0, 0, 0][..]);
+    same!(rt; &filled[39..], &[0xd2, 0, 0, 0, 0x28, 0, 0, 0, 0][..]);
     law_of_spellings();
     Ok(())
 }
 
 #[test]
 fn a_reply_has_one_spelling(rt: HostRuntime) -> Result<(), Fail> {
-    assert_eq!(rt; write(&CREATED_REPLY), CREATED);
+    same!(rt; write(&CREATED_REPLY), CREATED);
     let mut contents = [0; 32];
     contents[0] = 0xd1;
     contents[31] = 0xd2;
@@ -195,11 +196,11 @@ fn a_reply_has_one_spelling(rt: HostRuntime) -> Result<(), Fail> {
         instance: 0x9abc,
         contents,
     });
-    assert_eq!(rt;
-        filled[..9],
-        [0x12, 0x34, 0x3a, 0x0a, 0x56, 0x78, 0x9a, 0xbc, 0xd1][..]
+    same!(rt;
+        &filled[..9],
+        &[0x12, 0x34, 0x3a, 0x0a, 0x56, 0x78, 0x9a, 0xbc, 0xd1][..]
     );
-    assert_eq!(rt; filled[39..], [0xd2, 0, 0, 0, 0x28, 0, 0, 0, 0][..]);
+    same!(rt; &filled[39..], &[0xd2, 0, 0, 0, 0x28, 0, 0, 0, 0][..]);
     Ok(())
 }
 
@@ -219,11 +220,11 @@ fn actions_have_the_numbers_of_the_standard(rt: HostRuntime) -> Result<(), Fail>
         (31, Action::Other(OtherCode { code: 31 })),
     ];
     for (code, action) in rows {
-        assert_eq!(rt; Action::of(code), Some(action), "of {code}");
-        assert_eq!(rt; action.code(), code, "code of {code}");
+        same!(rt; Action::of(code), Some(action), "of {code}");
+        same!(rt; action.code(), code, "code of {code}");
     }
-    assert_eq!(rt; Action::of(32), None);
-    assert_eq!(rt; Action::of(255), None);
+    same!(rt; Action::of(32), None);
+    same!(rt; Action::of(255), None);
     law_of_action_codes();
     Ok(())
 }
@@ -250,10 +251,10 @@ fn a_fault_has_its_number_and_says_what_came(rt: HostRuntime) -> Result<(), Fail
         (MsgFault::Device(11), 4, "device identifier 11, expected 10"),
     ];
     for (fault, code, text) in rows {
-        assert_eq!(rt; fault.code(), code, "{text}");
+        same!(rt; fault.code(), code, "{text}");
         let mut shown = String::new(rt.alloc());
         write!(shown, "{fault}")?;
-        assert_eq!(rt; shown.as_str(), text);
+        same!(rt; shown.as_str(), text);
     }
     Ok(())
 }

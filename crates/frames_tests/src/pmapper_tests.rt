@@ -1,5 +1,6 @@
 ghost use Rattle.std.specs.Prelude.{◌<◌};
 
+use fixtures::same;
 use pmapper::{Mapper, pointer, priority};
 use std::test::Fail;
 use tag_view::{DscpMap, Tag};
@@ -58,14 +59,14 @@ fn a_frame_without_a_tag_has_the_priority_of_its_option(rt: HostRuntime) -> Resu
         (&BY_DSCP, None, 3, "the default one without a DSCP"),
     ];
     for (mapper, dscp, want, what) in rows {
-        assert_eq!(rt; priority(mapper, &[], dscp), want, "{what}");
+        same!(rt; priority(mapper, &[], dscp), want, "{what}");
     }
     for option in [2, 3, 128, 255] {
         let other = Mapper {
             unmarked_frame_option: option,
             ..BY_DSCP
         };
-        assert_eq!(rt; priority(&other, &[], Some(46)), 3, "option {option}");
+        same!(rt; priority(&other, &[], Some(46)), 3, "option {option}");
     }
     Ok(())
 }
@@ -77,7 +78,7 @@ fn the_low_three_bits_of_the_default_count(rt: HostRuntime) -> Result<(), Fail> 
             default_p_bit_assumption: default,
             ..BY_DSCP
         };
-        assert_eq!(rt; priority(&mapper, &[], None), want, "default {default}");
+        same!(rt; priority(&mapper, &[], None), want, "default {default}");
     }
     Ok(())
 }
@@ -106,8 +107,8 @@ fn a_frame_with_tags_has_the_priority_of_the_outermost(rt: HostRuntime) -> Resul
         ),
     ];
     for (tags, want, what) in rows {
-        assert_eq!(rt; priority(&DEFAULT, tags, None), want, "{what}");
-        assert_eq!(rt;
+        same!(rt; priority(&DEFAULT, tags, None), want, "{what}");
+        same!(rt;
             priority(&BY_DSCP, tags, Some(46)),
             want,
             "{what}, with a DSCP"
@@ -133,7 +134,7 @@ fn each_priority_has_its_pointer(rt: HostRuntime) -> Result<(), Fail> {
         (7, Some(0xff00), "its high byte"),
     ];
     for (priority, want, what) in rows {
-        assert_eq!(rt; pointer(&mapper, priority), want, "{what}");
+        same!(rt; pointer(&mapper, priority), want, "{what}");
     }
     Ok(())
 }
@@ -152,7 +153,7 @@ fn frames_without_a_tag_come_to_the_pointer_of_their_priority(rt: HostRuntime) -
         (&elsewhere, None, Some(0x0599), "its pointer elsewhere"),
     ];
     for (mapper, dscp, want, what) in rows {
-        assert_eq!(rt;
+        same!(rt;
             pointer(mapper, priority(mapper, &[], dscp)),
             want,
             "{what}"

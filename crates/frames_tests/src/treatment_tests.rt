@@ -1,4 +1,5 @@
 use arrayvec::ArrayVec;
+use fixtures::same;
 use std::process::Abort;
 use std::test::Fail;
 use tag_view::{DscpMap, view};
@@ -82,9 +83,9 @@ fn expect(
     want: Option<&[u32]>,
 ) -> Result<(), Fail> {
     let tags = treated(treatments, frame)?;
-    assert_eq!(rt; tags.as_ref().map(|t| t.as_slice()), want, "{what}");
+    same!(rt; tags.as_ref().map(|t| t.as_slice()), want, "{what}");
     let tags = compiled(treatments, frame)?;
-    assert_eq!(rt;
+    same!(rt;
         tags.as_ref().map(|t| t.as_slice()),
         want,
         "{what}, compiled"
@@ -328,7 +329,7 @@ fn a_compiled_treatment_asks_for_the_dscp_where_a_tag_takes_its_priority(
         let rule = rule(treatments)?;
         for received in 0..3 {
             let treat = Treat::of(&rule.treatment, &SETTINGS, received);
-            assert_eq!(rt;
+            same!(rt;
                 treat.map(|t| t.uses_dscp()),
                 Some(want),
                 "{what}, {received} tags"

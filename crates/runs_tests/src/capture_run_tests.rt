@@ -1,7 +1,7 @@
 //! What a run refuses, and how it is reported.
 use capture::CaptureFault;
 use capture_run::{RunFault, RunSettings, report_run, run_over};
-use fixtures::{Sink, push_message};
+use fixtures::{Sink, holds, push_message, same};
 use std::alloc::{AllocError, Global};
 use std::test::Fail;
 
@@ -43,7 +43,7 @@ fn lanes_are_1_to_16_and_batches_of_1_to_65536(rt: HostRuntime) -> Result<(), Fa
         for (trace, file) in [("", &HEADER[..]), ("f 1 00\n", &HEADER[..]), ("", &[][..])] {
             let mut written = Vec::new(rt.alloc());
             let settings = applied_first(lanes, batch);
-            assert_eq!(rt;
+            same!(rt;
                 run_over(
                     &rt,
                     rt.alloc(),
@@ -55,7 +55,7 @@ fn lanes_are_1_to_16_and_batches_of_1_to_65536(rt: HostRuntime) -> Result<(), Fa
                 Err(RunFault::Settings),
                 "{lanes} lanes, batches of {batch}, {trace}"
             );
-            assert!(rt; written.is_empty());
+            holds!(rt; written.is_empty());
         }
     }
     Ok(())
@@ -79,12 +79,12 @@ fn the_first_bad_line_of_a_trace_has_its_number(rt: HostRuntime) -> Result<(), F
         for file in [&HEADER[..], &[][..]] {
             let mut written = Vec::new(alloc);
             let settings = applied_first(lanes, 65_536);
-            assert_eq!(rt;
+            same!(rt;
                 run_over(&rt, alloc, text.as_bytes(), file, &settings, &mut written),
                 Err(fault),
                 "{what}"
             );
-            assert!(rt; written.is_empty());
+            holds!(rt; written.is_empty());
         }
     }
     Ok(())
@@ -102,11 +102,11 @@ fn a_file_that_is_no_capture_is_not_run(rt: HostRuntime) -> Result<(), Fail> {
     ] {
         let mut written = Vec::new(alloc);
         let settings = applied_first(1, 1);
-        assert_eq!(rt;
+        same!(rt;
             run_over(&rt, alloc, b"", file, &settings, &mut written),
             Err(RunFault::Capture(fault))
         );
-        assert!(rt; written.is_empty());
+        holds!(rt; written.is_empty());
     }
     Ok(())
 }
@@ -149,12 +149,12 @@ fn a_report_has_the_words_and_the_status(rt: HostRuntime) -> Result<(), Fail> {
         (Err(RunFault::Write), "write failed\n", 1),
     ] {
         let mut written = Vec::new(alloc);
-        assert_eq!(rt; report_run(&outcome, &mut written), status, "{words}");
-        assert_eq!(rt; written.as_slice(), words.as_bytes());
+        same!(rt; report_run(&outcome, &mut written), status, "{words}");
+        same!(rt; written.as_slice(), words.as_bytes());
         for room in 0..words.len() {
             let mut short = Sink::new(alloc, 100, room, true);
-            assert_eq!(rt; report_run(&outcome, &mut short), status, "{words}");
-            assert_eq!(rt; short.bytes.as_slice(), &words.as_bytes()[..room]);
+            same!(rt; report_run(&outcome, &mut short), status, "{words}");
+            same!(rt; short.bytes.as_slice(), &words.as_bytes()[..room]);
         }
     }
     Ok(())
@@ -171,7 +171,7 @@ fn each_fault_has_its_number(rt: HostRuntime) -> Result<(), Fail> {
         (RunFault::CountFull, 6),
         (RunFault::Write, 7),
     ] {
-        assert_eq!(rt; fault.code(), number);
+        same!(rt; fault.code(), number);
     }
     Ok(())
 }

@@ -2,6 +2,7 @@
 ghost use Rattle.std.specs.Prelude.{◌<◌, ◌≤◌, ◌^◌, length};
 ghost use Rattle.run_settings.specs.Settings.{CanRun};
 
+use fixtures::holds;
 use frame_batch::Gate;
 use frame_stats::Counts;
 use lane_run::{LaneFault, Ran, run_lanes};
@@ -192,7 +193,7 @@ fn two_lanes_forward_at_once(rt: HostRuntime) -> Result<(), Fail> {
         ..NOTHING
     };
     let found = versions_of(&rt, rt.alloc(), "", &frames, &settings, &gate, &expected);
-    assert!(rt; are(&found, 0, &[0, 0]));
+    holds!(rt; are(&found, 0, &[0, 0]));
     Ok(())
 }
 
@@ -226,7 +227,7 @@ fn each_batch_has_the_version_that_was_published_before_it(rt: HostRuntime) -> R
         &expected,
     );
     // Batch 0 waits for nothing, and may come before the first publish or after it.
-    assert!(rt; are(&found, 1, &[1, 2, 3, 4]));
+    holds!(rt; are(&found, 1, &[1, 2, 3, 4]));
     Ok(())
 }
 
@@ -262,8 +263,8 @@ fn forward_three<R: Threads + Wait + Sync>(rt: &R, alloc: Global, lanes: u16) ->
 
 #[test]
 fn after_the_trace_each_batch_has_the_last_version(rt: HostRuntime) -> Result<(), Fail> {
-    assert!(rt; forward_three(&rt, rt.alloc(), 1), "1 lane");
-    assert!(rt; forward_three(&rt, rt.alloc(), 8), "8 lanes");
+    holds!(rt; forward_three(&rt, rt.alloc(), 1), "1 lane");
+    holds!(rt; forward_three(&rt, rt.alloc(), 8), "8 lanes");
     Ok(())
 }
 
@@ -291,7 +292,7 @@ fn versions_never_fall_along_a_lane(rt: HostRuntime) -> Result<(), Fail> {
         Ok(ran) => ran.versions.len() == 400 && never_fall(&ran.versions, 4),
         Err(_) => false,
     };
-    assert!(rt; held);
+    holds!(rt; held);
     Ok(())
 }
 
@@ -316,7 +317,7 @@ fn a_message_with_a_fault_is_passed_over(rt: HostRuntime) -> Result<(), Fail> {
         &Open,
         &expected,
     );
-    assert!(rt; are(&found, 0, &[]));
+    holds!(rt; are(&found, 0, &[]));
     Ok(())
 }
 
@@ -330,6 +331,6 @@ fn a_gate_that_lets_nothing_pass_is_a_refusal(rt: HostRuntime) -> Result<(), Fai
     };
     let frames = [UNTAGGED.as_slice()];
     let found = versions_of(&rt, rt.alloc(), "", &frames, &settings, &Closed, &NOTHING);
-    assert!(rt; matches!(found, Err(LaneFault::Refused)));
+    holds!(rt; matches!(found, Err(LaneFault::Refused)));
     Ok(())
 }

@@ -3,6 +3,8 @@
 #![tactic(auto)]
 
 #[cfg(test)]
+mod asserting;
+#[cfg(test)]
 mod capture_run_tests;
 #[cfg(test)]
 mod lane_run_tests;

@@ -2,7 +2,7 @@
 use crate::capture_run_tests::{HEADER, applied_first, port_257};
 use crate::lane_run_tests::{CUT, UNTAGGED};
 use capture_run::{RunFault, run_over};
-use fixtures::{Sink, push_message};
+use fixtures::{Sink, push_message, same};
 use std::alloc::{AllocError, Global};
 use std::test::Fail;
 
@@ -48,7 +48,7 @@ fn a_capture_without_frames_has_totals_alone(rt: HostRuntime) -> Result<(), Fail
     let mut written = Vec::new(rt.alloc());
     let settings = applied_first(1, 1);
     run_over(&rt, rt.alloc(), b"", &HEADER, &settings, &mut written)?;
-    assert_eq!(rt;
+    same!(rt;
         written.as_slice(),
         "accepted 0\nframes 0\nbytes 0\n".as_bytes()
     );
@@ -64,10 +64,10 @@ fn lines_are_the_same_on_one_lane_and_on_eight(rt: HostRuntime) -> Result<(), Fa
         let settings = applied_first(lanes, 2);
         let mut written = Vec::new(alloc);
         run_over(&rt, alloc, trace.as_bytes(), &file, &settings, &mut written)?;
-        assert_eq!(rt; written.as_slice(), LINES.as_bytes(), "{lanes} lanes");
+        same!(rt; written.as_slice(), LINES.as_bytes(), "{lanes} lanes");
         let mut dribble = Sink::new(alloc, 1, 1000, true);
         run_over(&rt, alloc, trace.as_bytes(), &file, &settings, &mut dribble)?;
-        assert_eq!(rt; dribble.bytes.as_slice(), LINES.as_bytes(), "{lanes} lanes");
+        same!(rt; dribble.bytes.as_slice(), LINES.as_bytes(), "{lanes} lanes");
     }
     Ok(())
 }
@@ -81,12 +81,12 @@ fn a_writer_that_fails_at_any_byte_has_a_front_of_the_lines(rt: HostRuntime) -> 
     for room in 0..LINES.len() {
         for fails in [false, true] {
             let mut sink = Sink::new(alloc, 10, room, fails);
-            assert_eq!(rt;
+            same!(rt;
                 run_over(&rt, alloc, trace.as_bytes(), &file, &settings, &mut sink),
                 Err(RunFault::Write),
                 "{room} bytes"
             );
-            assert_eq!(rt; sink.bytes.as_slice(), &LINES.as_bytes()[..room]);
+            same!(rt; sink.bytes.as_slice(), &LINES.as_bytes()[..room]);
         }
     }
     Ok(())

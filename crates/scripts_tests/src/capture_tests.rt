@@ -1,6 +1,7 @@
 ghost use Rattle.std.specs.Prelude.{◌≡◌, ◌<◌, length};
 
 use capture::{CaptureFault, ListFault, Pcap, law_of_records, list_frames};
+use fixtures::{holds, same};
 use std::alloc::Global;
 use std::test::Fail;
 
@@ -53,11 +54,11 @@ fn each_byte_order_gives_the_frame(rt: HostRuntime) -> Result<(), Fail> {
         ("highest first, nanoseconds", &nanoseconds_high),
     ] {
         let capture = Pcap::open(file)?;
-        assert_eq!(rt; capture.len(), 1, "{what}");
+        same!(rt; capture.len(), 1, "{what}");
         let mut frames = capture.frames();
-        assert_eq!(rt; frames.next(), Some(&UNTAGGED[..]), "{what}");
-        assert_eq!(rt; frames.next(), None, "{what}");
-        assert_eq!(rt; frames.next(), None, "{what}");
+        same!(rt; frames.next(), Some(&UNTAGGED[..]), "{what}");
+        same!(rt; frames.next(), None, "{what}");
+        same!(rt; frames.next(), None, "{what}");
     }
     Ok(())
 }
@@ -71,11 +72,11 @@ fn a_capture_cut_short_has_the_fault_of_its_last_part(rt: HostRuntime) -> Result
             24 | 56 => None,
             _ => Some(CaptureFault::Torn(0)),
         };
-        assert_eq!(rt; fault_of(&LOW_FIRST[..len]), want, "{len} bytes");
+        same!(rt; fault_of(&LOW_FIRST[..len]), want, "{len} bytes");
     }
     let empty = Pcap::open(&LOW_FIRST[..24])?;
-    assert_eq!(rt; empty.len(), 0);
-    assert_eq!(rt; count_frames(&empty), 0);
+    same!(rt; empty.len(), 0);
+    same!(rt; count_frames(&empty), 0);
     Ok(())
 }
 
@@ -111,9 +112,9 @@ fn the_first_fault_is_given(rt: HostRuntime) -> Result<(), Fail> {
             Some(CaptureFault::Torn(0)),
         ),
     ] {
-        assert_eq!(rt; fault_of(file), want, "{what}");
+        same!(rt; fault_of(file), want, "{what}");
     }
-    assert_eq!(rt; fault_of(&wrong_link[..23]), Some(CaptureFault::Header));
+    same!(rt; fault_of(&wrong_link[..23]), Some(CaptureFault::Header));
     Ok(())
 }
 
@@ -133,19 +134,19 @@ fn an_empty_record_is_a_frame_and_a_later_fault_has_its_number(
     file[24..].copy_from_slice(&THREE);
     let wanted = [&[0xaa, 0xbb][..], &[][..], &[0xcc][..]];
     let capture = Pcap::open(&file)?;
-    assert_eq!(rt; capture.len(), 3);
+    same!(rt; capture.len(), 3);
     let mut count = 0;
     for frame in capture.frames() {
         assert!(rt; count < 3);
-        assert_eq!(rt; frame, wanted[count]);
+        same!(rt; frame, wanted[count]);
         count += 1;
     }
-    assert_eq!(rt; count, 3);
-    assert_eq!(rt; fault_of(&file[..74]), Some(CaptureFault::Torn(2)));
-    assert_eq!(rt; fault_of(&file[..50]), Some(CaptureFault::Torn(1)));
-    assert_eq!(rt; Pcap::open(&file[..58])?.len(), 2);
+    same!(rt; count, 3);
+    same!(rt; fault_of(&file[..74]), Some(CaptureFault::Torn(2)));
+    same!(rt; fault_of(&file[..50]), Some(CaptureFault::Torn(1)));
+    same!(rt; Pcap::open(&file[..58])?.len(), 2);
     file[52] = 0xff;
-    assert_eq!(rt; fault_of(&file), Some(CaptureFault::TooLong(1)));
+    same!(rt; fault_of(&file), Some(CaptureFault::TooLong(1)));
     Ok(())
 }
 
@@ -161,15 +162,15 @@ fn frames_are_listed_or_the_first_fault_is_told(rt: HostRuntime) -> Result<(), F
     file[24..].copy_from_slice(&THREE);
     let list = list_frames(rt.alloc(), &file)?;
     let wanted = [&[0xaa, 0xbb][..], &[][..], &[0xcc][..]];
-    assert_eq!(rt; list.as_slice(), wanted.as_slice());
+    same!(rt; list.as_slice(), wanted.as_slice());
     drop(list);
     let torn = ListFault::Capture(CaptureFault::Torn(2));
-    assert_eq!(rt; why_not_listed(rt.alloc(), &file[..74]), Some(torn));
+    same!(rt; why_not_listed(rt.alloc(), &file[..74]), Some(torn));
     let cut = ListFault::Capture(CaptureFault::Header);
-    assert_eq!(rt; why_not_listed(rt.alloc(), &file[..23]), Some(cut));
+    same!(rt; why_not_listed(rt.alloc(), &file[..23]), Some(cut));
     file[52] = 0xff;
     let too_long = ListFault::Capture(CaptureFault::TooLong(1));
-    assert_eq!(rt; why_not_listed(rt.alloc(), &file), Some(too_long));
+    same!(rt; why_not_listed(rt.alloc(), &file), Some(too_long));
     Ok(())
 }
 
@@ -183,7 +184,7 @@ fn each_fault_has_its_number(rt: HostRuntime) -> Result<(), Fail> {
         (CaptureFault::Torn(7), 4),
         (CaptureFault::TooLong(7), 5),
     ] {
-        assert_eq!(rt; fault.code(), number);
+        same!(rt; fault.code(), number);
     }
     Ok(())
 }

@@ -3,7 +3,7 @@
 use crate::devices::Source;
 use crate::dialogue::Step::{Put, Send};
 use crate::dialogue::{Dialogue, Step};
-use fixtures::Sink;
+use fixtures::{Sink, same};
 use script_replay::{ReplayFault, replay};
 use std::alloc::Global;
 use std::process::Abort;
@@ -49,8 +49,8 @@ fn replay_pieces(rt: &impl Abort, alloc: Global, dialogue: &Dialogue, given: usi
         fails: false,
     };
     let mut sink = Sink::new(alloc, taken, usize::MAX, false);
-    assert_eq!(rt; replay(alloc, &mut source, &mut sink), Ok(()));
-    assert_eq!(rt;
+    same!(rt; replay(alloc, &mut source, &mut sink), Ok(()));
+    same!(rt;
         sink.bytes.as_slice(),
         dialogue.answers().as_bytes(),
         "{given} bytes a read, {taken} a write"
@@ -61,7 +61,7 @@ fn replay_pieces(rt: &impl Abort, alloc: Global, dialogue: &Dialogue, given: usi
 fn pieces_of_one_byte_make_no_difference(rt: HostRuntime) -> Result<(), Fail> {
     let alloc = rt.alloc();
     let dialogue = Dialogue::of(alloc, &STEPS)?;
-    assert_eq!(rt;
+    same!(rt;
         answered_within(dialogue.script().len()),
         dialogue.answers().len()
     );
@@ -81,8 +81,8 @@ fn fail_to_read(rt: &impl Abort, alloc: Global, given: &[u8], wanted: &[u8], mos
     let mut written = Vec::new(alloc);
     let result = replay(alloc, &mut source, &mut written);
     let read = given.len();
-    assert_eq!(rt; result, Err(ReplayFault::Read(read as u64)));
-    assert_eq!(rt; written.as_slice(), wanted, "after {read} bytes by {most}");
+    same!(rt; result, Err(ReplayFault::Read(read as u64)));
+    same!(rt; written.as_slice(), wanted, "after {read} bytes by {most}");
 }
 
 /// Replays the first bytes of a script, byte by byte and at once. None where there are fewer.
@@ -111,8 +111,8 @@ fn fail_to_write(rt: &impl Abort, alloc: Global, script: &str, wanted: &[u8], fa
     let mut sink = Sink::new(alloc, 10, taken, fails);
     let mut reader = script.as_bytes();
     let result = replay(alloc, &mut reader, &mut sink);
-    assert_eq!(rt; result, Err(ReplayFault::Write), "after {taken} bytes");
-    assert_eq!(rt; sink.bytes.as_slice(), wanted, "after {taken} bytes");
+    same!(rt; result, Err(ReplayFault::Write), "after {taken} bytes");
+    same!(rt; sink.bytes.as_slice(), wanted, "after {taken} bytes");
 }
 
 /// Replays a script for writers that take so many bytes. None where the answers have fewer.

@@ -1,7 +1,7 @@
 //! A script and its answers, grown step by step.
 
 use crate::replay_tests::{CREATED, PORT_257, messages};
-use fixtures::push_message;
+use fixtures::{push_message, same};
 use script_replay::{ReplayFault, replay};
 use std::alloc::{AllocError, Global};
 use std::process::Abort;
@@ -149,8 +149,8 @@ pub(crate) fn compare(
     let mut written = Vec::new(alloc);
     let mut reader = script.as_bytes();
     let outcome = replay(alloc, &mut reader, &mut written);
-    assert_eq!(rt; outcome, wanted.outcome, "{what}");
-    assert_eq!(rt; written.as_slice(), wanted.answers.as_bytes(), "{what}");
+    same!(rt; outcome, wanted.outcome, "{what}");
+    same!(rt; written.as_slice(), wanted.answers.as_bytes(), "{what}");
 }
 
 /// Compares what is written with what is to be: the answers to the four messages of the port, and to the steps.

@@ -2,6 +2,7 @@
 
 use crate::dialogue::Step::{Ask, Put, Tell};
 use crate::dialogue::{Dialogue, Step, compare_steps};
+use fixtures::same;
 use std::alloc::{AllocError, Global};
 use std::process::Abort;
 use std::test::Fail;
@@ -323,7 +324,7 @@ fn hear_table(
     dialogue.ask(GET, got.as_str())?;
     let entries = table.entries;
     let heard = hear_parts(dialogue, alloc, table.parts, digits.as_str())?;
-    assert_eq!(rt; heard, (table.last, 0), "{entries} entries");
+    same!(rt; heard, (table.last, 0), "{entries} entries");
     hear_refusals(dialogue, alloc, table.parts)
 }
 

@@ -1,4 +1,5 @@
 use capture::{Line, read_line};
+use fixtures::{holds, same};
 use std::process::Abort;
 use std::test::Fail;
 
@@ -13,13 +14,13 @@ enum Want {
 
 fn check(rt: &impl Abort, line: &[u8], buffer: &mut [u8; 10_000], want: Want) -> Result<(), Fail> {
     match (read_line(line, buffer), want) {
-        (Some(Line::Message(bytes)), Want::Message(wanted)) => assert_eq!(rt; bytes, wanted),
+        (Some(Line::Message(bytes)), Want::Message(wanted)) => same!(rt; bytes, wanted),
         (Some(Line::Frame(port, bytes)), Want::Frame(wanted_port, wanted)) => {
-            assert_eq!(rt; port, wanted_port);
-            assert_eq!(rt; bytes, wanted);
+            same!(rt; port, wanted_port);
+            same!(rt; bytes, wanted);
         }
         (Some(Line::Nothing), Want::Nothing) | (None, Want::Bad) => {}
-        _ => assert!(rt;
+        _ => holds!(rt;
             false,
             "a line of {} bytes is read as another kind",
             line.len()
@@ -98,8 +99,8 @@ fn a_line_has_up_to_20_000_bytes(rt: HostRuntime) -> Result<(), Fail> {
     check(&rt, &line, &mut buffer, Want::Bad)?;
     line[..2].copy_from_slice(b"o ");
     match read_line(&line[..20_000], &mut buffer) {
-        Some(Line::Message(bytes)) => assert_eq!(rt; bytes.len(), 9_999),
-        _ => assert!(rt; false),
+        Some(Line::Message(bytes)) => same!(rt; bytes.len(), 9_999),
+        _ => holds!(rt; false),
     }
     Ok(())
 }

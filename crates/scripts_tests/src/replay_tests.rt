@@ -3,7 +3,7 @@
 use crate::dialogue::{Replayed, compare};
 use Change::{CrLf, Nothing, Odd, Unended, Upper};
 use Part::{Ask, Reply, Text};
-use fixtures::{Sink, push_message};
+use fixtures::{Sink, push_message, same};
 use script_replay::{ReplayFault, replay, report_replay};
 use std::alloc::{AllocError, Global};
 use std::process::Abort;
@@ -258,7 +258,7 @@ fn compare_end(rt: &impl Abort, alloc: Global, script: &str, outcome: Result<(),
     let mut written = Vec::new(alloc);
     let mut reader = script.as_bytes();
     let result = replay(alloc, &mut reader, &mut written);
-    assert_eq!(rt; result, outcome, "{}", script.len());
+    same!(rt; result, outcome, "{}", script.len());
 }
 
 #[test]
@@ -285,8 +285,8 @@ fn compare_short_report(
     status: u8,
 ) {
     let mut short = Sink::new(alloc, 100, front.len(), true);
-    assert_eq!(rt; report_replay(outcome, &mut short), status, "{front:?}");
-    assert_eq!(rt; short.bytes.as_slice(), front);
+    same!(rt; report_replay(outcome, &mut short), status, "{front:?}");
+    same!(rt; short.bytes.as_slice(), front);
 }
 
 /// Compares a report, to a writer that takes all and to writers that take less.
@@ -298,8 +298,8 @@ fn compare_report(
     status: u8,
 ) {
     let mut written = Vec::new(alloc);
-    assert_eq!(rt; report_replay(outcome, &mut written), status, "{words}");
-    assert_eq!(rt; written.as_slice(), words.as_bytes());
+    same!(rt; report_replay(outcome, &mut written), status, "{words}");
+    same!(rt; written.as_slice(), words.as_bytes());
     for room in 0..words.len() {
         compare_short_report(rt, alloc, outcome, &words.as_bytes()[..room], status);
     }

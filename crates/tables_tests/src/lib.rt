@@ -3,6 +3,8 @@
 #![tactic(auto)]
 
 #[cfg(test)]
+mod asserting;
+#[cfg(test)]
 mod rule_index_tests;
 #[cfg(test)]
 mod vlan_rule_tests;

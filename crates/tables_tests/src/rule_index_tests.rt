@@ -1,7 +1,7 @@
 ghost use Rattle.std.specs.Prelude.{◌<◌, length};
 
 use crate::vlan_rule_tests::{DELETION, DROPPED, UNCHANGED, entry};
-use fixtures::frame;
+use fixtures::{frame, holds, same};
 use rule_index::{Followed, Head, Index, law_of_order};
 use std::alloc::{AllocError, Global};
 use std::process::Abort;
@@ -31,18 +31,18 @@ fn one_tag_table(alloc: Global) -> Result<RuleTable, Fail> {
 
 /// An index of no table finds nothing.
 fn look_at_nothing(rt: &impl Abort, alloc: Global, index: &Index) -> Result<(), Fail> {
-    assert_eq!(rt; found(index, alloc, &[], 0x0800)?, None);
-    assert_eq!(rt; found(index, alloc, &[0x8100a064], 0x0800)?, None);
-    assert_eq!(rt; index.order(0), None);
-    assert_eq!(rt; index.order(255), None);
+    same!(rt; found(index, alloc, &[], 0x0800)?, None);
+    same!(rt; found(index, alloc, &[0x8100a064], 0x0800)?, None);
+    same!(rt; index.order(0), None);
+    same!(rt; index.order(255), None);
     for tags in 0..4u8 {
-        assert_eq!(rt; index.tag_mask(tags), 0);
+        same!(rt; index.tag_mask(tags), 0);
     }
-    assert_eq!(rt; index.inner_vid_mask(0), 0);
-    assert_eq!(rt; index.inner_vid_mask(100), 0);
-    assert_eq!(rt; index.inner_vid_mask(4095), 0);
+    same!(rt; index.inner_vid_mask(0), 0);
+    same!(rt; index.inner_vid_mask(100), 0);
+    same!(rt; index.inner_vid_mask(4095), 0);
     let bytes = frame(alloc, &[], 0x0800)?;
-    assert_eq!(rt; index.number(&Head::read(&bytes, 0x8100)?, 0x8100), 128);
+    same!(rt; index.number(&Head::read(&bytes, 0x8100)?, 0x8100), 128);
     Ok(())
 }
 
@@ -57,15 +57,15 @@ fn look_at_masks(rt: &impl Abort, alloc: Global, index: &mut Index) -> Result<()
     index.rebuild(&one_tag_table(alloc)?);
     let order = [Some(4), Some(3), Some(0), Some(1), Some(2), None];
     for (j, place) in order.iter().enumerate() {
-        assert_eq!(rt; index.order(j as u8), *place, "entry number {j}");
+        same!(rt; index.order(j as u8), *place, "entry number {j}");
     }
     let tag_masks = [0x04, 0x0b, 0x10, 0];
     for (tags, mask) in tag_masks.iter().enumerate() {
-        assert_eq!(rt; index.tag_mask(tags as u8), *mask, "{tags} tags");
+        same!(rt; index.tag_mask(tags as u8), *mask, "{tags} tags");
     }
     let vid_masks = [(100, 0x1f), (101, 0x1e), (0, 0x1e), (4095, 0x1e)];
     for (vid, mask) in vid_masks {
-        assert_eq!(rt; index.inner_vid_mask(vid), mask, "inner VID {vid}");
+        same!(rt; index.inner_vid_mask(vid), mask, "inner VID {vid}");
     }
     Ok(())
 }
@@ -88,7 +88,7 @@ fn look_for_the_least(rt: &impl Abort, alloc: Global, index: &mut Index) -> Resu
     ];
     for (what, tags, place) in rows {
         let found = found(index, alloc, tags, 0x0800)?;
-        assert_eq!(rt; found, place, "{what}");
+        same!(rt; found, place, "{what}");
     }
     Ok(())
 }
@@ -109,19 +109,19 @@ fn look_at_rebuilds(
     index.rebuild(table);
     let two_tags = [0x88a80064, 0x810000c8];
     let replaced = table.put(entry(0xf8000000_80320000, UNCHANGED));
-    assert_eq!(rt; replaced, Ok(Put::Replaced));
+    same!(rt; replaced, Ok(Put::Replaced));
     index.rebuild(table);
-    assert_eq!(rt; found(index, alloc, &[0x8100a064], 0x0800)?, Some(4));
+    same!(rt; found(index, alloc, &[0x8100a064], 0x0800)?, Some(4));
     let deleted = table.put(entry(0xe0000000_e0000000, DELETION));
-    assert_eq!(rt; deleted, Ok(Put::Deleted));
+    same!(rt; deleted, Ok(Put::Deleted));
     index.rebuild(table);
-    assert_eq!(rt; found(index, alloc, &two_tags, 0x0800)?, None);
-    assert_eq!(rt; found(index, alloc, &[0x8100a064], 0x0800)?, Some(3));
+    same!(rt; found(index, alloc, &two_tags, 0x0800)?, None);
+    same!(rt; found(index, alloc, &[0x8100a064], 0x0800)?, Some(3));
     table.reset();
     index.rebuild(table);
-    assert_eq!(rt; found(index, alloc, &two_tags, 0x0800)?, Some(2));
-    assert_eq!(rt; found(index, alloc, &[0x8100a064], 0x0800)?, Some(1));
-    assert_eq!(rt; index.order(3), None);
+    same!(rt; found(index, alloc, &two_tags, 0x0800)?, Some(2));
+    same!(rt; found(index, alloc, &[0x8100a064], 0x0800)?, Some(1));
+    same!(rt; index.order(3), None);
     Ok(())
 }
 
@@ -139,7 +139,7 @@ fn look_at_follows(
     index: &mut Index,
     table: &mut RuleTable,
 ) -> Result<(), Fail> {
-    assert_eq!(rt; index.follow(table), Followed::Rebuilt);
+    same!(rt; index.follow(table), Followed::Rebuilt);
     let vid_100 = 0xf8000000_80320000;
     let default = 0xf8000000_e8000000;
     let untagged = 0xf0000000_f0000000;
@@ -192,7 +192,7 @@ fn look_at_follows(
     };
     for (what, key, rest, followed) in rows {
         let _ = table.put(entry(key, rest));
-        assert_eq!(rt; index.follow(table), followed, "{what}");
+        same!(rt; index.follow(table), followed, "{what}");
         compare(rt, alloc, table, index, &mut draws, &mut Seen::default())?;
     }
     Ok(())
@@ -214,8 +214,8 @@ fn look_at_two_changes(
     index.rebuild(table);
     table.put(entry(0xf8000000_80320000, UNCHANGED))?;
     table.put(entry(0xf8000000_e8000000, UNCHANGED))?;
-    assert_eq!(rt; index.follow(table), Followed::Rebuilt);
-    assert_eq!(rt; index.follow(table), Followed::Unchanged);
+    same!(rt; index.follow(table), Followed::Rebuilt);
+    same!(rt; index.follow(table), Followed::Unchanged);
     Ok(())
 }
 
@@ -239,10 +239,10 @@ fn a_head_is_that_of_the_view(rt: HostRuntime) -> Result<(), Fail> {
             Head::of(&view(&bytes, 0x8100)?),
             Head::read(&bytes, 0x8100)?,
         ] {
-            assert_eq!(rt; head.tags(), tags);
-            assert_eq!(rt; head.outer(), outer, "outer of {tags}");
-            assert_eq!(rt; head.inner(), inner, "inner of {tags}");
-            assert_eq!(rt; head.ethertype(), 0x0800, "type behind {tags}");
+            same!(rt; head.tags(), tags);
+            same!(rt; head.outer(), outer, "outer of {tags}");
+            same!(rt; head.inner(), inner, "inner of {tags}");
+            same!(rt; head.ethertype(), 0x0800, "type behind {tags}");
         }
     }
     Ok(())
@@ -258,7 +258,7 @@ fn a_cut_frame_has_no_head(rt: HostRuntime) -> Result<(), Fail> {
             14..=21 => Some(FrameFault::CutTag),
             _ => None,
         };
-        assert_eq!(rt; read.err(), fault, "{len} bytes");
+        same!(rt; read.err(), fault, "{len} bytes");
     }
     Ok(())
 }
@@ -403,9 +403,9 @@ fn compare(
         let bytes = draws.frame(alloc)?;
         let frame = view(&bytes, input_tpid)?;
         let walked = table.walk(&frame, input_tpid);
-        assert_eq!(rt; index.find(&frame, input_tpid), walked);
+        same!(rt; index.find(&frame, input_tpid), walked);
         let number = index.number(&Head::read(&bytes, input_tpid)?, input_tpid);
-        assert_eq!(rt; index.order(number as u8), walked);
+        same!(rt; index.order(number as u8), walked);
         seen.count(
             walked
                 .and_then(|place| table.rule(place))
@@ -428,11 +428,11 @@ fn agree(
     let mut seen = Seen::default();
     for _ in 0..1000 {
         draw_table(table, &mut draws)?;
-        assert_eq!(rt; table.len(), 128);
+        same!(rt; table.len(), 128);
         index.rebuild(table);
         compare(rt, alloc, table, index, &mut draws, &mut seen)?;
     }
-    assert!(rt; seen.least() > 1000);
+    holds!(rt; seen.least() > 1000);
     Ok(())
 }
 

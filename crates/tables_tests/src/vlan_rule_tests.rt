@@ -1,5 +1,5 @@
 use byteorder::{BigEndian, ByteOrder};
-use fixtures::frame;
+use fixtures::{frame, holds, same};
 use std::alloc::Global;
 use std::process::Abort;
 use std::test::Fail;
@@ -164,11 +164,11 @@ fn each_refusal_has_its_number(rt: HostRuntime) {
         ),
     ];
     for (what, key, rest, fault, number) in rows {
-        assert_eq!(rt; Rule::read(&entry(key, rest)).err(), Some(fault), "{what}");
-        assert_eq!(rt; fault.code(), number, "{what}");
-        assert_eq!(rt; TableFault::Bad(fault).code(), 1, "{what}");
+        same!(rt; Rule::read(&entry(key, rest)).err(), Some(fault), "{what}");
+        same!(rt; fault.code(), number, "{what}");
+        same!(rt; TableFault::Bad(fault).code(), 1, "{what}");
     }
-    assert_eq!(rt; TableFault::Full.code(), 2);
+    same!(rt; TableFault::Full.code(), 2);
 }
 
 #[test]
@@ -208,7 +208,7 @@ fn fields_that_do_not_count_are_not_refused(rt: HostRuntime) {
         ("padding", 0x80000fff_80000ff0, 0x3ff00000_fff00000),
     ];
     for (what, key, rest) in rows {
-        assert_eq!(rt; Rule::read(&entry(key, rest)).err(), None, "{what}");
+        same!(rt; Rule::read(&entry(key, rest)).err(), None, "{what}");
     }
 }
 
@@ -224,9 +224,9 @@ fn a_rule_has_the_parts_of_its_entry(rt: HostRuntime) -> Result<(), Fail> {
         vid: VidFilter::Exactly(100),
         ..any
     };
-    assert_eq!(rt; translated.filter, Filter::OneTag(vid_100));
-    assert_eq!(rt; translated.ethertype, EthertypeFilter::Any);
-    assert_eq!(rt; translated.rank, Rank::Ordinary);
+    same!(rt; translated.filter, Filter::OneTag(vid_100));
+    same!(rt; translated.ethertype, EthertypeFilter::Any);
+    same!(rt; translated.rank, Rank::Ordinary);
     let vid_200 = AddedTag {
         priority: PrioritySource::Inner,
         vid: VidSource::Fixed(200),
@@ -238,7 +238,7 @@ fn a_rule_has_the_parts_of_its_entry(rt: HostRuntime) -> Result<(), Fail> {
         outer: None,
         inner: Some(vid_200),
     };
-    assert_eq!(rt; translated.treatment, Treatment::Retag(swapped));
+    same!(rt; translated.treatment, Treatment::Retag(swapped));
 
     let copied = Rule::read(&entry(0x5003e000_88007002, 0x8009800b_000a8007))?;
     let outer = TagFilter {
@@ -250,8 +250,8 @@ fn a_rule_has_the_parts_of_its_entry(rt: HostRuntime) -> Result<(), Fail> {
         tpid: TpidFilter::InputEligible,
         ..any
     };
-    assert_eq!(rt; copied.filter, Filter::TwoTag { outer, inner });
-    assert_eq!(rt; copied.ethertype, EthertypeFilter::Pppoe);
+    same!(rt; copied.filter, Filter::TwoTag { outer, inner });
+    same!(rt; copied.ethertype, EthertypeFilter::Pppoe);
     let from_outer = AddedTag {
         priority: PrioritySource::Outer,
         vid: VidSource::Outer,
@@ -269,7 +269,7 @@ fn a_rule_has_the_parts_of_its_entry(rt: HostRuntime) -> Result<(), Fail> {
         outer: Some(from_outer),
         inner: Some(from_dscp),
     };
-    assert_eq!(rt; copied.treatment, Treatment::Retag(replaced));
+    same!(rt; copied.treatment, Treatment::Retag(replaced));
     Ok(())
 }
 
@@ -314,9 +314,9 @@ fn the_rank_is_that_of_the_key_and_the_kind(rt: HostRuntime) -> Result<(), Fail>
     ];
     for (what, key, rank, number) in rows {
         let rule = Rule::read(&entry(key, DROPPED))?;
-        assert_eq!(rt; rule.rank, rank, "{what}");
-        assert_eq!(rt; rank.number(), number, "{what}");
-        assert_eq!(rt; rule.treatment, Treatment::Discard, "{what}");
+        same!(rt; rule.rank, rank, "{what}");
+        same!(rt; rank.number(), number, "{what}");
+        same!(rt; rule.treatment, Treatment::Discard, "{what}");
     }
     Ok(())
 }
@@ -327,11 +327,11 @@ const DOUBLE: [u32; 2] = [0x88a80064, 0x810000c8];
 /// Looks which entry is used where several match.
 fn look_by_rank(rt: &impl Abort, alloc: Global, table: &mut RuleTable) -> Result<(), Fail> {
     let untagged = used(table, alloc, 0x8100, &[], 0x0800)?;
-    assert_eq!(rt; untagged, Some(0), "the first predefined entry");
+    same!(rt; untagged, Some(0), "the first predefined entry");
     let default = table.put(entry(0xf8000000_e8000000, DROPPED));
-    assert_eq!(rt; default, Ok(Put::Added));
+    same!(rt; default, Ok(Put::Added));
     let vid_100 = table.put(entry(0xf8000000_80320000, 0x400f0000_00080644));
-    assert_eq!(rt; vid_100, Ok(Put::Added));
+    same!(rt; vid_100, Ok(Put::Added));
     look_by_tags(rt, alloc, table)?;
     look_behind_a_deletion(rt, alloc, table)
 }
@@ -346,7 +346,7 @@ fn look_by_tags(rt: &impl Abort, alloc: Global, table: &RuleTable) -> Result<(),
     ];
     for (what, tags, place) in rows {
         let found = used(table, alloc, 0x8100, tags, 0x0800)?;
-        assert_eq!(rt; found, place, "{what}");
+        same!(rt; found, place, "{what}");
     }
     Ok(())
 }
@@ -358,10 +358,10 @@ fn look_behind_a_deletion(
     table: &mut RuleTable,
 ) -> Result<(), Fail> {
     let deletion = entry(0xe0000000_e0000000, DELETION);
-    assert_eq!(rt; table.put(deletion), Ok(Put::Deleted));
+    same!(rt; table.put(deletion), Ok(Put::Deleted));
     let found = used(table, alloc, 0x8100, &DOUBLE, 0x0800)?;
-    assert_eq!(rt; found, None, "two tags, of which no entry is left");
-    assert_eq!(rt; table.put(deletion), Ok(Put::Absent));
+    same!(rt; found, None, "two tags, of which no entry is left");
+    same!(rt; table.put(deletion), Ok(Put::Absent));
     Ok(())
 }
 
@@ -392,17 +392,17 @@ fn look_at_order(rt: &impl Abort, alloc: Global, table: &mut RuleTable) -> Resul
         ("A is set again", first, Put::Added, second_again),
     ];
     for (what, put, told, used_entry) in rows {
-        assert_eq!(rt; table.check(&put), Ok(told), "{what}");
-        assert_eq!(rt; table.put(put), Ok(told), "{what}");
+        same!(rt; table.check(&put), Ok(told), "{what}");
+        same!(rt; table.put(put), Ok(told), "{what}");
         let place = used(table, alloc, 0x8100, &[], 0x0800)?;
-        assert_eq!(rt; place, Some(3), "{what}");
-        assert_eq!(rt; table.entry(3), Some(used_entry), "{what}");
+        same!(rt; place, Some(3), "{what}");
+        same!(rt; table.entry(3), Some(used_entry), "{what}");
     }
-    assert_eq!(rt; table.len(), 5);
-    assert_eq!(rt; table.entry(4), Some(first));
-    assert_eq!(rt; table.entry(5), None);
-    assert_eq!(rt; table.rule(4).map(|rule| rule.filter), Some(Filter::NoTag));
-    assert!(rt; table.rule(5).is_none());
+    same!(rt; table.len(), 5);
+    same!(rt; table.entry(4), Some(first));
+    same!(rt; table.entry(5), None);
+    same!(rt; table.rule(4).map(|rule| rule.filter), Some(Filter::NoTag));
+    holds!(rt; table.rule(5).is_none());
     Ok(())
 }
 
@@ -416,24 +416,24 @@ fn a_deleted_key_set_again_goes_last(rt: HostRuntime) -> Result<(), Fail> {
 fn look_at_full(rt: &impl Abort, table: &mut RuleTable) {
     for vid in 1..126 {
         let put = table.put(entry(0xf8000000_80000000 + vid * 32768, UNCHANGED));
-        assert_eq!(rt; put, Ok(Put::Added), "VID {vid}");
+        same!(rt; put, Ok(Put::Added), "VID {vid}");
     }
-    assert_eq!(rt; table.len(), 128);
-    assert_eq!(rt; TABLE_MAX_SIZE, 128);
+    same!(rt; table.len(), 128);
+    same!(rt; TABLE_MAX_SIZE, 128);
     let one_more = entry(0xf8000000_803f0000, UNCHANGED);
-    assert_eq!(rt; table.check(&one_more), Err(TableFault::Full));
-    assert_eq!(rt; table.put(one_more), Err(TableFault::Full));
-    assert_eq!(rt; table.len(), 128);
-    assert_eq!(rt; table.entry(128), None);
+    same!(rt; table.check(&one_more), Err(TableFault::Full));
+    same!(rt; table.put(one_more), Err(TableFault::Full));
+    same!(rt; table.len(), 128);
+    same!(rt; table.entry(128), None);
     let held = entry(0xf8000000_803e8000, DROPPED);
-    assert_eq!(rt; table.put(held), Ok(Put::Replaced));
-    assert_eq!(rt; table.entry(127), Some(held));
-    assert_eq!(rt; table.len(), 128);
+    same!(rt; table.put(held), Ok(Put::Replaced));
+    same!(rt; table.entry(127), Some(held));
+    same!(rt; table.len(), 128);
     table.reset();
-    assert_eq!(rt; table.len(), 3);
-    assert_eq!(rt; table.entry(0), Some(entry(0xf0000000_f0000000, UNCHANGED)));
-    assert_eq!(rt; table.entry(1), Some(entry(0xf0000000_e0000000, UNCHANGED)));
-    assert_eq!(rt; table.entry(2), Some(entry(0xe0000000_e0000000, UNCHANGED)));
+    same!(rt; table.len(), 3);
+    same!(rt; table.entry(0), Some(entry(0xf0000000_f0000000, UNCHANGED)));
+    same!(rt; table.entry(1), Some(entry(0xf0000000_e0000000, UNCHANGED)));
+    same!(rt; table.entry(2), Some(entry(0xe0000000_e0000000, UNCHANGED)));
 }
 
 #[test]
@@ -456,10 +456,10 @@ fn look_at_refused(rt: &impl Abort, table: &mut RuleTable) {
     ];
     for (key, rest, fault) in rows {
         let refused = table.put(entry(key, rest));
-        assert_eq!(rt; refused, Err(TableFault::Bad(fault)));
-        assert_eq!(rt; table.len(), 3);
+        same!(rt; refused, Err(TableFault::Bad(fault)));
+        same!(rt; table.len(), 3);
         let deleted = table.put(entry(key, DELETION));
-        assert_eq!(rt; deleted, Ok(Put::Absent), "a deletion isn't checked");
+        same!(rt; deleted, Ok(Put::Absent), "a deletion isn't checked");
     }
 }
 
@@ -480,7 +480,7 @@ fn look_at_kinds(rt: &impl Abort, alloc: Global, table: &mut RuleTable) -> Resul
         0xe8000000_e8000004,
     ];
     for key in keys {
-        assert_eq!(rt; table.put(entry(key, UNCHANGED)), Ok(Put::Added));
+        same!(rt; table.put(entry(key, UNCHANGED)), Ok(Put::Added));
     }
     let rows = [
         ("no tag", &[][..], 0x0800, 0),
@@ -507,7 +507,7 @@ fn look_at_kinds(rt: &impl Abort, alloc: Global, table: &mut RuleTable) -> Resul
     ];
     for (what, tags, ethertype, place) in rows {
         let found = used(table, alloc, 0x8100, tags, ethertype)?;
-        assert_eq!(rt; found, Some(place), "{what}");
+        same!(rt; found, Some(place), "{what}");
     }
     Ok(())
 }
@@ -585,13 +585,13 @@ fn a_tag_filter_asks_for_priority_vid_tpid_and_de(rt: HostRuntime) -> Result<(),
             &[tag],
             0x0800,
         )?;
-        assert_eq!(rt; one, want, "{what}");
+        same!(rt; one, want, "{what}");
         let outer = 0x88000000 | filter << 32;
         let first = is_used(rt.alloc(), outer, 0x9100, &[tag, 0x88a80001], 0x0800)?;
-        assert_eq!(rt; first, want, "{what}, of the outer tag");
+        same!(rt; first, want, "{what}, of the outer tag");
         let inner = 0x88000000_00000000 | filter;
         let last = is_used(rt.alloc(), inner, 0x9100, &[0x88a80001, tag], 0x0800)?;
-        assert_eq!(rt; last, want, "{what}, of the inner tag");
+        same!(rt; last, want, "{what}, of the inner tag");
     }
     Ok(())
 }
@@ -611,7 +611,7 @@ fn an_ethertype_filter_asks_for_the_type_behind_the_tags(rt: HostRuntime) -> Res
         for (ethertype, want) in types.iter().zip(wants.iter()) {
             let key = 0xf8000000_88000000 | code;
             let found = is_used(rt.alloc(), key, 0x8100, &[0x81000064], *ethertype)?;
-            assert_eq!(rt; found, *want, "code {code}, type {ethertype:x}");
+            same!(rt; found, *want, "code {code}, type {ethertype:x}");
         }
     }
     law_of_choice();

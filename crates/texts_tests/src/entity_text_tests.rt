@@ -1,5 +1,6 @@
 //! Rules, entries and values in words.
 use entity_text::{EntityWords, EntryWords, HexWords, TagWords, ValueWords};
+use fixtures::same;
 use managed_entity::AttributeKind;
 use std::alloc::{AllocError, Global};
 use std::test::Fail;
@@ -56,7 +57,7 @@ fn an_entry_is_its_rule_in_words(rt: HostRuntime) -> Result<(), Fail> {
         ),
     ] {
         let words = entry_words(rt.alloc(), digits)?;
-        assert_eq!(rt; words.as_str(), wanted, "{digits}");
+        same!(rt; words.as_str(), wanted, "{digits}");
     }
     Ok(())
 }
@@ -85,7 +86,7 @@ fn a_value_is_shown_by_its_kind(rt: HostRuntime) -> Result<(), Fail> {
         (AttributeKind::Table, [0, 0, 0, 64].as_slice(), "64 bytes"),
     ] {
         let words = ValueWords { kind, bytes }.to_string(rt.alloc())?;
-        assert_eq!(rt; words.as_str(), wanted);
+        same!(rt; words.as_str(), wanted);
     }
     Ok(())
 }
@@ -105,7 +106,7 @@ fn an_instance_is_named_by_its_class(rt: HostRuntime) -> Result<(), AllocError> 
     ] {
         let instance = 0x0601;
         let words = EntityWords { class, instance }.to_string(rt.alloc())?;
-        assert_eq!(rt; words.as_str(), wanted);
+        same!(rt; words.as_str(), wanted);
     }
     Ok(())
 }
@@ -113,7 +114,7 @@ fn an_instance_is_named_by_its_class(rt: HostRuntime) -> Result<(), AllocError> 
 #[test]
 fn bytes_are_digits_and_a_tag_is_its_fields(rt: HostRuntime) -> Result<(), AllocError> {
     let words = HexWords(&[0, 0xab, 7]).to_string(rt.alloc())?;
-    assert_eq!(rt; words.as_str(), "00ab07");
+    same!(rt; words.as_str(), "00ab07");
     let tag = Tag {
         tpid: 0x88a8,
         pcp: 3,
@@ -121,6 +122,6 @@ fn bytes_are_digits_and_a_tag_is_its_fields(rt: HostRuntime) -> Result<(), Alloc
         vid: 100,
     };
     let words = TagWords(&tag).to_string(rt.alloc())?;
-    assert_eq!(rt; words.as_str(), "priority 3, DEI 1, VID 100, TPID 0x88a8");
+    same!(rt; words.as_str(), "priority 3, DEI 1, VID 100, TPID 0x88a8");
     Ok(())
 }

@@ -1,5 +1,6 @@
 //! Frames as text.
 use crate::message_text_tests::decoded;
+use fixtures::same;
 use std::test::Fail;
 
 #[test]
@@ -42,7 +43,7 @@ fn a_frame_is_shown_as_it_is_read(rt: HostRuntime) -> Result<(), Fail> {
         ),
     ] {
         let written = decoded(rt.alloc(), line)?;
-        assert_eq!(rt; written.as_slice(), wanted.as_bytes(), "{line}");
+        same!(rt; written.as_slice(), wanted.as_bytes(), "{line}");
     }
     Ok(())
 }

@@ -1,5 +1,5 @@
 //! What decoding a script writes, and where it ends.
-use fixtures::push_message;
+use fixtures::{holds, push_message, same};
 use message_text::{DecodeFault, decode};
 use std::alloc::{AllocError, Global};
 use std::io;
@@ -34,7 +34,7 @@ fn comments_and_empty_lines_stay_and_short_answers_have_words(rt: HostRuntime) -
         message with fault 4: the device identifier isn't 10\n\
         dropped, reason 0, which no reason has\n\
         message with fault 9, which no fault has\n\r\n# no line feed\n";
-    assert_eq!(rt; written.as_slice(), wanted.as_bytes());
+    same!(rt; written.as_slice(), wanted.as_bytes());
     Ok(())
 }
 
@@ -56,8 +56,8 @@ fn a_bad_line_ends_the_decoding_behind_the_lines_before_it(rt: HostRuntime) -> R
         let mut written = Vec::new(rt.alloc());
         let mut reader = script.as_bytes();
         let outcome = decode(rt.alloc(), &mut reader, &mut written);
-        assert_eq!(rt; outcome, Err(DecodeFault::BadLine(3)), "{bad}");
-        assert_eq!(rt;
+        same!(rt; outcome, Err(DecodeFault::BadLine(3)), "{bad}");
+        same!(rt;
             written.as_slice(),
             "no answer wanted\n# c\n".as_bytes(),
             "{bad}"
@@ -74,9 +74,9 @@ fn a_fault_has_words_and_a_status(rt: HostRuntime) -> Result<(), AllocError> {
         (DecodeFault::Write, "write failed", 1),
         (DecodeFault::NoMemory, "no memory", 1),
     ] {
-        assert_eq!(rt; fault.status(), status);
+        same!(rt; fault.status(), status);
         let text = fault.to_string(rt.alloc())?;
-        assert_eq!(rt; text.as_str(), words);
+        same!(rt; text.as_str(), words);
     }
     Ok(())
 }
@@ -105,15 +105,15 @@ fn a_reader_that_fails_and_a_writer_that_is_full_end_the_decoding(
     let mut written = Vec::new(rt.alloc());
     let mut failing = Failing { has_given: false };
     let outcome = decode(rt.alloc(), &mut failing, &mut written);
-    assert_eq!(rt; outcome, Err(DecodeFault::Read));
-    assert!(rt; written.is_empty());
+    same!(rt; outcome, Err(DecodeFault::Read));
+    holds!(rt; written.is_empty());
     for room in 0..17 {
         let mut bytes = [0; 17];
         let mut writer = &mut bytes[..room];
         let mut reader = "-\n".as_bytes();
         let outcome = decode(rt.alloc(), &mut reader, &mut writer);
-        assert_eq!(rt; outcome, Err(DecodeFault::Write), "{room} bytes");
-        assert_eq!(rt; &bytes[..room], &"no answer wanted\n".as_bytes()[..room]);
+        same!(rt; outcome, Err(DecodeFault::Write), "{room} bytes");
+        same!(rt; &bytes[..room], &"no answer wanted\n".as_bytes()[..room]);
     }
     Ok(())
 }

@@ -2,6 +2,7 @@
 use crate::reading;
 use draws::request;
 use entity_text::{TextFault, write_mib, write_mib_json};
+use fixtures::{holds, same};
 use mib_state::Mib;
 use omci_msg::Action;
 use serde_json::Value;
@@ -63,11 +64,11 @@ fn a_mib_is_written_by_class_and_instance(rt: HostRuntime) -> Result<(), Fail> {
 fn write_and_reset(rt: &impl Abort, alloc: Global, mib: &mut Mib) -> Result<(), Fail> {
     let mut written = Vec::new(alloc);
     write_mib(alloc, mib, &mut written)?;
-    assert_eq!(rt; written.as_slice(), TEXT.as_bytes());
+    same!(rt; written.as_slice(), TEXT.as_bytes());
     let _ = mib.step(&request(Action::MibReset, 2, 0, &[]));
     let mut written = Vec::new(alloc);
     write_mib(alloc, mib, &mut written)?;
-    assert_eq!(rt; written.as_slice(), EMPTY.as_bytes());
+    same!(rt; written.as_slice(), EMPTY.as_bytes());
     Ok(())
 }
 
@@ -83,8 +84,8 @@ fn write_in_little_room(rt: &impl Abort, alloc: Global, mib: &Mib) -> Result<(),
         let mut bytes = [0; 60];
         let mut writer = &mut bytes[..room];
         let outcome = write_mib(alloc, mib, &mut writer);
-        assert_eq!(rt; outcome, Err(TextFault::Write), "{room} bytes");
-        assert_eq!(rt; &bytes[..room], &TEXT.as_bytes()[..room]);
+        same!(rt; outcome, Err(TextFault::Write), "{room} bytes");
+        same!(rt; &bytes[..room], &TEXT.as_bytes()[..room]);
     }
     Ok(())
 }
@@ -119,7 +120,7 @@ fn look_at_json(rt: &impl Abort, alloc: Global, value: &Value) -> Result<(), Fai
         ("/entities/2/attributes/T-CONT pointer", 0x8001),
     ] {
         let found = value.pointer(path).and_then(Value::as_u64);
-        assert_eq!(rt; found, Some(wanted), "{path}");
+        same!(rt; found, Some(wanted), "{path}");
     }
     for (member, wanted) in [
         ("entry", "f8000000f8000000000f000000000324"),
@@ -131,9 +132,9 @@ fn look_at_json(rt: &impl Abort, alloc: Global, value: &Value) -> Result<(), Fai
     ] {
         let path = format!(in alloc; "{table}/3/{member}")?;
         let found = value.pointer(&path).and_then(Value::as_str);
-        assert_eq!(rt; found, Some(wanted), "{member}");
+        same!(rt; found, Some(wanted), "{member}");
     }
-    assert!(rt; value.pointer("/entities/3").is_none());
+    holds!(rt; value.pointer("/entities/3").is_none());
     Ok(())
 }
 
@@ -145,6 +146,6 @@ fn json_of_a_mib_without_an_instance_is_one_line_of_an_entity(rt: HostRuntime) -
     write_mib_json(alloc, &mib, &mut written)?;
     let wanted = "{\"mib_data_sync\":0,\"entities\":[\n\
         {\"class\":2,\"class_name\":\"ONU data\",\"instance\":0,\"attributes\":{\"MIB data sync\":0}}\n]}\n";
-    assert_eq!(rt; written.as_slice(), wanted.as_bytes());
+    same!(rt; written.as_slice(), wanted.as_bytes());
     Ok(())
 }

@@ -1,4 +1,5 @@
 //! JSON that is read back, compared in tests.
+use fixtures::same;
 use serde_json::Value;
 use std::alloc::Global;
 use std::process::Abort;
@@ -16,7 +17,7 @@ pub(crate) fn check_number(rt: &impl Abort, value: &Value, path: &str, wanted: O
         Some(member) => member.as_u64(),
         None => None,
     };
-    assert_eq!(rt; found, wanted, "{path}");
+    same!(rt; found, wanted, "{path}");
 }
 
 /// Compares the words at a path.
@@ -25,5 +26,5 @@ pub(crate) fn check_words(rt: &impl Abort, value: &Value, path: &str, wanted: &s
         Some(member) => member.as_str(),
         None => None,
     };
-    assert_eq!(rt; found, Some(wanted), "{path}");
+    same!(rt; found, Some(wanted), "{path}");
 }

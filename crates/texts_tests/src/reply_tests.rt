@@ -1,5 +1,6 @@
 //! Replies as text.
 use crate::message_text_tests::decoded_message;
+use fixtures::same;
 use std::test::Fail;
 
 /// Replies by their digits, and their texts.
@@ -79,7 +80,7 @@ result 9 (attributes failed or unknown)
 fn a_reply_is_shown_by_its_result_and_what_it_returns(rt: HostRuntime) -> Result<(), Fail> {
     for (digits, wanted) in REPLIES {
         let written = decoded_message(rt.alloc(), "r ", digits)?;
-        assert_eq!(rt; written.as_slice(), wanted.as_bytes(), "{digits}");
+        same!(rt; written.as_slice(), wanted.as_bytes(), "{digits}");
     }
     Ok(())
 }
@@ -111,7 +112,7 @@ fn each_result_of_each_action_has_its_name(rt: HostRuntime) -> Result<(), Fail> 
             let wanted = format!(in rt.alloc();
                 "reply 0x0001: {action}, unknown class (265) 0x0001, result {result} ({name})\n"
             )?;
-            assert_eq!(rt; written.as_slice(), wanted.as_bytes());
+            same!(rt; written.as_slice(), wanted.as_bytes());
         }
     }
     Ok(())
@@ -124,6 +125,6 @@ fn what_is_no_reply_is_shown_by_its_fault(rt: HostRuntime) -> Result<(), Fail> {
 expected 0 and 1 of a reply
   bytes: 0001440a010c040100000000000000000000000000000000000000000000000000000000000000000000002800000000
 ";
-    assert_eq!(rt; written.as_slice(), wanted.as_bytes());
+    same!(rt; written.as_slice(), wanted.as_bytes());
     Ok(())
 }

@@ -1,5 +1,6 @@
 //! Requests as text.
 use crate::message_text_tests::{decoded, decoded_message};
+use fixtures::same;
 use std::test::Fail;
 
 /// Messages by their digits, and their texts.
@@ -93,7 +94,7 @@ add inner tag (priority 0, VID 100, TPID 0x8100, DEI 0)
 fn a_request_is_shown_by_the_names_of_what_it_says(rt: HostRuntime) -> Result<(), Fail> {
     for (digits, wanted) in REQUESTS {
         let written = decoded_message(rt.alloc(), "o ", digits)?;
-        assert_eq!(rt; written.as_slice(), wanted.as_bytes(), "{digits}");
+        same!(rt; written.as_slice(), wanted.as_bytes(), "{digits}");
     }
     Ok(())
 }
@@ -103,11 +104,11 @@ fn a_message_with_a_fault_is_shown_by_it(rt: HostRuntime) -> Result<(), Fail> {
     let written = decoded(rt.alloc(), "o 0001440a\no\u{20}\n")?;
     let wanted = "message with fault 1: message of 4 bytes, expected 48 or 44\n  bytes: 0001440a\n\
         message with fault 1: message of 0 bytes, expected 48 or 44\n  bytes: \n";
-    assert_eq!(rt; written.as_slice(), wanted.as_bytes());
+    same!(rt; written.as_slice(), wanted.as_bytes());
     let written = decoded_message(rt.alloc(), "o ", "0001440b")?;
     let wanted = "message with fault 4: device identifier 11, expected 10
   bytes: 0001440b0000000000000000000000000000000000000000000000000000000000000000000000000000002800000000
 ";
-    assert_eq!(rt; written.as_slice(), wanted.as_bytes());
+    same!(rt; written.as_slice(), wanted.as_bytes());
     Ok(())
 }

@@ -3,6 +3,7 @@ use crate::reading::{check_number, check_words, read_back};
 use draws::request;
 use entity_text::TextFault;
 use explain_text::{write_rules, write_rules_json};
+use fixtures::{holds, same};
 use mib_state::Mib;
 use omci_msg::Action;
 use serde_json::Value;
@@ -101,7 +102,7 @@ fn check_rules(
     wanted: &str,
 ) -> Result<(), TextFault> {
     let written = rules_of(alloc, mib, port)?;
-    assert_eq!(rt; written.as_slice(), wanted.as_bytes());
+    same!(rt; written.as_slice(), wanted.as_bytes());
     Ok(())
 }
 
@@ -114,7 +115,7 @@ fn check_front(
     front: &str,
 ) -> Result<(), TextFault> {
     let written = rules_of(alloc, mib, port)?;
-    assert!(rt; written.as_slice().starts_with(front.as_bytes()));
+    holds!(rt; written.as_slice().starts_with(front.as_bytes()));
     Ok(())
 }
 
@@ -203,6 +204,6 @@ fn json_of_no_table(alloc: Global) -> Result<Vec<u8>, TextFault> {
 #[test]
 fn json_of_a_port_without_a_table_has_no_entries(rt: HostRuntime) -> Result<(), TextFault> {
     let written = json_of_no_table(rt.alloc())?;
-    assert_eq!(rt; written.as_slice(), NO_ENTRIES.as_bytes());
+    same!(rt; written.as_slice(), NO_ENTRIES.as_bytes());
     Ok(())
 }

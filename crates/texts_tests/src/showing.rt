@@ -1,6 +1,7 @@
 //! Steps as texts, to be compared in tests.
 use draws::{PORT_257, message};
 use explain::{OutgoingTag, Step, TableInForce, TagOrigin, explain};
+use fixtures::{holds, same};
 use frame_meaning::Verdict;
 use mib_state::Mib;
 use omci_msg::read;
@@ -23,8 +24,8 @@ pub(crate) enum Act {
 /// Carries out the request that begins with these digits.
 fn apply(rt: &impl Abort, mib: &mut Mib, digits: &str) {
     match read(&message(digits)) {
-        Ok(request) => assert_eq!(rt; mib.step(&request).contents[0], 0, "{digits}"),
-        Err(_) => assert!(rt; false, "{digits}"),
+        Ok(request) => same!(rt; mib.step(&request).contents[0], 0, "{digits}"),
+        Err(_) => holds!(rt; false, "{digits}"),
     }
 }
 
@@ -139,7 +140,7 @@ fn check_steps(
     want: &str,
 ) -> Result<(), AllocError> {
     let text = explained(alloc, mib, port, frame)?;
-    assert_eq!(rt; text.as_str(), want);
+    same!(rt; text.as_str(), want);
     Ok(())
 }
 

@@ -3,6 +3,7 @@ use crate::reading::{check_number, check_words, read_back};
 use crate::rules_tests::{let_go, port_257};
 use entity_text::TextFault;
 use explain_text::{write_explanation, write_explanation_json};
+use fixtures::{holds, same};
 use mib_state::Mib;
 use serde_json::Value;
 use std::alloc::Global;
@@ -98,7 +99,7 @@ fn check_explanation(
     wanted: &str,
 ) -> Result<(), Fail> {
     let written = explanation_of(alloc, mib, port, digits)?;
-    assert_eq!(rt; written.as_slice(), wanted.as_bytes(), "{digits}");
+    same!(rt; written.as_slice(), wanted.as_bytes(), "{digits}");
     Ok(())
 }
 
@@ -232,7 +233,7 @@ fn json_of_an_explanation_is_read_back(rt: HostRuntime) -> Result<(), Fail> {
     let value = value_of_second(rt.alloc())?;
     check_numbers(&rt, &value);
     check_all_words(&rt, &value);
-    assert!(rt; value.pointer("/13").is_none());
+    holds!(rt; value.pointer("/13").is_none());
     Ok(())
 }
 
@@ -241,8 +242,8 @@ fn check_full(rt: &impl Abort, alloc: Global, mib: &Mib, frame: &[u8], bytes: &m
     let room = bytes.len();
     let mut writer = &mut bytes[..];
     let outcome = write_explanation(alloc, mib, 257, frame, &mut writer);
-    assert_eq!(rt; outcome, Err(TextFault::Write), "{room} bytes");
-    assert!(rt; FRONT.as_bytes().starts_with(bytes));
+    same!(rt; outcome, Err(TextFault::Write), "{room} bytes");
+    holds!(rt; FRONT.as_bytes().starts_with(bytes));
 }
 
 /// Tries each number of bytes below 60.

@@ -1,6 +1,7 @@
 //! The order of a table's entries, and the entries that are never used.
 
 use explain::{number_of, shadow_of, tried_order};
+use fixtures::same;
 use std::alloc::Global;
 use std::process::Abort;
 use std::test::Fail;
@@ -21,22 +22,22 @@ fn table(alloc: Global, keys: &[[u32; 2]]) -> Result<RuleTable, Fail> {
 /// Checks the number of each entry of a table, which is its place in the order.
 fn check_numbers(rt: &impl Abort, table: &RuleTable, order: &[usize]) {
     for (number, place) in order.iter().enumerate() {
-        assert_eq!(rt; number_of(table, *place), Some(number), "place {place}");
+        same!(rt; number_of(table, *place), Some(number), "place {place}");
     }
 }
 
 /// Checks by which entry each is never used.
 fn check_shadows(rt: &impl Abort, table: &RuleTable, shadows: &[Option<usize>]) {
     for (place, shadow) in shadows.iter().enumerate() {
-        assert_eq!(rt; shadow_of(table, place), *shadow, "place {place}");
+        same!(rt; shadow_of(table, place), *shadow, "place {place}");
     }
 }
 
 /// Checks the order of a table's entries, the number of each, and by which one each is never used.
 fn check(rt: &impl Abort, table: &RuleTable, order: &[usize], shadows: &[Option<usize>]) {
-    assert_eq!(rt; tried_order(table).as_slice(), order);
+    same!(rt; tried_order(table).as_slice(), order);
     check_numbers(rt, table, order);
-    assert_eq!(rt; number_of(table, order.len()), None);
+    same!(rt; number_of(table, order.len()), None);
     check_shadows(rt, table, shadows);
 }
 

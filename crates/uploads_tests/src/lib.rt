@@ -3,6 +3,8 @@
 #![tactic(auto)]
 
 #[cfg(test)]
+mod asserting;
+#[cfg(test)]
 mod mib_trace_tests;
 #[cfg(test)]
 mod mib_upload_tests;

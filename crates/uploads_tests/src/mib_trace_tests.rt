@@ -1,5 +1,5 @@
 //! Which entities a trace leaves, and which traces are refused.
-use fixtures::push_message;
+use fixtures::{holds, push_message, same};
 use mib_state::Mib;
 use mib_trace::{apply_trace, first_bad_line};
 use std::alloc::{AllocError, Global};
@@ -28,12 +28,12 @@ fn a_trace_leaves_what_its_accepted_messages_leave(rt: HostRuntime) -> Result<()
             "0005490a010c04018000",
         ],
     )?;
-    assert_eq!(rt; first_bad_line(trace.as_bytes()), None);
-    assert_eq!(rt; apply_trace(&mut mib, trace.as_bytes()), Ok(()));
-    assert_eq!(rt; mib.sync(), 2);
+    same!(rt; first_bad_line(trace.as_bytes()), None);
+    same!(rt; apply_trace(&mut mib, trace.as_bytes()), Ok(()));
+    same!(rt; mib.sync(), 2);
     let port_id = mib.gem_port(0x0401).map(|port| port.port_id);
-    assert_eq!(rt; port_id, Some(1025));
-    assert!(rt; mib.gem_port(0x0402).is_none());
+    same!(rt; port_id, Some(1025));
+    holds!(rt; mib.gem_port(0x0402).is_none());
     Ok(())
 }
 
@@ -48,13 +48,13 @@ fn a_trace_with_a_frame_or_a_bad_line_is_refused_whole(rt: HostRuntime) -> Resul
         let mut mib = Mib::new(rt.alloc())?;
         let mut trace = trace_of(rt.alloc(), &["0001440a010c04010400800103"])?;
         trace.push_str(behind)?;
-        assert_eq!(rt;
+        same!(rt;
             apply_trace(&mut mib, trace.as_bytes()),
             Err(line),
             "{behind}"
         );
-        assert_eq!(rt; mib.sync(), 0);
-        assert!(rt; mib.gem_port(0x0401).is_none());
+        same!(rt; mib.sync(), 0);
+        holds!(rt; mib.gem_port(0x0401).is_none());
     }
     Ok(())
 }
@@ -69,7 +69,7 @@ fn the_first_line_that_may_not_stand_is_found(rt: HostRuntime) -> Result<(), Fai
         ("x", Some(1)),
     ];
     for (trace, expected) in &cases {
-        assert_eq!(rt; first_bad_line(trace.as_bytes()), *expected, "{trace}");
+        same!(rt; first_bad_line(trace.as_bytes()), *expected, "{trace}");
     }
     Ok(())
 }

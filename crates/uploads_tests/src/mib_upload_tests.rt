@@ -1,4 +1,5 @@
 use draws::{contents, create_interwork, create_table, request};
+use fixtures::same;
 use mib_state::Mib;
 use mib_upload::{Desk, Shelf, law_of_rows};
 use omci_msg::{Action, OtherCode, Reply, Request};
@@ -75,20 +76,20 @@ fn upload_twice(rt: &impl Abort, desk: &mut Desk) -> Result<(), Fail> {
         instance: 0,
         contents: contents(&[0, 7]),
     };
-    assert_eq!(rt; reply, wanted);
-    assert_eq!(rt; desk.answer(&create_gem_port(0x0402)).contents, [0; 32]);
+    same!(rt; reply, wanted);
+    same!(rt; desk.answer(&create_gem_port(0x0402)).contents, [0; 32]);
     for (n, row) in (0..7).zip(&ROWS) {
         let reply = desk.answer(&upload_next(n));
-        assert_eq!(rt; reply.contents, contents(row), "row {n}");
+        same!(rt; reply.contents, contents(row), "row {n}");
     }
-    assert_eq!(rt; desk.answer(&upload_next(7)).contents, [0; 32]);
-    assert_eq!(rt; desk.answer(&upload_next(0xffff)).contents, [0; 32]);
-    assert_eq!(rt; desk.answer(&upload()).contents, contents(&[0, 8]));
-    assert_eq!(rt;
+    same!(rt; desk.answer(&upload_next(7)).contents, [0; 32]);
+    same!(rt; desk.answer(&upload_next(0xffff)).contents, [0; 32]);
+    same!(rt; desk.answer(&upload()).contents, contents(&[0, 8]));
+    same!(rt;
         desk.answer(&upload_next(0)).contents,
         contents(&[0, 2, 0, 0, 0x80, 0, 5])
     );
-    assert_eq!(rt; desk.mib().sync(), 5);
+    same!(rt; desk.mib().sync(), 5);
     Ok(())
 }
 
@@ -102,7 +103,7 @@ fn before_an_upload_there_is_no_row(rt: HostRuntime) -> Result<(), Fail> {
 fn ask_before_an_upload(rt: &impl Abort, desk: &mut Desk) -> Result<(), Fail> {
     for n in [0, 1, 0xffff] {
         let reply = desk.answer(&upload_next(n));
-        assert_eq!(rt; reply.contents, [0; 32], "row {n}");
+        same!(rt; reply.contents, [0; 32], "row {n}");
     }
     Ok(())
 }
@@ -119,18 +120,18 @@ fn upload_and_reset(rt: &impl Abort, desk: &mut Desk) -> Result<(), Fail> {
     unanswered.wants_answer = false;
     let _ = desk.answer(&unanswered);
     let reset = request(Action::MibReset, 2, 0, &[]);
-    assert_eq!(rt; desk.answer(&reset).contents, [0; 32]);
-    assert_eq!(rt; desk.mib().sync(), 0);
+    same!(rt; desk.answer(&reset).contents, [0; 32]);
+    same!(rt; desk.mib().sync(), 0);
     for (n, row) in (0..7).zip(&ROWS) {
         let reply = desk.answer(&upload_next(n));
-        assert_eq!(rt; reply.contents, contents(row), "row {n}");
+        same!(rt; reply.contents, contents(row), "row {n}");
     }
-    assert_eq!(rt; desk.answer(&upload()).contents, contents(&[0, 1]));
-    assert_eq!(rt;
+    same!(rt; desk.answer(&upload()).contents, contents(&[0, 1]));
+    same!(rt;
         desk.answer(&upload_next(0)).contents,
         contents(&[0, 2, 0, 0, 0x80])
     );
-    assert_eq!(rt; desk.answer(&upload_next(1)).contents, [0; 32]);
+    same!(rt; desk.answer(&upload_next(1)).contents, [0; 32]);
     Ok(())
 }
 
@@ -143,11 +144,11 @@ fn uploads_look_at_no_class_and_no_instance(rt: HostRuntime) -> Result<(), Fail>
 /// Uploads with another class and instance.
 fn upload_of_another_class(rt: &impl Abort, desk: &mut Desk) -> Result<(), Fail> {
     let first = desk.answer(&request(Action::MibUpload, 45, 7, &[]));
-    assert_eq!(rt; (first.class, first.instance), (45, 7));
-    assert_eq!(rt; first.contents, contents(&[0, 7]));
+    same!(rt; (first.class, first.instance), (45, 7));
+    same!(rt; first.contents, contents(&[0, 7]));
     let next = desk.answer(&request(Action::MibUploadNext, 0xffff, 9, &[0, 4]));
-    assert_eq!(rt; (next.class, next.instance), (0xffff, 9));
-    assert_eq!(rt; next.contents, contents(&[0, 0xab, 7, 1, 1]));
+    same!(rt; (next.class, next.instance), (0xffff, 9));
+    same!(rt; next.contents, contents(&[0, 0xab, 7, 1, 1]));
     Ok(())
 }
 
@@ -162,16 +163,16 @@ fn count_round(rt: &impl Abort, desk: &mut Desk) -> Result<(), Fail> {
     let reset = request(Action::MibReset, 2, 0, &[]);
     let read = request(Action::Get, 2, 0, &[0x80, 0]);
     let write = request(Action::Set, 268, 0x0401, &[0x80, 0, 4, 0]);
-    assert_eq!(rt; desk.answer(&reset).contents, [0; 32]);
-    assert_eq!(rt; desk.answer(&create_gem_port(0x0401)).contents, [0; 32]);
+    same!(rt; desk.answer(&reset).contents, [0; 32]);
+    same!(rt; desk.answer(&create_gem_port(0x0401)).contents, [0; 32]);
     for n in 0..254 {
-        assert_eq!(rt; desk.answer(&write).contents, [0; 32], "Set {n}");
+        same!(rt; desk.answer(&write).contents, [0; 32], "Set {n}");
     }
-    assert_eq!(rt; desk.answer(&read).contents, contents(&[0, 0x80, 0, 0xff]));
-    assert_eq!(rt; desk.answer(&write).contents, [0; 32]);
-    assert_eq!(rt; desk.answer(&read).contents, contents(&[0, 0x80, 0, 1]));
-    assert_eq!(rt; desk.answer(&reset).contents, [0; 32]);
-    assert_eq!(rt; desk.answer(&read).contents, contents(&[0, 0x80, 0, 0]));
+    same!(rt; desk.answer(&read).contents, contents(&[0, 0x80, 0, 0xff]));
+    same!(rt; desk.answer(&write).contents, [0; 32]);
+    same!(rt; desk.answer(&read).contents, contents(&[0, 0x80, 0, 1]));
+    same!(rt; desk.answer(&reset).contents, [0; 32]);
+    same!(rt; desk.answer(&read).contents, contents(&[0, 0x80, 0, 0]));
     Ok(())
 }
 
@@ -216,16 +217,16 @@ fn ask_for_steps(rt: &impl Abort, desk: &mut Desk) -> Result<(), Fail> {
         ),
     ] {
         let reply = desk.answer(&request);
-        assert_eq!(rt; reply.contents, contents(&wanted), "the answer to {what}");
+        same!(rt; reply.contents, contents(&wanted), "the answer to {what}");
     }
     for n in 0..255 {
-        assert_eq!(rt;
+        same!(rt;
             desk.answer(&create_gem_port(n)).contents,
             [0; 32],
             "the answer to GEM port {n}"
         );
     }
-    assert_eq!(rt; desk.answer(&create_gem_port(255)).contents, contents(&[1]));
+    same!(rt; desk.answer(&create_gem_port(255)).contents, contents(&[1]));
     Ok(())
 }
 
@@ -238,7 +239,7 @@ fn an_upload_of_all_that_there_may_be_has_609_rows(rt: HostRuntime) -> Result<()
 
 /// Creates as many instances as there may be, and uploads them twice.
 fn upload_all(rt: &impl Abort, mib: &mut Mib, shelf: &mut Shelf) -> Result<(), Fail> {
-    assert_eq!(rt; shelf.row(0).is_none(), true, "a new shelf holds no row");
+    same!(rt; shelf.row(0).is_none(), true, "a new shelf holds no row");
     for n in 0..256 {
         let _ = mib.step(&create_gem_port(n));
         let _ = mib.step(&create_interwork(n));
@@ -250,7 +251,7 @@ fn upload_all(rt: &impl Abort, mib: &mut Mib, shelf: &mut Shelf) -> Result<(), F
         }
     }
     for what in ["the first upload", "the second upload"] {
-        assert_eq!(rt; shelf.fill(mib), 609, "the rows of {what}");
+        same!(rt; shelf.fill(mib), 609, "the rows of {what}");
         for (n, class, instance, mask, len) in [
             (0, 2, 0, 0x8000, 1),
             (1, 130, 0, 0xffc0, 19),
@@ -263,14 +264,14 @@ fn upload_all(rt: &impl Abort, mib: &mut Mib, shelf: &mut Shelf) -> Result<(), F
             (608, 268, 255, 0xffc0, 16),
         ] {
             let row = shelf.row(n).ok_or("a row is missing")?;
-            assert_eq!(rt;
+            same!(rt;
                 (row.class, row.instance, row.mask),
                 (class, instance, mask),
                 "row {n} of {what}"
             );
-            assert_eq!(rt; row.values.len(), len, "the bytes of row {n}");
+            same!(rt; row.values.len(), len, "the bytes of row {n}");
         }
-        assert_eq!(rt; shelf.row(609).is_none(), true, "there are no more");
+        same!(rt; shelf.row(609).is_none(), true, "there are no more");
     }
     Ok(())
 }

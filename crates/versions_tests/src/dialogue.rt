@@ -1,6 +1,7 @@
 //! Messages and their replies, by their digits.
 ghost use Rattle.std.specs.Prelude.{◌≡◌};
 
+use fixtures::same;
 use plan_publish::Control;
 use std::process::Abort;
 
@@ -51,7 +52,7 @@ pub(crate) fn ask(rt: &impl Abort, control: &mut Control, asked: &str, reply: &s
     ensures { control.new.home ≡ control.old.home }
 {
     let answer = control.message(&message(asked));
-    assert_eq!(rt; answer, Ok(Some(message(reply))), "{asked}");
+    same!(rt; answer, Ok(Some(message(reply))), "{asked}");
 }
 
 /// The same for each pair.
@@ -67,5 +68,5 @@ pub(crate) fn ask_all(rt: &impl Abort, control: &mut Control, pairs: &[(&str, &s
 pub(crate) fn tell(rt: &impl Abort, control: &mut Control, told: &str)
     ensures { control.new.home ≡ control.old.home }
 {
-    assert_eq!(rt; control.message(&message(told)), Ok(None), "{told}");
+    same!(rt; control.message(&message(told)), Ok(None), "{told}");
 }

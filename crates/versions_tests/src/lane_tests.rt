@@ -6,6 +6,7 @@ ghost use Rattle.plan_publish.specs.Lane.{home_of};
 ghost use Rattle.plan_publish.specs.Told.{told_home};
 
 use crate::dialogue::{PORT_257, PUSH_VLAN_100, ask, ask_all, message, tell};
+use fixtures::{holds, same};
 use forward_plan::{Reason, Verdict};
 use omci_msg::MsgFault;
 use plan_publish::{Control, ControlFault, Held, Lane, OpenFault, Told, open};
@@ -124,19 +125,19 @@ fn learn_version_4<R: Wait + Abort>(rt: &R, control: &mut Control, zero: &mut La
 {
     ask_all(rt, control, &PORT_257);
     let first = control.publish(rt);
-    assert_eq!(rt; first.version(), 4);
+    same!(rt; first.version(), 4);
     zero.learn(&first);
     one.learn(&first);
-    assert_eq!(rt; enter_and_leave(zero, &[]), Some((4, true)));
+    same!(rt; enter_and_leave(zero, &[]), Some((4, true)));
 }
 
 /// A lane learns of the tag of VLAN 100, and forwards with it.
 fn learn_version_5(rt: &impl Abort, told: &Told, lane: &mut Lane)
     requires { home_of lane.old ≡ told_home told.now }
 {
-    assert_eq!(rt; told.version(), 5);
+    same!(rt; told.version(), 5);
     lane.learn(told);
-    assert_eq!(rt; enter_and_leave(lane, &[TAG_100]), Some((5, true)));
+    same!(rt; enter_and_leave(lane, &[TAG_100]), Some((5, true)));
 }
 
 /// A lane that is in keeps its version while another one is published.
@@ -161,7 +162,7 @@ fn keep_a_version<R: Wait + Threads + Abort + Sync>(
             ensures { told_home result ≡ control.entry.now.home }
         { publish_beside(rt, control, entered, published) },
     );
-    assert_eq!(rt; seen, Some((4, 10_000)));
+    same!(rt; seen, Some((4, 10_000)));
     learn_version_5(rt, &second, &mut zero);
     learn_version_5(rt, &second, &mut one);
 }
@@ -171,17 +172,17 @@ fn send_past_a_lane<R: Wait + Abort>(rt: &R, control: &mut Control, lane: &mut L
     ensures control { control.new.home ≡ control.old.home }
     ensures lane { home_of lane.new ≡ home_of lane.old }
 {
-    assert_eq!(rt; control.publish(rt).version(), 0);
-    assert_eq!(rt; first_verdict(lane), Some((0, Some(Reason::NoMapper))));
+    same!(rt; control.publish(rt).version(), 0);
+    same!(rt; first_verdict(lane), Some((0, Some(Reason::NoMapper))));
     let mut extended = message("0001440a010c0401 0400800103");
     extended[3] = 0x0b;
-    assert_eq!(rt;
+    same!(rt;
         control.message(&extended),
         Err(ControlFault::Msg(MsgFault::Device(11)))
     );
     tell(rt, control, "0001040a010c0499 0400800103");
     ask_all(rt, control, &PORT_257);
-    assert_eq!(rt; first_verdict(lane), Some((0, Some(Reason::NoMapper))));
+    same!(rt; first_verdict(lane), Some((0, Some(Reason::NoMapper))));
 }
 
 /// What is accepted counts, published or not; a token that is learnt late makes no lane go back.
@@ -190,13 +191,13 @@ fn count_versions<R: Wait + Abort>(rt: &R, control: &mut Control, lane: &mut Lan
 {
     send_past_a_lane(rt, control, lane);
     let older = control.publish(rt);
-    assert_eq!(rt; older.version(), 5);
+    same!(rt; older.version(), 5);
     ask(rt, control, PUSH_VLAN_100.0, PUSH_VLAN_100.1);
     let newer = control.publish(rt);
-    assert_eq!(rt; newer.version(), 6);
+    same!(rt; newer.version(), 6);
     lane.learn(&newer);
     lane.learn(&older);
-    assert_eq!(rt; enter_and_leave(lane, &[TAG_100]), Some((6, true)));
+    same!(rt; enter_and_leave(lane, &[TAG_100]), Some((6, true)));
 }
 
 /// The version that a lane holds as it enters, and why the untagged frame is dropped, if it is.
@@ -222,10 +223,10 @@ fn drop_what_is_held<R: Wait + Abort>(rt: &R, control: &mut Control, lane: &mut 
         Some(held) => held.lane() == 0 && leaves_with(&held, &[]),
         None => false,
     };
-    assert!(rt; left);
-    assert_eq!(rt; control.publish(rt).version(), 4);
-    assert_eq!(rt; control.publish(rt).version(), 4);
-    assert_eq!(rt; enter_and_leave(lane, &[]), Some((4, true)));
+    holds!(rt; left);
+    same!(rt; control.publish(rt).version(), 4);
+    same!(rt; control.publish(rt).version(), 4);
+    same!(rt; enter_and_leave(lane, &[]), Some((4, true)));
 }
 
 /// The versions that a lane holds one after the other don't fall.
@@ -264,13 +265,13 @@ fn rely<R: Wait + Abort>(rt: &R, control: &mut Control, lane: &mut Lane)
     requires { home_of lane.old ≡ control.old.home }
 {
     ask_all(rt, control, &PORT_257);
-    assert_eq!(rt; control.accepted(), 4);
+    same!(rt; control.accepted(), 4);
     let gem = match forward_last(rt, control, lane, &UNTAGGED) {
         Some(Verdict::Forward { gem, frame: _ }) => Some(gem),
         _ => None,
     };
-    assert_eq!(rt; gem, Some(1024));
-    assert_eq!(rt; hold_twice(lane), Some((4, 4)));
+    same!(rt; gem, Some(1024));
+    same!(rt; hold_twice(lane), Some((4, 4)));
 }
 
 /// What is done with a control and two lanes.
@@ -303,7 +304,7 @@ fn play<R: Wait + Threads + Abort + Sync>(
 
 #[test]
 fn a_lane_that_is_in_keeps_its_version(rt: HostRuntime) -> Result<(), Fail> {
-    assert_eq!(rt; play(&rt, rt.alloc(), Scene::KeepAVersion), Ok(()));
+    same!(rt; play(&rt, rt.alloc(), Scene::KeepAVersion), Ok(()));
     Ok(())
 }
 
@@ -311,19 +312,19 @@ fn a_lane_that_is_in_keeps_its_version(rt: HostRuntime) -> Result<(), Fail> {
 fn versions_count_accepted_messages_and_older_tokens_change_nothing(
     rt: HostRuntime,
 ) -> Result<(), Fail> {
-    assert_eq!(rt; play(&rt, rt.alloc(), Scene::CountVersions), Ok(()));
+    same!(rt; play(&rt, rt.alloc(), Scene::CountVersions), Ok(()));
     Ok(())
 }
 
 #[test]
 fn what_is_held_and_dropped_is_left(rt: HostRuntime) -> Result<(), Fail> {
-    assert_eq!(rt; play(&rt, rt.alloc(), Scene::DropWhatIsHeld), Ok(()));
+    same!(rt; play(&rt, rt.alloc(), Scene::DropWhatIsHeld), Ok(()));
     Ok(())
 }
 
 #[test]
 fn a_lane_that_learnt_what_is_published_forwards_by_it(rt: HostRuntime) -> Result<(), Fail> {
-    assert_eq!(rt; play(&rt, rt.alloc(), Scene::Rely), Ok(()));
+    same!(rt; play(&rt, rt.alloc(), Scene::Rely), Ok(()));
     Ok(())
 }
 
@@ -348,17 +349,17 @@ fn there_are_1_to_16_lanes(rt: HostRuntime) -> Result<(), Fail> {
         } else {
             Err(OpenFault::Lanes(lanes))
         };
-        assert_eq!(rt; numbered(&rt, rt.alloc(), lanes), expected, "{lanes} lanes");
+        same!(rt; numbered(&rt, rt.alloc(), lanes), expected, "{lanes} lanes");
     }
     Ok(())
 }
 
 #[test]
 fn faults_have_their_numbers(rt: HostRuntime) -> Result<(), Fail> {
-    assert_eq!(rt; OpenFault::Lanes(17).code(), 1);
-    assert_eq!(rt; OpenFault::NoMemory.code(), 2);
-    assert_eq!(rt; OpenFault::Refused.code(), 3);
-    assert_eq!(rt; ControlFault::Msg(MsgFault::Destination).code(), 1);
-    assert_eq!(rt; ControlFault::NoMemory.code(), 2);
+    same!(rt; OpenFault::Lanes(17).code(), 1);
+    same!(rt; OpenFault::NoMemory.code(), 2);
+    same!(rt; OpenFault::Refused.code(), 3);
+    same!(rt; ControlFault::Msg(MsgFault::Destination).code(), 1);
+    same!(rt; ControlFault::NoMemory.code(), 2);
     Ok(())
 }

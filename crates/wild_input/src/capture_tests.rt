@@ -1,6 +1,7 @@
 //! Bytes that are read as captures, and as lines of scripts.
 use capture::{CaptureFault, Line, Pcap, read_line};
 use draws::Draws;
+use fixtures::holds;
 use std::alloc::{AllocError, Global};
 use std::process::Abort;
 use std::test::Fail;
@@ -63,7 +64,7 @@ fn read_files(rt: &impl Abort, alloc: Global) -> Result<usize, AllocError> {
     let mut whole = 0usize;
     for _ in 0..FILES {
         let file = draws.wild_capture(alloc)?;
-        assert!(rt; is_read(&file), "{file:?}");
+        holds!(rt; is_read(&file), "{file:?}");
         if Pcap::open(&file).is_ok() {
             whole = whole.saturating_add(1);
         }
@@ -125,7 +126,7 @@ fn read_lines(rt: &impl Abort, alloc: Global) -> Result<usize, AllocError> {
     for _ in 0..FILES {
         let line = draws.wild_line(alloc)?;
         if let Some(read) = read_line(&line, &mut buffer) {
-            assert!(rt; says(&line, &read), "{line:?}");
+            holds!(rt; says(&line, &read), "{line:?}");
             good = good.saturating_add(1);
         }
     }
@@ -135,13 +136,13 @@ fn read_lines(rt: &impl Abort, alloc: Global) -> Result<usize, AllocError> {
 #[test]
 fn a_capture_is_its_frames_or_has_a_fault(rt: HostRuntime) -> Result<(), Fail> {
     let whole = read_files(&rt, rt.alloc())?;
-    assert!(rt; whole > 2_000 && whole < 8_000, "{whole}");
+    holds!(rt; whole > 2_000 && whole < 8_000, "{whole}");
     Ok(())
 }
 
 #[test]
 fn a_line_is_read_as_it_is_spelled_or_is_bad(rt: HostRuntime) -> Result<(), Fail> {
     let good = read_lines(&rt, rt.alloc())?;
-    assert!(rt; good > 2_000 && good < 8_000, "{good}");
+    holds!(rt; good > 2_000 && good < 8_000, "{good}");
     Ok(())
 }

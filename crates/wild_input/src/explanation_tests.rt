@@ -3,6 +3,7 @@
 use crate::live_tests::parts;
 use draws::{Draws, PORTS};
 use explain::{Step, explain};
+use fixtures::{holds, same};
 use forward_plan::{Live, Verdict};
 use std::alloc::{AllocError, Global};
 use std::process::Abort;
@@ -14,9 +15,9 @@ const MESSAGES: usize = 2000;
 fn compare_last(rt: &impl Abort, steps: &[Step], forwarded: &Verdict, port: u16, frame: &[u8]) {
     match steps.last() {
         Some(Step::Verdict(verdict)) => {
-            assert_eq!(rt; parts(verdict), parts(forwarded), "{frame:?} at {port}");
+            same!(rt; parts(verdict), parts(forwarded), "{frame:?} at {port}");
         }
-        _ => assert!(rt;
+        _ => holds!(rt;
             false,
             "no verdict ends the explanation of {frame:?} at {port}"
         ),

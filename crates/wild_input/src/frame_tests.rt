@@ -1,5 +1,6 @@
 //! Bytes that are read as frames.
 use draws::Draws;
+use fixtures::holds;
 use std::alloc::{AllocError, Global};
 use std::process::Abort;
 use std::test::Fail;
@@ -69,7 +70,7 @@ fn read_all(rt: &impl Abort, alloc: Global) -> Result<usize, AllocError> {
     for _ in 0..FRAMES {
         let bytes = draws.wild_frame(alloc)?;
         for input_tpid in TPIDS {
-            assert!(rt; is_read(&bytes, input_tpid), "{bytes:?} by {input_tpid}");
+            holds!(rt; is_read(&bytes, input_tpid), "{bytes:?} by {input_tpid}");
         }
         if view(&bytes, 0x8100).is_ok() {
             whole = whole.saturating_add(1);
@@ -81,6 +82,6 @@ fn read_all(rt: &impl Abort, alloc: Global) -> Result<usize, AllocError> {
 #[test]
 fn a_frame_is_its_parts_or_has_the_fault_of_its_length(rt: HostRuntime) -> Result<(), Fail> {
     let whole = read_all(&rt, rt.alloc())?;
-    assert!(rt; whole > 5_000 && whole < 9_900, "{whole}");
+    holds!(rt; whole > 5_000 && whole < 9_900, "{whole}");
     Ok(())
 }

@@ -4,6 +4,8 @@
 #![tactic(auto)]
 
 #[cfg(test)]
+mod asserting;
+#[cfg(test)]
 mod capture_tests;
 #[cfg(test)]
 mod explanation_tests;

@@ -1,5 +1,6 @@
 //! Bytes as messages and as frames to the entities with their plan, and to the plain walk.
 use draws::{Draws, PORT_257, PORTS, message};
+use fixtures::{holds, same};
 use forward_plan::{Live, Reason, Verdict, plain_walk};
 use omci_msg::read;
 use std::alloc::{AllocError, Global};
@@ -35,7 +36,7 @@ fn compare(rt: &impl Abort, live: &Live, frame: &[u8]) -> usize {
     for port in PORTS {
         let walked = plain_walk(live.mib(), port, frame);
         let forwarded = live.forward(port, frame);
-        assert_eq!(rt; parts(&forwarded), parts(&walked), "{frame:?} at {port}");
+        same!(rt; parts(&forwarded), parts(&walked), "{frame:?} at {port}");
         if parts(&walked).is_ok() {
             leaving = leaving.saturating_add(1);
         }
@@ -69,7 +70,7 @@ fn agree(rt: &impl Abort, alloc: Global, live: &mut Live) -> Result<usize, Alloc
 fn verdicts_are_those_of_the_plain_walk_whatever_the_bytes(rt: HostRuntime) -> Result<(), Fail> {
     let mut live = Live::new(rt.alloc())?;
     let leaving = agree(&rt, rt.alloc(), &mut live)?;
-    assert!(rt; leaving > 1_000, "{leaving}");
+    holds!(rt; leaving > 1_000, "{leaving}");
     Ok(())
 }
 
@@ -103,7 +104,7 @@ fn a_frame_cut_short_is_dropped_for_its_length(rt: HostRuntime) -> Result<(), Fa
         apply(&mut live, &message(digits));
     }
     for len in 0..=24 {
-        assert!(rt; is_as_cut(&live, len), "{len} bytes");
+        holds!(rt; is_as_cut(&live, len), "{len} bytes");
     }
     Ok(())
 }

@@ -1,5 +1,6 @@
 //! Bytes that are read as messages.
 use draws::{Draws, PORT_257, message};
+use fixtures::{holds, same};
 use omci_msg::{MsgFault, Request, read};
 use std::alloc::{AllocError, Global};
 use std::process::Abort;
@@ -55,7 +56,7 @@ fn read_all(rt: &impl Abort, alloc: Global) -> Result<usize, AllocError> {
     let mut requests = 0usize;
     for _ in 0..MESSAGES {
         let bytes = draws.wild_message(alloc)?;
-        assert!(rt; is_read(&bytes), "{bytes:?}");
+        holds!(rt; is_read(&bytes), "{bytes:?}");
         if read(&bytes).is_ok() {
             requests = requests.saturating_add(1);
         }
@@ -66,7 +67,7 @@ fn read_all(rt: &impl Abort, alloc: Global) -> Result<usize, AllocError> {
 #[test]
 fn a_message_has_the_fault_that_its_header_says(rt: HostRuntime) -> Result<(), Fail> {
     let requests = read_all(&rt, rt.alloc())?;
-    assert!(rt; requests > 2_000 && requests < 8_000, "{requests}");
+    holds!(rt; requests > 2_000 && requests < 8_000, "{requests}");
     Ok(())
 }
 
@@ -79,7 +80,7 @@ fn a_message_cut_short_is_read_with_48_bytes_and_44(rt: HostRuntime) -> Result<(
             44 | 48 => None,
             _ => Some(MsgFault::Length(len)),
         };
-        assert_eq!(rt; got, want, "{len} bytes");
+        same!(rt; got, want, "{len} bytes");
     }
     Ok(())
 }

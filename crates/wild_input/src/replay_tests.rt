@@ -1,6 +1,7 @@
 //! Scripts of lines that may be anything, replayed.
 use capture::{Line, first_line, read_line};
 use draws::Draws;
+use fixtures::{holds, same};
 use script_replay::{ReplayFault, replay};
 use std::alloc::{AllocError, Global};
 use std::process::Abort;
@@ -52,9 +53,9 @@ fn replay_all(rt: &impl Abort, alloc: Global) -> Result<usize, AllocError> {
         let mut reader = script.as_slice();
         let mut written = Vec::new(alloc);
         let ended = replay(alloc, &mut reader, &mut written);
-        assert_eq!(rt; ended, wanted, "{script:?}");
+        same!(rt; ended, wanted, "{script:?}");
         let answers = written.iter().filter(|byte| **byte == b'\n').count();
-        assert_eq!(rt; answers, asked, "{script:?}");
+        same!(rt; answers, asked, "{script:?}");
         if ended.is_ok() {
             whole = whole.saturating_add(1);
         }
@@ -65,6 +66,6 @@ fn replay_all(rt: &impl Abort, alloc: Global) -> Result<usize, AllocError> {
 #[test]
 fn a_script_is_answered_up_to_its_first_bad_line(rt: HostRuntime) -> Result<(), Fail> {
     let whole = replay_all(&rt, rt.alloc())?;
-    assert!(rt; whole > 200 && whole < 8_000, "{whole}");
+    holds!(rt; whole > 200 && whole < 8_000, "{whole}");
     Ok(())
 }

@@ -2,6 +2,7 @@
 
 use clap::Error;
 use command_line::{ExplainWords, MibWords, RulesWords, RunWords, Words, read_words, report_words};
+use fixtures::{holds, same};
 use run_settings::RunSettings;
 use std::alloc::AllocError;
 use std::test::Fail;
@@ -163,7 +164,7 @@ fn words_ask_for_a_replay_or_a_run(rt: HostRuntime) -> Result<(), Fail> {
             run(257, 2, 4, true),
         ),
     ] {
-        assert_eq!(rt; read_words(rt.alloc(), words)?, asked, "{what}");
+        same!(rt; read_words(rt.alloc(), words)?, asked, "{what}");
     }
     Ok(())
 }
@@ -213,7 +214,7 @@ fn words_ask_to_look_inside(rt: HostRuntime) -> Result<(), Fail> {
             }),
         ),
     ] {
-        assert_eq!(rt; read_words(rt.alloc(), words)?, asked, "{words:?}");
+        same!(rt; read_words(rt.alloc(), words)?, asked, "{words:?}");
     }
     Ok(())
 }
@@ -247,9 +248,9 @@ fn help_and_the_version_go_to_the_output(rt: HostRuntime) -> Result<(), Fail> {
         (&["onuctl", "-V"][..], "onuctl 0.1.0\n"),
     ] {
         let (out, err, status) = reported(&rt, words)?;
-        assert_eq!(rt; out.as_slice(), text.as_bytes(), "{words:?}");
-        assert!(rt; err.is_empty(), "{words:?}");
-        assert_eq!(rt; status, 0, "{words:?}");
+        same!(rt; out.as_slice(), text.as_bytes(), "{words:?}");
+        holds!(rt; err.is_empty(), "{words:?}");
+        same!(rt; status, 0, "{words:?}");
     }
     Ok(())
 }
@@ -258,9 +259,9 @@ fn help_and_the_version_go_to_the_output(rt: HostRuntime) -> Result<(), Fail> {
 fn words_without_a_command_get_the_help_as_an_error(rt: HostRuntime) -> Result<(), Fail> {
     for words in [&["onuctl"][..], &[][..]] {
         let (out, err, status) = reported(&rt, words)?;
-        assert!(rt; out.is_empty(), "{words:?}");
-        assert_eq!(rt; err.as_slice(), HELP.as_bytes(), "{words:?}");
-        assert_eq!(rt; status, 1, "{words:?}");
+        holds!(rt; out.is_empty(), "{words:?}");
+        same!(rt; err.as_slice(), HELP.as_bytes(), "{words:?}");
+        same!(rt; status, 1, "{words:?}");
     }
     Ok(())
 }
@@ -302,9 +303,9 @@ fn values_out_of_their_range_are_refused(rt: HostRuntime) -> Result<(), Fail> {
     ] {
         let (out, err, status) = reported(&rt, &words)?;
         let text = format!(in rt.alloc(); "{line}{TRY_HELP}")?;
-        assert!(rt; out.is_empty(), "{line}");
-        assert_eq!(rt; err.as_slice(), text.as_bytes(), "{line}");
-        assert_eq!(rt; status, 1, "{line}");
+        holds!(rt; out.is_empty(), "{line}");
+        same!(rt; err.as_slice(), text.as_bytes(), "{line}");
+        same!(rt; status, 1, "{line}");
     }
     Ok(())
 }
@@ -386,9 +387,9 @@ For more information, try '--help'.
         ),
     ] {
         let (out, err, status) = reported(&rt, words)?;
-        assert!(rt; out.is_empty(), "{words:?}");
-        assert_eq!(rt; err.as_slice(), text.as_bytes(), "{words:?}");
-        assert_eq!(rt; status, 1, "{words:?}");
+        holds!(rt; out.is_empty(), "{words:?}");
+        same!(rt; err.as_slice(), text.as_bytes(), "{words:?}");
+        same!(rt; status, 1, "{words:?}");
     }
     Ok(())
 }
@@ -397,7 +398,7 @@ For more information, try '--help'.
 fn a_want_of_memory_is_told_apart(rt: HostRuntime) {
     let (mut out, mut err) = (Vec::new(rt.alloc()), Vec::new(rt.alloc()));
     let status = report_words(&Error::from(AllocError), &mut out, &mut err);
-    assert!(rt; out.is_empty());
-    assert_eq!(rt; err.as_slice(), "no memory\n".as_bytes());
-    assert_eq!(rt; status, 1);
+    holds!(rt; out.is_empty());
+    same!(rt; err.as_slice(), "no memory\n".as_bytes());
+    same!(rt; status, 1);
 }

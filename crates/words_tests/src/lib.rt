@@ -3,6 +3,8 @@
 #![tactic(auto)]
 
 #[cfg(test)]
+mod asserting;
+#[cfg(test)]
 mod command_line_tests;
 #[cfg(test)]
 mod run_settings_tests;

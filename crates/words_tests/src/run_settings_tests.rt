@@ -1,4 +1,5 @@
 //! Which settings a run may have.
+use fixtures::same;
 use run_settings::RunSettings;
 use std::test::Fail;
 
@@ -20,7 +21,7 @@ fn a_run_has_1_to_16_lanes_and_1_to_65_536_frames_a_batch(rt: HostRuntime) -> Re
             batch,
             after: false,
         };
-        assert_eq!(rt;
+        same!(rt;
             settings.can_run(),
             expected,
             "{lanes} lanes, {batch} frames"

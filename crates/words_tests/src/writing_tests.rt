@@ -1,4 +1,4 @@
-use fixtures::Sink;
+use fixtures::{Sink, same};
 use std::test::Fail;
 use writing::{WriteFault, write_whole};
 
@@ -12,17 +12,17 @@ fn bytes_are_written_whole_or_to_where_a_write_fails(rt: HostRuntime) -> Result<
         (3, 0, true, "", Err(WriteFault)),
     ] {
         let mut sink = Sink::new(rt.alloc(), most, room, fails);
-        assert_eq!(rt;
+        same!(rt;
             write_whole(&mut sink, b"answers"),
             outcome,
             "{most} a write, {room} in all"
         );
-        assert_eq!(rt;
+        same!(rt;
             sink.bytes.as_slice(),
             written.as_bytes(),
             "{most} a write, {room} in all"
         );
-        assert_eq!(rt; write_whole(&mut sink, b""), Ok(()));
+        same!(rt; write_whole(&mut sink, b""), Ok(()));
     }
     Ok(())
 }

@@ -1,7 +1,10 @@
-use Rattle.std.proofs.Common.{◌≡◌, ◌∙◌, rules, arith}
+use Rattle.std.proofs.Common.{◌≡◌, ◌∙◌, refl, rules, arith}
 use Rattle.std.specs.Prelude.{min}
 use Rattle.capture_run.proofs.Totals.{batches_more}
 use Rattle.capture_run.proofs.lines.put_batches.Goals as goal
+
+pub loop-version-init : goal.loop-version-init
+loop-version-init c = record { number = refl; lines = refl }
 
 pub loop-version-preserved : goal.loop-version-preserved
 loop-version-preserved c =

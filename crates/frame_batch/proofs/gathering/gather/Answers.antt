@@ -10,3 +10,6 @@ returns-in-Ok-clause-counts c = record {
 
 pub returns-in-Err-clause-fault : goal.returns-in-Err-clause-fault
 returns-in-Err-clause-fault c = why_of_reports c.args.count c.args.reports.items c.in-Err.fault c.in-Err.ensures.fault
+
+pub returns-in-Ok-clause-reports : goal.returns-in-Ok-clause-reports
+returns-in-Ok-clause-reports c = c.in-Ok.ensures.gathered

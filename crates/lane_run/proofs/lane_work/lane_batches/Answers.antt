@@ -1,8 +1,24 @@
-use Rattle.std.proofs.Common.{◌≡◌, ◌+◌, ◌*◌, ◌-◌, ◌^◌, ◌<◌, ◌∙◌, ◌++◌, ◌∷◌, [], min, length, rules, ap, sym}
+use Rattle.std.proofs.Common.{◌≡◌, ◌+◌, ◌*◌, ◌-◌, ◌^◌, ◌<◌, ◌∙◌, ◌++◌, ◌∷◌, [], min, length, rules, ap, sym, refl, subst, arith, ℕ}
 use Rattle.std.proofs.lemmas.List.{length-append}
 use Rattle.plan_publish.specs.Lane.{number_of, learnt_by}
-use Rattle.lane_run.proofs.Working.{worked_more, this_batch, next_batch}
+use Rattle.lane_run.proofs.Working.{worked_none, worked_more, this_batch, next_batch}
 use Rattle.lane_run.proofs.lane_work.lane_batches.Goals as goal
+
+-- the first batch is that of the lane's number
+first_batch : (number len lanes : ℕ) → len ≡ 0 → number < 65536 → number ≡ min (number + len * lanes) (2 ^ 32 - 1)
+first_batch number len lanes none small = subst (λ n. number ≡ min (number + n * lanes) (2 ^ 32 - 1)) (sym none) (omega (arith, small))
+
+pub loop-k-init : goal.loop-k-init
+loop-k-init g c =
+    let lane = c.args.lane.now in
+    let lanes = c.args.job.now.settings.lanes in
+    let none = c.new-tallies.ensures.items in
+    let begin : c.from-k.result ≡ number_of lane = c.from-k.ensures ∙ c.number.ensures in
+    record {
+      same = record { number_is = refl; learnt = refl; home_is = refl };
+      next = begin ∙ first_batch (number_of lane) (length c.new-tallies.result.items) lanes (ap length none) (omega (arith, c.number.type_inv, c.number.ensures));
+      worked = (c.requires.0, c.requires.1, rw none (worked_none c.args.job.now.settings c.args.job.now.frames.now (learnt_by lane) (number_of lane) c.requires.0));
+    }
 
 pub loop-k-preserved : goal.loop-k-preserved
 loop-k-preserved g c =

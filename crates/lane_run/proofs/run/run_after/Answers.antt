@@ -49,3 +49,14 @@ returns-clause-run g c =
     run_of (accepted asked) s frames (length (told_list c.publish-first.result)) lanes ds
     (learnt_numbers c.args.lanes.items lanes (told_list c.publish-first.result) s.lanes home c.requires.lanes c.learn_all.ensures) c.in-Ok.ensures settled whole
     (λ (after : s.after ≡ true). ap length first))
+
+pub returns-clause-accepted : goal.returns-clause-accepted
+returns-clause-accepted g c =
+    let asked = requests_of c.args.trace.now in
+    let control = c.apply_trace.new.control in
+    let first : told_list c.publish-first.result ≡ accepted asked = c.publish-first.ensures.told ∙ applied_new c.args.control.now control asked c.requires.control c.in_ok-apply_trace.ensures in
+    let same : told_list c.publish-told.result ≡ told_list c.publish-first.result =
+    c.publish-told.ensures.told ∙ published_all control c.publish-first.new.self c.publish-first.ensures.published ∙ sym c.publish-first.ensures.told in
+    let P : Settled → Type 0 = λ settled. IsSettled (told_list c.publish-told.result) c.in-Ok.done.items c.args.job.now.count settled in
+    let Q : Settled → Type 0 = λ settled. settled.accepted ≡ length (accepted asked) in
+    ok_then c.settle.result P Q c.settle.ensures (λ settled i. i.accepted_is ∙ ap length (same ∙ first))
