@@ -51,15 +51,22 @@ fn new_mib(memory: &Memory) -> Seen {
     must(is_new(&mib), "other entities than none")
 }
 
-fn new_shelf(memory: &Memory) -> Seen {
-    let mut shelf = shelf_of(memory)?;
+/// What a new shelf does.
+fn is_shelf(memory: &Memory, shelf: &mut Shelf) -> Seen {
     must(shelf.row(0).is_none(), "a row on a new shelf")?;
     let mib = mib_of(memory)?;
     must(shelf.fill(&mib) == 1, "other rows than that of ONU data")
 }
 
-fn new_desk(memory: &Memory) -> Seen {
-    let mut desk = desk_of(memory)?;
+fn new_shelf(memory: &Memory) -> Seen {
+    match shelf_of(memory) {
+        Ok(mut shelf) => is_shelf(memory, &mut shelf),
+        Err(wrong) => Err(wrong),
+    }
+}
+
+/// What a new desk does.
+fn is_desk(desk: &mut Desk) -> Seen {
     must(is_new(desk.mib()), "other entities than none")?;
     let (asked, reply) = GET_SYNC;
     let Ok(request) = read(&message(asked)) else {
@@ -67,6 +74,13 @@ fn new_desk(memory: &Memory) -> Seen {
     };
     let answer = desk.answer(&request);
     must(write(&answer) == message(reply), "another reply")
+}
+
+fn new_desk(memory: &Memory) -> Seen {
+    match desk_of(memory) {
+        Ok(mut desk) => is_desk(&mut desk),
+        Err(wrong) => Err(wrong),
+    }
 }
 
 pub(crate) fn make_calls<R: Print>(rt: &R, memory: &Memory) {
