@@ -1,4 +1,4 @@
-use Rattle.std.proofs.Common.{◌+◌, ℕ, List, [], ◌∷◌, Option, length, ap, arith, sym, subst, ◌∙◌, length-append}
+use Rattle.std.proofs.Common.{◌+◌, ℕ, List, [], ◌∷◌, Option, length, ap, arith, sym, subst, ◌∙◌, length-append, rules}
 use Rattle.std.specs.Prelude.{slice_get}
 use Rattle.rule_index.specs.Filters.{tags_in}
 use Rattle.rule_index.specs.Order.{order_of}
@@ -47,3 +47,7 @@ returns-clause-treats c =
     let n = c.loop-number.number in
     let kept = c.loop-number.invariant in
     treats_all c.args.settings.now entries c.loop-number.treats.items n kept.count (omega arith) (omega arith) (all_to_end entries n (omega arith)) kept.treats
+
+-- bounded, so that a wrong body is refused at once
+pub loop-number-init : goal.loop-number-init
+loop-number-init c = search rules fits 30
