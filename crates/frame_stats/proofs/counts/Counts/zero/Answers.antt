@@ -1,0 +1,6 @@
+-- Bounded, so that a wrong body is refused at once.
+use Rattle.std.proofs.Common.{rules}
+use Rattle.frame_stats.proofs.counts.Counts.zero.Goals as goal
+
+pub returns-clause-zero : goal.returns-clause-zero
+returns-clause-zero c = search rules fits 30
