@@ -1,4 +1,4 @@
--- Bounded, so that a wrong body is refused at once.
+-- Bounded where few lemmas do, so that a wrong body is refused at once.
 use Rattle.std.proofs.Common.{rules}
 use Rattle.managed_entity.proofs.write.create.Goals as goal
 
