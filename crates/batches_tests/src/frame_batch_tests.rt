@@ -6,7 +6,7 @@ use frame_batch::{
     law_of_arrival, run_batch,
 };
 use frame_stats::{Counts, count_of};
-use plan_publish::{Held, Lane, OpenFault, open};
+use plan_publish::{Control, Held, Lane, OpenFault, open};
 use std::alloc::Global;
 use std::process::Abort;
 use std::sync::Wait;
@@ -464,6 +464,15 @@ fn with_lanes<R: Wait + Threads + Abort + Sync>(
     }
 }
 
+/// Makes port 257, and publishes that as version 5.
+fn publish_5<R: Wait + Threads + Abort + Sync>(rt: &R, control: &mut Control) {
+    for digits in &PORT_257 {
+        let answer = control.message(&message(digits));
+        holds!(rt; matches!(answer, Ok(Some(_))), "{digits}");
+    }
+    same!(rt; control.publish(rt).version(), 5);
+}
+
 /// Opens a control with two lanes, publishes version 5, and plays a scene.
 fn play<R: Wait + Threads + Abort + Sync>(
     rt: &R,
@@ -471,11 +480,7 @@ fn play<R: Wait + Threads + Abort + Sync>(
     scene: Scene,
 ) -> Result<(), OpenFault> {
     let (mut control, mut lanes) = open(rt, alloc, 2)?;
-    for digits in &PORT_257 {
-        let answer = control.message(&message(digits));
-        holds!(rt; matches!(answer, Ok(Some(_))), "{digits}");
-    }
-    same!(rt; control.publish(rt).version(), 5);
+    publish_5(rt, &mut control);
     if let (Some(one), Some(zero)) = (lanes.pop(), lanes.pop()) {
         with_lanes(rt, alloc, zero, one, scene);
     }

@@ -3,8 +3,6 @@
 #![tactic(auto)]
 
 #[cfg(test)]
-mod asserting;
-#[cfg(test)]
 mod frame_batch_tests;
 #[cfg(test)]
 mod frame_stats_tests;

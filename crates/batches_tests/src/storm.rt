@@ -559,6 +559,16 @@ fn check_lane(
         version: 0,
         rest: accepted,
     };
+    walk_reports(storm, &mut walk, lane, reports)
+}
+
+/// Goes on to the version of each report, and looks at its verdicts again.
+fn walk_reports(
+    storm: &Storm<'_, '_>,
+    walk: &mut Walk<'_>,
+    lane: usize,
+    reports: &[Report<'_>],
+) -> Result<(), Wrong> {
     for (place, report) in reports.iter().enumerate() {
         if usize::from(report.lane) != lane || report.batch as usize != place {
             return Err(Wrong::Reports(place));

@@ -591,7 +591,8 @@ fn a_refused_set_keeps_nothing(rt: HostRuntime) -> Result<(), Fail> {
     set_what_is_refused(&rt, &mut mib)
 }
 
-fn set_what_is_refused(rt: &impl Abort, mib: &mut Mib) -> Result<(), Fail> {
+/// Sets that are refused but for one of no attribute, and a Get.
+fn refused_sets() -> [Turn; 11] {
     let bad_vid = set_entry([0xf800_0000, 0xf800_0000, 0x000f_0000, 0x0000_7ffc]);
     let bad_priority = set_entry([0xf800_0000, 0x9800_0000, 0x000f_0000, 0x000f_0000]);
     let no_kind = set_entry([0x3800_0000, 0xe800_0000, 0x000f_0000, 0x000f_0000]);
@@ -600,26 +601,26 @@ fn set_what_is_refused(rt: &impl Abort, mib: &mut Mib) -> Result<(), Fail> {
     let fixed = contents(&[9, 0, 0, 0x40, 0]);
     let ninth = contents(&[9, 0, 0x80, 0, 0]);
     let as_new = contents(&[0, 0x34, 0, 0x81, 0, 0x81, 0, 0, 0, 0, 0x30]);
-    take(
-        rt,
-        mib,
-        &[
-            // A reserved VID to add, a reserved priority, priorities of no kind.
-            (bad_vid, only(3), 4),
-            (bad_priority, only(3), 4),
-            (no_kind, only(3), 4),
-            // The output TPID with the first of them, the max size with the input TPID.
-            (with_tpid, only(3), 4),
-            (set(171, 0x0701, 0x6000, &[0, 5, 0x91, 0]), fixed, 4),
-            // Attribute 9, attributes of 40 bytes with it and without it.
-            (set(171, 0x0701, 0x0080, &[]), ninth, 4),
-            (set(171, 0x0701, 0x0580, &[]), ninth, 4),
-            (set(171, 0x0701, 0x0500, &[]), only(3), 4),
-            (get(171, 0x0701, 0x3400), as_new, 4),
-            (set(171, 0x0701, 0, &[]), only(0), 5),
-            (set(171, 0x0702, 0, &[]), only(5), 5),
-        ],
-    )?;
+    [
+        // A reserved VID to add, a reserved priority, priorities of no kind.
+        (bad_vid, only(3), 4),
+        (bad_priority, only(3), 4),
+        (no_kind, only(3), 4),
+        // The output TPID with the first of them, the max size with the input TPID.
+        (with_tpid, only(3), 4),
+        (set(171, 0x0701, 0x6000, &[0, 5, 0x91, 0]), fixed, 4),
+        // Attribute 9, attributes of 40 bytes with it and without it.
+        (set(171, 0x0701, 0x0080, &[]), ninth, 4),
+        (set(171, 0x0701, 0x0580, &[]), ninth, 4),
+        (set(171, 0x0701, 0x0500, &[]), only(3), 4),
+        (get(171, 0x0701, 0x3400), as_new, 4),
+        (set(171, 0x0701, 0, &[]), only(0), 5),
+        (set(171, 0x0702, 0, &[]), only(5), 5),
+    ]
+}
+
+fn set_what_is_refused(rt: &impl Abort, mib: &mut Mib) -> Result<(), Fail> {
+    take(rt, mib, &refused_sets())?;
     let vlan = mib.vlan(0x0701).ok_or("the table is gone")?;
     same!(rt; vlan.table.len(), 3);
     same!(rt; vlan.settings.input_tpid, 0x8100);
@@ -680,8 +681,18 @@ fn set_in_each_class(rt: &impl Abort, mib: &mut Mib) -> Result<(), Fail> {
 /// answers, with this result, and it touches this.
 fn touch(rt: &impl Abort, alloc: Global, turns: &[(Request, u8, Touch)]) -> Result<(), Fail> {
     let mut mib = set_up(alloc)?;
+    touch_beside(rt, alloc, &mut mib, turns)
+}
+
+/// The same in one that is there.
+fn touch_beside(
+    rt: &impl Abort,
+    alloc: Global,
+    mib: &mut Mib,
+    turns: &[(Request, u8, Touch)],
+) -> Result<(), Fail> {
     let mut same = set_up(alloc)?;
-    touch_both(rt, &mut mib, &mut same, turns)
+    touch_both(rt, mib, &mut same, turns)
 }
 
 /// The same in two that are there.

@@ -2,7 +2,7 @@
 
 use draws::{Draws, PORTS};
 use fixtures::{holds, same};
-use forward_plan::{Live, Reason, Verdict, plain_walk};
+use forward_plan::{Live, NoMemory, Reason, Verdict, plain_walk};
 use std::alloc::{AllocError, Global};
 use std::process::Abort;
 use std::test::Fail;
@@ -50,19 +50,19 @@ fn count_at(counts: &mut [u32], place: usize) {
     }
 }
 
-/// Entities with their plan, one that follows each message and one that is compiled anew after each.
-#[derive(Drop)]
-struct Plans {
-    live: Live,
-    anew: Live,
-}
-
-/// Compares the verdicts on some frames at a port: one by one, by a plan that was compiled anew, and walked for.
-fn compare(rt: &impl Abort, plans: &Plans, port: u16, frames: &[Vec<u8>], seen: &mut Seen) {
+/// Compares the verdicts on some frames at a port: by a plan that followed, by one that was compiled anew, and walked for.
+fn compare(
+    rt: &impl Abort,
+    live: &Live,
+    anew: &Live,
+    port: u16,
+    frames: &[Vec<u8>],
+    seen: &mut Seen,
+) {
     for frame in frames {
-        let walked = plain_walk(plans.live.mib(), port, frame);
-        let forwarded = plans.live.forward(port, frame);
-        let recompiled = plans.anew.forward(port, frame);
+        let walked = plain_walk(live.mib(), port, frame);
+        let forwarded = live.forward(port, frame);
+        let recompiled = anew.forward(port, frame);
         same!(rt; parts(&forwarded), parts(&walked), "{frame:?} at {port}");
         same!(rt;
             parts(&recompiled),
@@ -73,18 +73,23 @@ fn compare(rt: &impl Abort, plans: &Plans, port: u16, frames: &[Vec<u8>], seen: 
     }
 }
 
-/// Sends drawn messages, and compares the verdicts on drawn frames after each.
-fn agree(rt: &impl Abort, alloc: Global, plans: &mut Plans) -> Result<Seen, AllocError> {
+/// Sends drawn messages, and compares the verdicts on drawn frames after each. One plan follows them, the other is compiled anew.
+fn agree(
+    rt: &impl Abort,
+    alloc: Global,
+    live: &mut Live,
+    anew: &mut Live,
+) -> Result<Seen, AllocError> {
     let mut seen = Seen::default();
     let mut draws = Draws::new();
     for message in 0..MESSAGES {
         let request = draws.request();
-        plans.live.apply(&request);
-        plans.anew.apply(&request);
-        plans.anew.recompile();
+        live.apply(&request);
+        anew.apply(&request);
+        anew.recompile();
         let frames = draws.frames(alloc, FRAMES, message % 27)?;
         for port in PORTS {
-            compare(rt, plans, port, &frames, &mut seen);
+            compare(rt, live, anew, port, &frames, &mut seen);
         }
     }
     Ok(seen)
@@ -97,9 +102,11 @@ fn are_frequent(rt: &impl Abort, counts: &[u32], what: &str) {
     }
 }
 
-/// Sends messages, and checks that frames left with each number of tags and were dropped for each reason then.
-fn agree_on_all(rt: &impl Abort, alloc: Global, plans: &mut Plans) -> Result<(), AllocError> {
-    let seen = agree(rt, alloc, plans)?;
+/// Sends messages, and checks that frames left with each number of tags and were dropped for each reason then. It owns one plan and
+/// the test the other, since the proof of a function that owns two is dear.
+fn agree_on_all(rt: &impl Abort, alloc: Global, live: &mut Live) -> Result<(), NoMemory> {
+    let mut anew = Live::new(alloc)?;
+    let seen = agree(rt, alloc, live, &mut anew)?;
     are_frequent(rt, &seen.tags, "number of tags");
     are_frequent(rt, &seen.reasons[1..], "reason but one");
     Ok(())
@@ -107,9 +114,7 @@ fn agree_on_all(rt: &impl Abort, alloc: Global, plans: &mut Plans) -> Result<(),
 
 #[test]
 fn verdicts_are_those_of_the_plain_walk_after_each_message(rt: HostRuntime) -> Result<(), Fail> {
-    let live = Live::new(rt.alloc())?;
-    let anew = Live::new(rt.alloc())?;
-    let mut plans = Plans { live, anew };
-    agree_on_all(&rt, rt.alloc(), &mut plans)?;
+    let mut live = Live::new(rt.alloc())?;
+    agree_on_all(&rt, rt.alloc(), &mut live)?;
     Ok(())
 }

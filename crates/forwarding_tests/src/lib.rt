@@ -5,10 +5,10 @@
 #[cfg(test)]
 mod agree_tests;
 #[cfg(test)]
-mod asserting;
-#[cfg(test)]
 mod attached_tests;
 #[cfg(test)]
 mod frame_meaning_tests;
 #[cfg(test)]
 mod live_tests;
+#[cfg(test)]
+mod table_tests;

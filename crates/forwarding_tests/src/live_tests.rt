@@ -16,7 +16,7 @@ const TAGGED: [u8; 20] = [
 ];
 
 /// Leaves the entities that lead port 257 to port-ID 1024, with a table that keeps tags, and no other.
-fn lead(live: &mut Live) {
+pub(crate) fn lead(live: &mut Live) {
     for sent in [
         request(Action::MibReset, 2, 0, &[]),
         create_gem_port(3),
@@ -122,7 +122,7 @@ fn word_left(live: &Live) -> Left {
 }
 
 /// What becomes of the frame without a tag at port 257: the word of the tag that it leaves with, if it leaves with one.
-type Left = Result<Option<u32>, Reason>;
+pub(crate) type Left = Result<Option<u32>, Reason>;
 
 /// It leaves with the tag that `tagging` gives.
 const TAG: Left = Ok(Some(0x8100_0064));
@@ -215,6 +215,30 @@ fn steps_of_a_table_of_a_mapper() -> [Step; 8] {
     ]
 }
 
+/// A mapper is compiled where what it points to changes, and not for another instance, or one of another class and the same number.
+fn steps_of_what_is_read() -> [Step; 7] {
+    let pointers = [
+        0x0501, 0x0502, 0x0503, 0x0504, 0x0505, 0x0506, 0x0507, 0xffff,
+    ];
+    [
+        (create_mapper(0x0602, 258, pointers, 0), (0, 1), PLAIN),
+        (create_interwork(0x0507), (0, 1), PLAIN),
+        (create_interwork(0x0508), (0, 0), PLAIN),
+        (
+            request(Action::Create, 268, 0x0501, &[4, 2, 0x80, 1, 3]),
+            (0, 0),
+            PLAIN,
+        ),
+        (create_mapper(0x0501, 259, [0xffff; 8], 0), (0, 1), PLAIN),
+        (create_table(0x0501, 2, 259), (1, 0), PLAIN),
+        (
+            set(266, 0x0501, 0x8000, &[4, 0x99]),
+            (0, 2),
+            Err(Reason::NoGem),
+        ),
+    ]
+}
+
 /// Frames leave by the plan as the entities say, after each change of these.
 fn look_at_changes(rt: &impl Abort, alloc: Global, live: &mut Live) -> Result<(), NoMemory> {
     check_tagging(rt, alloc, live)?;
@@ -224,6 +248,7 @@ fn look_at_changes(rt: &impl Abort, alloc: Global, live: &mut Live) -> Result<()
     follow(rt, live, &table_steps());
     follow(rt, live, &route_steps());
     follow(rt, live, &steps_of_a_table_of_a_mapper());
+    follow(rt, live, &steps_of_what_is_read());
     Ok(())
 }
 

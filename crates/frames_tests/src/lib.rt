@@ -3,8 +3,6 @@
 #![tactic(auto)]
 
 #[cfg(test)]
-mod asserting;
-#[cfg(test)]
 mod omci_msg_tests;
 #[cfg(test)]
 mod pmapper_tests;

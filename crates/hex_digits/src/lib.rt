@@ -10,6 +10,3 @@ mod write;
 
 pub use read::read_digits;
 pub use write::write_digits;
-
-#[cfg(test)]
-mod tests;

@@ -79,6 +79,3 @@ fn main(rt: HostRuntime) -> ExitCode {
     };
     ExitCode::from(answer(&rt, &lent, &mut input, &mut out, &mut err))
 }
-
-#[cfg(test)]
-mod run_tests;

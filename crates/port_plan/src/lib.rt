@@ -21,8 +21,3 @@ mod routes;
 pub use compiled_table::CompiledTable;
 pub use port_plan::PortPlan;
 pub use routes::Routes;
-
-#[cfg(test)]
-mod compiled_table_tests;
-#[cfg(test)]
-mod routes_tests;

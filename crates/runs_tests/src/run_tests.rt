@@ -33,7 +33,7 @@ fn three_frames(alloc: Global) -> Result<Vec<u8>, AllocError> {
 }
 
 /// The trace that makes port 257, with a table entry that pushes a tag.
-fn tagging(alloc: Global) -> Result<String, AllocError> {
+pub(crate) fn tagging(alloc: Global) -> Result<String, AllocError> {
     let mut text = port_257(alloc)?;
     push_message(
         &mut text,

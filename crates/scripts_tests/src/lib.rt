@@ -1,9 +1,7 @@
-//! Tests of captures, of lines, and of the replay of scripts: capture and script_replay.
+//! Tests of digits, of captures, of lines, and of the replay of scripts: hex_digits, capture and script_replay.
 //! They stand apart so that each of these is proved once, and not a second time with its tests.
 #![tactic(auto)]
 
-#[cfg(test)]
-mod asserting;
 #[cfg(test)]
 mod capture_tests;
 #[cfg(test)]
@@ -16,6 +14,8 @@ mod dialogue;
 mod frame_tests;
 #[cfg(test)]
 mod get_next_tests;
+#[cfg(test)]
+mod hex_digits_tests;
 #[cfg(test)]
 mod line_tests;
 #[cfg(test)]

@@ -3,8 +3,6 @@
 #![tactic(auto)]
 
 #[cfg(test)]
-mod asserting;
-#[cfg(test)]
 mod rule_index_tests;
 #[cfg(test)]
 mod vlan_rule_tests;

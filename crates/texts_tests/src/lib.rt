@@ -3,8 +3,6 @@
 #![tactic(auto)]
 
 #[cfg(test)]
-mod asserting;
-#[cfg(test)]
 mod entity_text_tests;
 #[cfg(test)]
 mod explain_tests;

@@ -3,8 +3,6 @@
 #![tactic(auto)]
 
 #[cfg(test)]
-mod asserting;
-#[cfg(test)]
 mod mib_trace_tests;
 #[cfg(test)]
 mod mib_upload_tests;

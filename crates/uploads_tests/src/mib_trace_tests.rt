@@ -3,6 +3,7 @@ use fixtures::{holds, push_message, same};
 use mib_state::Mib;
 use mib_trace::{apply_trace, first_bad_line};
 use std::alloc::{AllocError, Global};
+use std::process::Abort;
 use std::test::Fail;
 
 /// A trace of the messages that begin with these digits.
@@ -14,48 +15,65 @@ fn trace_of(alloc: Global, messages: &[&str]) -> Result<String, AllocError> {
     Ok(text)
 }
 
-#[test]
-fn a_trace_leaves_what_its_accepted_messages_leave(rt: HostRuntime) -> Result<(), Fail> {
-    let mut mib = Mib::new(rt.alloc())?;
-    // A Create, the same again, which is refused, one with a fault, a Set of the port-ID, and a Get.
-    let trace = trace_of(
-        rt.alloc(),
-        &[
-            "0001440a010c04010400800103",
-            "0002440a010c04010500800103",
-            "0003440b010c04020400800103",
-            "0004480a010c040180000401",
-            "0005490a010c04018000",
-        ],
-    )?;
-    same!(rt; first_bad_line(trace.as_bytes()), None);
-    same!(rt; apply_trace(&mut mib, trace.as_bytes()), Ok(()));
+/// A Create, the same again, which is refused, one with a fault, a Set of the port-ID, and a Get.
+const MESSAGES: [&str; 5] = [
+    "0001440a010c04010400800103",
+    "0002440a010c04010500800103",
+    "0003440b010c04020400800103",
+    "0004480a010c040180000401",
+    "0005490a010c04018000",
+];
+
+/// Applies a trace, and looks at what its messages leave.
+fn apply_messages(rt: &impl Abort, mib: &mut Mib, trace: &[u8]) {
+    same!(rt; first_bad_line(trace), None);
+    same!(rt; apply_trace(mib, trace), Ok(()));
     same!(rt; mib.sync(), 2);
     let port_id = mib.gem_port(0x0401).map(|port| port.port_id);
     same!(rt; port_id, Some(1025));
     holds!(rt; mib.gem_port(0x0402).is_none());
+}
+
+/// The trace of these messages leaves what those leave that are accepted.
+fn apply_all(rt: &impl Abort, alloc: Global, mib: &mut Mib) -> Result<(), AllocError> {
+    let trace = trace_of(alloc, &MESSAGES)?;
+    apply_messages(rt, mib, trace.as_bytes());
     Ok(())
 }
 
 #[test]
-fn a_trace_with_a_frame_or_a_bad_line_is_refused_whole(rt: HostRuntime) -> Result<(), Fail> {
+fn a_trace_leaves_what_its_accepted_messages_leave(rt: HostRuntime) -> Result<(), Fail> {
+    let mut mib = Mib::new(rt.alloc())?;
+    apply_all(&rt, rt.alloc(), &mut mib)?;
+    Ok(())
+}
+
+/// Applies a trace whose line may not stand, and checks that nothing is left of it.
+fn refuse(rt: &impl Abort, mib: &mut Mib, trace: &[u8], line: u64, what: &str) {
+    same!(rt; apply_trace(mib, trace), Err(line), "{what}");
+    same!(rt; mib.sync(), 0);
+    holds!(rt; mib.gem_port(0x0401).is_none());
+}
+
+/// A message, and behind it a line that may not stand.
+fn refuse_all(rt: &impl Abort, alloc: Global, mib: &mut Mib) -> Result<(), AllocError> {
     for (behind, line) in [
         ("f 1 00\nx\n", 4),
         ("x\nf 1 00", 4),
         ("-\n", 4),
         ("\no 0\n", 5),
     ] {
-        let mut mib = Mib::new(rt.alloc())?;
-        let mut trace = trace_of(rt.alloc(), &["0001440a010c04010400800103"])?;
+        let mut trace = trace_of(alloc, &["0001440a010c04010400800103"])?;
         trace.push_str(behind)?;
-        same!(rt;
-            apply_trace(&mut mib, trace.as_bytes()),
-            Err(line),
-            "{behind}"
-        );
-        same!(rt; mib.sync(), 0);
-        holds!(rt; mib.gem_port(0x0401).is_none());
+        refuse(rt, mib, trace.as_bytes(), line, behind);
     }
+    Ok(())
+}
+
+#[test]
+fn a_trace_with_a_frame_or_a_bad_line_is_refused_whole(rt: HostRuntime) -> Result<(), Fail> {
+    let mut mib = Mib::new(rt.alloc())?;
+    refuse_all(&rt, rt.alloc(), &mut mib)?;
     Ok(())
 }
 

@@ -233,8 +233,13 @@ fn ask_for_steps(rt: &impl Abort, desk: &mut Desk) -> Result<(), Fail> {
 #[test]
 fn an_upload_of_all_that_there_may_be_has_609_rows(rt: HostRuntime) -> Result<(), Fail> {
     let mut mib = Mib::new(rt.alloc())?;
-    let mut shelf = Shelf::new(rt.alloc())?;
-    upload_all(&rt, &mut mib, &mut shelf)
+    upload_to_a_shelf(&rt, rt.alloc(), &mut mib)
+}
+
+/// Uploads all to a shelf.
+fn upload_to_a_shelf(rt: &impl Abort, alloc: Global, mib: &mut Mib) -> Result<(), Fail> {
+    let mut shelf = Shelf::new(alloc)?;
+    upload_all(rt, mib, &mut shelf)
 }
 
 /// Creates as many instances as there may be, and uploads them twice.

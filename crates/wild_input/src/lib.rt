@@ -4,8 +4,6 @@
 #![tactic(auto)]
 
 #[cfg(test)]
-mod asserting;
-#[cfg(test)]
 mod capture_tests;
 #[cfg(test)]
 mod explanation_tests;

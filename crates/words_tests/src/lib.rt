@@ -3,8 +3,6 @@
 #![tactic(auto)]
 
 #[cfg(test)]
-mod asserting;
-#[cfg(test)]
 mod command_line_tests;
 #[cfg(test)]
 mod run_settings_tests;

@@ -1,4 +1,4 @@
-use fixtures::{Sink, same};
+use fixtures::{Sink, compare, same};
 use std::test::Fail;
 use writing::{WriteFault, write_whole};
 
@@ -24,5 +24,14 @@ fn bytes_are_written_whole_or_to_where_a_write_fails(rt: HostRuntime) -> Result<
         );
         same!(rt; write_whole(&mut sink, b""), Ok(()));
     }
+    Ok(())
+}
+
+#[test]
+fn what_differs_is_said_with_both(rt: HostRuntime) -> Result<(), Fail> {
+    same!(rt; compare(&"ports", &2u8, &2).is_ok(), true);
+    let difference = compare(&"ports", &2u8, &3).expect_err(&rt, "two are not three");
+    let text = format!(in rt.alloc(); "{difference:?}")?;
+    same!(rt; text.as_str(), "ports: 2, and not 3");
     Ok(())
 }

@@ -1,12 +1,14 @@
-use crate::{read_digits, write_digits};
+//! Digits of many bytes.
+use fixtures::{holds, same};
+use hex_digits::{read_digits, write_digits};
 use std::process::Abort;
 
 /// Compares what two characters are read as.
 fn compare_pair(rt: &impl Abort, pair: [u8; 2], wanted: Option<u32>) {
     let mut bytes = [0x5a];
     let read = read_digits(&pair, &mut bytes);
-    assert_eq!(rt; read, wanted.is_some(), "{pair:?}");
-    assert_eq!(rt; u32::from(bytes[0]), wanted.unwrap_or(0x5a), "{pair:?}");
+    same!(rt; read, wanted.is_some(), "{pair:?}");
+    same!(rt; u32::from(bytes[0]), wanted.unwrap_or(0x5a), "{pair:?}");
 }
 
 #[test]
@@ -31,8 +33,8 @@ fn compare_digits_of(rt: &impl Abort, byte: u8) {
     let table = b"0123456789abcdef";
     let mut digits = [b'?'; 2];
     write_digits(&[byte], &mut digits);
-    assert_eq!(rt; digits[0], table[usize::from(byte / 16)], "{byte}");
-    assert_eq!(rt; digits[1], table[usize::from(byte % 16)], "{byte}");
+    same!(rt; digits[0], table[usize::from(byte / 16)], "{byte}");
+    same!(rt; digits[1], table[usize::from(byte % 16)], "{byte}");
 }
 
 #[test]
@@ -57,8 +59,8 @@ const EXAMPLES: [(&[u8], &[u8], &[u8]); 7] = [
 fn compare_read(rt: &impl Abort, digits: &[u8], wanted: &[u8]) {
     let mut room = [0; 6];
     let bytes = &mut room[..wanted.len().min(6)];
-    assert!(rt; read_digits(digits, bytes), "{digits:?}");
-    assert_eq!(rt; &*bytes, wanted, "{digits:?}");
+    holds!(rt; read_digits(digits, bytes), "{digits:?}");
+    same!(rt; &*bytes, wanted, "{digits:?}");
 }
 
 #[test]
@@ -77,7 +79,7 @@ fn digits_are_written_in_lower_case(rt: HostRuntime) {
         if 2 * bytes.len() <= 12 {
             let digits = &mut room[..2 * bytes.len()];
             write_digits(bytes, digits);
-            assert_eq!(rt; &*digits, lower, "{bytes:?}");
+            same!(rt; &*digits, lower, "{bytes:?}");
         }
     }
 }
@@ -100,11 +102,11 @@ fn what_is_refused_leaves_the_bytes(rt: HostRuntime) {
         (b"\xb00", 1),
     ] {
         let mut bytes = [1, 2, 3];
-        assert!(rt;
+        holds!(rt;
             !read_digits(digits, &mut bytes[..count]),
             "{digits:?} into {count}"
         );
-        assert_eq!(rt; bytes, [1, 2, 3], "{digits:?} into {count}");
+        same!(rt; bytes, [1, 2, 3], "{digits:?} into {count}");
     }
 }
 
@@ -136,16 +138,16 @@ fn many_digits() -> [u8; 160] {
 fn compare_length(rt: &impl Abort, bytes: &[u8; 80], digits: &[u8; 160], length: usize) {
     let length = length.min(80);
     let mut read = [0xff; 80];
-    assert!(rt;
+    holds!(rt;
         read_digits(&digits[..2 * length], &mut read[..length]),
         "{length}"
     );
-    assert_eq!(rt; &read[..length], &bytes[..length], "{length}");
-    assert!(rt; read[length..].iter().all(|byte| *byte == 0xff), "{length}");
+    same!(rt; &read[..length], &bytes[..length], "{length}");
+    holds!(rt; read[length..].iter().all(|byte| *byte == 0xff), "{length}");
     let mut written = [b'?'; 160];
     write_digits(&bytes[..length], &mut written[..2 * length]);
-    assert_eq!(rt; &written[..2 * length], &digits[..2 * length], "{length}");
-    assert!(rt;
+    same!(rt; &written[..2 * length], &digits[..2 * length], "{length}");
+    holds!(rt;
         written[2 * length..].iter().all(|digit| *digit == b'?'),
         "{length}"
     );
@@ -165,8 +167,8 @@ fn compare_wrong(rt: &impl Abort, digits: &[u8; 160], place: usize, character: u
     let mut wrong = *digits;
     wrong[place % 160] = character;
     let mut bytes = [0xff; 80];
-    assert!(rt; !read_digits(&wrong, &mut bytes), "{character} at {place}");
-    assert!(rt;
+    holds!(rt; !read_digits(&wrong, &mut bytes), "{character} at {place}");
+    holds!(rt;
         bytes.iter().all(|byte| *byte == 0xff),
         "{character} at {place}"
     );

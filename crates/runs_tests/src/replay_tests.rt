@@ -1,38 +1,29 @@
-//! Runs, and a replay of the same frames.
-
-use capture_run::{RunSettings, run_over, run_over_shown};
-use draws::{PORT_257, message};
+//! Runs of many frames, and a replay of the same frames.
+use crate::capture_run_tests::{HEADER, applied_first};
+use crate::lane_run_tests::{CUT, UNTAGGED};
+use crate::run_tests::tagging;
+use capture_run::{run_over, run_over_shown};
+use fixtures::{holds, same};
 use script_replay::replay;
 use std::alloc::{AllocError, Global};
 use std::test::Fail;
 
 /// A frame without a tag, one that is too short for a type, one that is cut within its tag, and the first again.
-const FRAMES: [(&str, &[u8]); 4] = [
-    (
-        "02000000000102000000000208004500",
-        &[2, 0, 0, 0, 0, 1, 2, 0, 0, 0, 0, 2, 8, 0, 0x45, 0],
-    ),
-    (
-        "02000000000102000000000208",
-        &[2, 0, 0, 0, 0, 1, 2, 0, 0, 0, 0, 2, 8],
-    ),
-    (
-        "0200000000010200000000028100",
-        &[2, 0, 0, 0, 0, 1, 2, 0, 0, 0, 0, 2, 0x81, 0],
-    ),
-    (
-        "02000000000102000000000208004500",
-        &[2, 0, 0, 0, 0, 1, 2, 0, 0, 0, 0, 2, 8, 0, 0x45, 0],
-    ),
-];
+const FRAMES: [&[u8]; 4] = [&UNTAGGED, &SHORT, &CUT, &UNTAGGED];
+
+/// A frame that is too short for a type.
+const SHORT: [u8; 13] = [2, 0, 0, 0, 0, 1, 2, 0, 0, 0, 0, 2, 8];
+
+/// The same four as lines of a script.
+const LINES: &str = concat!(
+    "f 257 02000000000102000000000208004500\n",
+    "f 257 02000000000102000000000208\n",
+    "f 257 0200000000010200000000028100\n",
+    "f 257 02000000000102000000000208004500\n",
+);
 
 /// How often these four come.
 const TIMES: u32 = 2500;
-
-/// The header of a capture, lowest byte first.
-const HEADER: [u8; 24] = [
-    0xd4, 0xc3, 0xb2, 0xa1, 2, 0, 4, 0, 0, 0, 0, 0, 0, 0, 0, 0, 0, 0, 4, 0, 1, 0, 0, 0,
-];
 
 /// How many lines of a text begin so.
 fn count_lines(text: &[u8], start: &[u8]) -> usize {
@@ -41,20 +32,9 @@ fn count_lines(text: &[u8], start: &[u8]) -> usize {
         .count()
 }
 
-/// The messages that make port 257 with a table that pushes a tag, each a line.
-fn trace(alloc: Global) -> Result<String, AllocError> {
-    let mut text = String::new(alloc);
-    for digits in &PORT_257 {
-        text.push_str("o ")?;
-        text.push_str(hex::encode(alloc, message(digits))?.as_str())?;
-        text.push_str("\n")?;
-    }
-    Ok(text)
-}
-
 /// The four frames as records of a capture.
 fn push_records(file: &mut Vec<u8>) -> Result<(), AllocError> {
-    for (_, frame) in FRAMES {
+    for frame in FRAMES {
         let stored = u8::try_from(frame.len()).unwrap_or(0);
         file.extend_from_slice(&[0, 0, 0, 0, 0, 0, 0, 0, stored, 0, 0, 0, stored, 0, 0, 0])?;
         file.extend_from_slice(frame)?;
@@ -72,32 +52,13 @@ fn capture(alloc: Global) -> Result<Vec<u8>, AllocError> {
     Ok(file)
 }
 
-/// The four frames as lines of a script.
-fn push_lines(script: &mut String) -> Result<(), AllocError> {
-    for (digits, _) in FRAMES {
-        script.push_str("f 257 ")?;
-        script.push_str(digits)?;
-        script.push_str("\n")?;
-    }
-    Ok(())
-}
-
 /// The messages and then all frames.
 fn script(alloc: Global) -> Result<String, AllocError> {
-    let mut script = trace(alloc)?;
+    let mut script = tagging(alloc)?;
     for _ in 0..TIMES {
-        push_lines(&mut script)?;
+        script.push_str(LINES)?;
     }
     Ok(script)
-}
-
-fn settings(lanes: u16) -> RunSettings {
-    RunSettings {
-        port: 257,
-        lanes,
-        batch: 64,
-        after: true,
-    }
 }
 
 /// Whether these are the lines of the run, of which half the frames leave, with a tag more.
@@ -112,7 +73,7 @@ fn are_lines(lines: &[u8]) -> bool {
 #[test]
 fn a_run_has_the_same_lines_on_any_number_of_lanes(rt: HostRuntime) -> Result<(), Fail> {
     let alloc = rt.alloc();
-    let trace = trace(alloc)?;
+    let trace = tagging(alloc)?;
     let file = capture(alloc)?;
     let mut shown = Vec::new(alloc);
     let mut err = Vec::new(alloc);
@@ -121,22 +82,16 @@ fn a_run_has_the_same_lines_on_any_number_of_lanes(rt: HostRuntime) -> Result<()
         alloc,
         trace.as_bytes(),
         &file,
-        &settings(3),
+        &applied_first(3, 64),
         &mut shown,
         &mut err,
     )?;
-    assert!(rt; are_lines(&shown));
+    holds!(rt; are_lines(&shown));
     for lanes in [1, 2, 5, 16] {
+        let settings = applied_first(lanes, 64);
         let mut lines = Vec::new(alloc);
-        run_over(
-            &rt,
-            alloc,
-            trace.as_bytes(),
-            &file,
-            &settings(lanes),
-            &mut lines,
-        )?;
-        assert_eq!(rt; lines.as_slice(), shown.as_slice(), "{lanes} lanes");
+        run_over(&rt, alloc, trace.as_bytes(), &file, &settings, &mut lines)?;
+        same!(rt; lines.as_slice(), shown.as_slice(), "{lanes} lanes");
     }
     Ok(())
 }
@@ -147,11 +102,11 @@ fn a_replay_of_the_frames_of_a_run_has_its_totals(rt: HostRuntime) -> Result<(),
     let script = script(alloc)?;
     let mut answers = Vec::new(alloc);
     let mut reader = script.as_bytes();
-    assert_eq!(rt; replay(alloc, &mut reader, &mut answers), Ok(()));
+    same!(rt; replay(alloc, &mut reader, &mut answers), Ok(()));
     for (start, count) in [("r ", 5), ("g 1024 ", 5000), ("d 1", 2500), ("d 2", 2500)] {
-        assert_eq!(rt; count_lines(&answers, start.as_bytes()), count, "{start}");
+        same!(rt; count_lines(&answers, start.as_bytes()), count, "{start}");
     }
     // Five replies, the digits of 100,000 bytes that leave, and the reasons.
-    assert_eq!(rt; answers.len(), 5 * 99 + 5000 * 8 + 2 * 100_000 + 5000 * 4);
+    same!(rt; answers.len(), 5 * 99 + 5000 * 8 + 2 * 100_000 + 5000 * 4);
     Ok(())
 }
