@@ -1,5 +1,5 @@
 -- Each turn passes one whole record.
-use Rattle.std.proofs.Common.{◌≡◌, ◌==◌, false, None, length, sym, ap, ◌∙◌, arith, refl}
+use Rattle.std.proofs.Common.{◌≡◌, ◌==◌, false, None, length, sym, ap, ◌∙◌, arith, refl, rules}
 use Rattle.std.proofs.lemmas.Bool.{ne_eqb}
 use Rattle.capture.specs.Records.{first_fault, frames_in, record_fault}
 use Rattle.capture.proofs.Walk.{fault_whole, frames_whole, frames_none}
@@ -24,3 +24,11 @@ returns-clause-count c =
     let none = frames_none c.args.order c.loop-rest.rest.now (sym c.is_empty.ensures ∙ c.loop-rest-test.false) in
     let count : length (frames_in c.args.order c.loop-rest.rest.now) ≡ 0 = ap length none in
     omega (arith, count, c.loop-rest.invariant.frames)
+
+-- bounded, so that a wrong body is refused at once
+pub returns-in-Err-clause-count : goal.returns-in-Err-clause-count
+returns-in-Err-clause-count c = search rules fits 30
+
+-- bounded, so that a wrong body is refused at once
+pub returns-in-Err-clause-fault : goal.returns-in-Err-clause-fault
+returns-in-Err-clause-fault c = search rules fits 30

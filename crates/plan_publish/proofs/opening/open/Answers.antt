@@ -11,3 +11,7 @@ returns-clause-lanes g c =
     let all = c.in-Ok-with_lanes.all in
     subst (λ (home : Home). (vec_len all ≡ c.args.lanes) × ((k : ℕ) → k < c.args.lanes → IfSome (slice_get all.items k) (λ l. IsNew l k home)))
     (sym (ap (λ p. p.home) c.new-3.ensures ∙ c.new-2.ensures.2)) c.in-Ok-with_lanes.ensures.lanes
+
+-- bounded, so that a wrong body is refused at once
+pub returns-then-lanes-lt1-clause-lanes_fault : goal.returns-then-lanes-lt1-clause-lanes_fault
+returns-then-lanes-lt1-clause-lanes_fault c = search rules fits 30

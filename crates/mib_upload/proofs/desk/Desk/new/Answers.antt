@@ -1,0 +1,6 @@
+-- Bounded, so that a wrong body is refused at once.
+use Rattle.std.proofs.Common.{rules}
+use Rattle.mib_upload.proofs.desk.Desk.new.Goals as goal
+
+pub returns : goal.returns
+returns c = search rules fits 30

@@ -1,0 +1,6 @@
+-- Bounded, so that a wrong body is refused at once.
+use Rattle.std.proofs.Common.{rules}
+use Rattle.tag_view.proofs.frame.FrameView.ethertype.Goals as goal
+
+pub returns : goal.returns
+returns c = search rules fits 30

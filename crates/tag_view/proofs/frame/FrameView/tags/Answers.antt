@@ -1,0 +1,6 @@
+-- Bounded, so that a wrong body is refused at once.
+use Rattle.std.proofs.Common.{rules}
+use Rattle.tag_view.proofs.frame.FrameView.tags.Goals as goal
+
+pub returns-clause-value : goal.returns-clause-value
+returns-clause-value c = search rules fits 30
