@@ -1,8 +1,13 @@
-//! Tests of the managed entities and their steps: mib_state, and managed_entity by it.
-//! They stand apart so that mib_state is proved once, and not a second time with its tests.
+//! Tests of the managed entities and their steps, of MIB uploads, and of traces applied without lanes: mib_state (and managed_entity
+//! by it), mib_upload and mib_trace.
+//! They stand apart so that each of these is proved once, and not a second time with its tests.
 #![tactic(auto)]
 
 #[cfg(test)]
 mod held_tests;
+#[cfg(test)]
+mod mib_trace_tests;
+#[cfg(test)]
+mod mib_upload_tests;
 #[cfg(test)]
 mod step_tests;

@@ -2,7 +2,7 @@ use Rattle.std.proofs.Common.{◌≡◌, ◌∷◌, Some, sym, ap, ◌∙◌, su
 use Rattle.plan_publish.specs.Requests.{StartsWithEach}
 use Rattle.plan_publish.specs.Lane.{held_by}
 use Rattle.plan_publish.proofs.Beginnings.{version_grows}
-use Rattle.versions_tests.proofs.lane_tests.hold_twice.Goals as goal
+use Rattle.forwarding_tests.proofs.lane_tests.hold_twice.Goals as goal
 
 pub returns : goal.returns
 returns c =

@@ -1,5 +1,5 @@
 use Rattle.std.proofs.Common.{◌≡◌}
-use Rattle.versions_tests.proofs.dialogue.ask_all.Given as goal
+use Rattle.forwarding_tests.proofs.dialogue.ask_all.Given as goal
 
 abbrev pub invariant-loop-asked : goal.invariant-loop-asked
 invariant-loop-asked g l = l.control.home ≡ l.initial.control.home
