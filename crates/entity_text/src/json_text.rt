@@ -1,10 +1,9 @@
 //! Objects of JSON (RFC 8259), a line each.
-use crate::fault::TextFault;
 use json::Writer;
 use std::alloc::{AllocError, Global};
 use std::fmt::Display;
 use std::io::Write;
-use writing::write_whole;
+use writing::{TextFault, write_whole};
 
 /// Objects of JSON that are written into one array, a line each.
 #[derive(Drop)]

@@ -1,6 +1,5 @@
 //! What a MIB holds, as text.
 use crate::entity::EntityWords;
-use crate::fault::TextFault;
 use crate::rule::RuleWords;
 use crate::value::ValueWords;
 use managed_entity::{AttributeKind, descriptions_of};
@@ -8,7 +7,7 @@ use mib_state::{HeldInstance, Mib, VlanConfig};
 use mib_upload::CLASSES;
 use std::alloc::{AllocError, Global};
 use std::io::Write;
-use writing::write_whole;
+use writing::{TextFault, write_whole};
 
 /// The most instances that a class may have.
 const MOST_INSTANCES: usize = 256;

@@ -1,6 +1,5 @@
 //! What a MIB holds, as JSON.
 use crate::bytes::HexWords;
-use crate::fault::TextFault;
 use crate::filter::FilterWords;
 use crate::json_text::{JsonText, put_number, put_text, put_words};
 use crate::treatment::TreatmentWords;
@@ -11,6 +10,7 @@ use mib_state::{HeldInstance, Mib, VlanConfig};
 use mib_upload::CLASSES;
 use std::alloc::{AllocError, Global};
 use std::io::Write;
+use writing::TextFault;
 
 /// The most instances that a class may have.
 const MOST_INSTANCES: usize = 256;

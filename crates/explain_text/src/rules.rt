@@ -1,12 +1,12 @@
 //! The table in force at a port, as text.
-use entity_text::{EntityWords, RuleWords, TextFault};
+use entity_text::{EntityWords, RuleWords};
 use explain::{TableInForce, number_of, shadow_of, table_in_force, tried_order};
 use managed_entity::class::{MAPPER, VLAN};
 use mib_state::Mib;
 use std::alloc::{AllocError, Global};
 use std::io::Write;
 use vlan_rule::RuleTable;
-use writing::write_whole;
+use writing::{TextFault, write_whole};
 
 /// Writes the table in force at a port: a line that names it and says why it is in force, and then a line for each entry in the
 /// order in which entries are tried for a frame: its number in that order and its place in the table, each from 0, its rank, and

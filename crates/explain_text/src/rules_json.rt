@@ -1,14 +1,13 @@
 //! The table in force at a port, as JSON.
 use crate::rules::{shadow_number, table_of};
-use entity_text::{
-    FilterWords, HexWords, JsonText, TextFault, TreatmentWords, put_number, put_words,
-};
+use entity_text::{FilterWords, HexWords, JsonText, TreatmentWords, put_number, put_words};
 use explain::{TableInForce, table_in_force, tried_order};
 use json::Writer;
 use mib_state::Mib;
 use std::alloc::{AllocError, Global};
 use std::io::Write;
 use vlan_rule::RuleTable;
+use writing::TextFault;
 
 /// Writes the table in force at a port as one object of JSON (RFC 8259): `port`, `table`, and `entries`. The table is an object
 /// with `points_to`, which is `none`, `port` or `mapper`, and with `instance` and `mapper` where there is one. The entries are an

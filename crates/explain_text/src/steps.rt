@@ -2,7 +2,7 @@
 use crate::rules::{put_force, table_of};
 use crate::verdict::VerdictWords;
 use crate::words::{MismatchWords, OriginWords};
-use entity_text::{EntityWords, RuleWords, TagWords, TextFault};
+use entity_text::{EntityWords, RuleWords, TagWords};
 use explain::{OutgoingTag, PriorityOrigin, Step, explain, number_of, table_in_force};
 use frame_meaning::Verdict;
 use managed_entity::class::{GEM_PORT, INTERWORK, MAPPER};
@@ -11,7 +11,7 @@ use mib_state::Mib;
 use std::alloc::{AllocError, Global};
 use std::io::Write;
 use vlan_rule::RuleTable;
-use writing::write_whole;
+use writing::{TextFault, write_whole};
 
 /// Writes why a frame that comes in at a port goes where it goes, a line or a small block for each step: the table in force, how
 /// the frame is read, the entries that were tried, the one that is used, the tags that it leaves with and where each comes from,

@@ -3,7 +3,7 @@ use crate::rules::table_of;
 use crate::verdict::{FrameDigits, VerdictWords};
 use crate::words::{MismatchWords, OriginWords};
 use entity_text::{
-    FilterWords, HexWords, JsonText, TextFault, TreatmentWords, put_number, put_text, put_words,
+    FilterWords, HexWords, JsonText, TreatmentWords, put_number, put_text, put_words,
 };
 use explain::{
     OutgoingTag, PriorityOrigin, Step, TableInForce, TagOrigin, explain, number_of, table_in_force,
@@ -15,6 +15,7 @@ use std::alloc::{AllocError, Global};
 use std::io::Write;
 use tag_view::{FrameView, Tag};
 use vlan_rule::RuleTable;
+use writing::TextFault;
 
 /// Writes why a frame that comes in at a port goes where it goes as an array of JSON (RFC 8259): an object for each step, on a
 /// line of its own, whose member `step` is the name of the step: `table`, `read`, `failed`, `used`, `tags`, `mapper`, `priority`,

@@ -1,5 +1,4 @@
 //! A script or a dialogue as text.
-use crate::fault::DecodeFault;
 use crate::frame::put_frame;
 use crate::line::{MOST_SPELLED, ScriptLine, read_script_line};
 use crate::names::message_fault_words;
@@ -11,7 +10,7 @@ use frame_meaning::Reason;
 use omci_msg::{MsgFault, read, read_reply};
 use std::alloc::{AllocError, Global};
 use std::io::{ErrorKind, Read, Write};
-use writing::write_whole;
+use writing::{DecodeFault, write_whole};
 
 /// Reads a script or a dialogue, and writes a text for each line: one line, and below it indented ones. A line that begins with
 /// `#` and an empty one are written as they are. A line `o HEX` is a message; with a fault it is shown by that. A line `f PORT

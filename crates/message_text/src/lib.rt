@@ -10,7 +10,6 @@
 
 mod attributes;
 mod decoding;
-mod fault;
 mod frame;
 mod line;
 mod names;
@@ -18,7 +17,6 @@ mod reply;
 mod request;
 
 pub use decoding::decode;
-pub use fault::DecodeFault;
 pub use frame::{put_frame, put_view};
 pub use line::{ScriptLine, read_script_line};
 pub use names::{action_name, message_fault_words, result_name};

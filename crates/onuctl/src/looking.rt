@@ -2,15 +2,16 @@
 use crate::files::{read_whole, report_unread};
 use capture_run::{RunFault, report_run};
 use command_line::{ExplainWords, MibWords, RulesWords};
-use entity_text::{TextFault, write_mib, write_mib_json};
+use entity_text::{write_mib, write_mib_json};
 use explain_text::{write_explanation, write_explanation_json, write_rules, write_rules_json};
-use message_text::{DecodeFault, decode};
+use message_text::decode;
 use mib_state::Mib;
 use mib_trace::apply_trace;
 use script_replay::{ReplayFault, report_replay};
 use std::alloc::Global;
 use std::io::{Read, Write};
 use std::rt::Files;
+use writing::{DecodeFault, TextFault};
 
 /// Why a text isn't written, as a run says it.
 fn run_fault(fault: TextFault) -> RunFault {

@@ -1,10 +1,11 @@
 //! What decoding a script writes, and where it ends.
 use fixtures::{holds, push_message, same};
-use message_text::{DecodeFault, decode};
+use message_text::decode;
 use std::alloc::{AllocError, Global};
 use std::io;
 use std::io::{ErrorKind, Read};
 use std::test::Fail;
+use writing::DecodeFault;
 
 /// What a script is decoded to.
 pub(crate) fn decoded(alloc: Global, script: &str) -> Result<Vec<u8>, Fail> {

@@ -1,7 +1,7 @@
 //! What a MIB holds, as text and as JSON.
 use crate::reading;
 use draws::request;
-use entity_text::{TextFault, write_mib, write_mib_json};
+use entity_text::{write_mib, write_mib_json};
 use fixtures::{holds, same};
 use mib_state::Mib;
 use omci_msg::Action;
@@ -9,6 +9,7 @@ use serde_json::Value;
 use std::alloc::{AllocError, Global};
 use std::process::Abort;
 use std::test::Fail;
+use writing::TextFault;
 
 /// A GEM port network CTP, and a table of port 257 that gives a frame without a tag VID 100.
 fn set_up(alloc: Global) -> Result<Mib, AllocError> {

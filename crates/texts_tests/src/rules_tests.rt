@@ -1,7 +1,6 @@
 //! The table in force at a port, as text and as JSON.
 use crate::reading::{check_number, check_words, read_back};
 use draws::request;
-use entity_text::TextFault;
 use explain_text::{write_rules, write_rules_json};
 use fixtures::{holds, same};
 use mib_state::Mib;
@@ -10,6 +9,7 @@ use serde_json::Value;
 use std::alloc::{AllocError, Global};
 use std::process::Abort;
 use std::test::Fail;
+use writing::TextFault;
 
 /// What makes port 257: a GEM port, an interworking point, a mapper whose pointers all lead to it but that of priority 7, which is
 /// null, and a table with an entry that gives a frame without a tag VID 100, and behind it one that drops such a frame of IPv4.

@@ -1,7 +1,6 @@
 //! Why a frame goes where it goes, as text and as JSON.
 use crate::reading::{check_number, check_words, read_back};
 use crate::rules_tests::{let_go, port_257};
-use entity_text::TextFault;
 use explain_text::{write_explanation, write_explanation_json};
 use fixtures::{holds, same};
 use mib_state::Mib;
@@ -9,6 +8,7 @@ use serde_json::Value;
 use std::alloc::Global;
 use std::process::Abort;
 use std::test::Fail;
+use writing::TextFault;
 
 /// A frame: 12 bytes of addresses, and what these digits spell.
 fn frame_of(alloc: Global, digits: &str) -> Result<Vec<u8>, Fail> {

@@ -1,10 +1,33 @@
-//! Why a script wasn't decoded, or not whole.
+//! Why a text wasn't written, or not whole.
 ghost use Rattle.std.specs.Prelude.{◌≡◌};
-ghost use Rattle.message_text.specs.Status.{status_of};
+ghost use Rattle.writing.specs.Status.{status_of};
 
+use crate::whole::WriteFault;
 use std::alloc::AllocError;
 use thiserror::Error;
-use writing::WriteFault;
+
+/// Why a text wasn't written, or not whole.
+#[derive(Clone, Copy, Debug, PartialEq, Eq, Error)]
+pub enum TextFault {
+    /// A write failed, or took no byte. A front of the text is written.
+    #[error("write failed")]
+    Write,
+    /// There was no memory for the text.
+    #[error("no memory")]
+    NoMemory,
+}
+
+impl From<WriteFault> for TextFault {
+    fn from(_fault: WriteFault) -> TextFault {
+        TextFault::Write
+    }
+}
+
+impl From<AllocError> for TextFault {
+    fn from(_refused: AllocError) -> TextFault {
+        TextFault::NoMemory
+    }
+}
 
 /// Why the decoding of a script ended before its end.
 #[derive(Clone, Copy, Debug, PartialEq, Eq, Error)]

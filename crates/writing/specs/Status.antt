@@ -1,7 +1,7 @@
 -- The status with which the program ends.
 use Rattle.std.specs.Prelude.{ℕ}
-use Rattle.message_text.specs.declared.fault.DecodeFault.{DecodeFault}
-use Rattle.message_text.specs.declared.fault.DecodeFault.TheVariants.{BadLine, Read, Write, NoMemory}
+use Rattle.writing.specs.declared.fault.DecodeFault.{DecodeFault}
+use Rattle.writing.specs.declared.fault.DecodeFault.TheVariants.{BadLine, Read, Write, NoMemory}
 
 -- 2 for a bad line, else 1
 abbrev pub status_of : DecodeFault → ℕ
