@@ -1,9 +1,17 @@
 -- The words that the program knows, as clap reads them.
 use Rattle.std.specs.Prelude.{true, Some, codes, pos}
-use Rattle.clap.specs.Words.{App, Rule, Text, new_app, new_rule, with_rule, with_subcommand}
+use Rattle.std.specs.Prelude.{◌≡◌, IfOk, Result, false}
+use Rattle.std.specs.declared.alloc.AllocError.{AllocError}
+use Rattle.clap.specs.Words.{App, Rule, Text, app_of, new_app, new_rule, with_rule, with_subcommand}
+use Rattle.clap.specs.declared.builder.command.Command.{Command}
+use Rattle.clap.specs.declared.builder.command.Command.TheViews.{out-Command as fields_of}
 use Rattle.clap.specs.declared.builder.action.ArgAction.TheVariants.{Set, SetTrue}
 use Rattle.clap.specs.declared.builder.value_parser.ValueParser.{ValueParser}
 use Rattle.clap.specs.declared.builder.value_parser.ValueParser.TheVariants.{NonEmptyString, Signed}
+
+-- a command that knows these words and no option that goes for its subcommands too, where there was memory to make it
+abbrev pub IsCommand : Result Command AllocError → App → Type 0
+IsCommand made app = IfOk made (λ command. (app_of command ≡ app) × ((fields_of command).has_globals ≡ false))
 
 -- a required option with a value
 abbrev pub valued : Text → ValueParser → Rule

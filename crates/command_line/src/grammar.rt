@@ -1,10 +1,10 @@
 //! The words that the program knows, with the texts of its help.
 
-ghost use Rattle.std.specs.Prelude.{◌≡◌, IfOk, Some, false, codes};
-ghost use Rattle.clap.specs.Words.{app_of, rule_of};
+ghost use Rattle.std.specs.Prelude.{◌≡◌, IfOk, Ok, Some, false, codes};
+ghost use Rattle.clap.specs.Words.{App, Rule, Text, app_of, new_app, rule_of, with_rule, with_subcommand};
 ghost use Rattle.clap.specs.declared.builder.command.Command.TheViews.{out-Command as fields_of};
 ghost use Rattle.clap.specs.declared.builder.value_parser.ValueParser.TheVariants.{NonEmptyString};
-ghost use Rattle.command_line.specs.Grammar.{after, batch, decode, explain, frame, json, lanes, mib, onuctl, port, replay, rules, run, trace, valued};
+ghost use Rattle.command_line.specs.Grammar.{IsCommand, after, at_port, batch, decode, explain, frame, json, lanes, mib, onuctl, port, replay, rules, run, trace, valued};
 
 use clap::builder::ValueParser;
 use clap::{Arg, ArgAction, Command, value_parser};
@@ -13,6 +13,26 @@ use std::alloc::{AllocError, Global};
 
 /// What `--version` shows.
 const VERSION: &str = "0.1.0";
+
+/// The command with this argument too. Err where what came before had no memory, or this has none.
+fn with_arg<'a>(
+    command: Result<Command<'a>, AllocError>,
+    arg: Arg<'a>,
+) -> Result<Command<'a>, AllocError>
+    ensures { (app : App) (rule : Rule) → IsCommand command.entry app → rule_of arg.entry ≡ rule → arg.entry.global ≡ false → IsCommand result (with_rule app rule) }
+{
+    command?.arg(arg)
+}
+
+/// The command with this subcommand too. Err where one of the two had no memory, or both together have none.
+fn with_sub<'a>(
+    command: Result<Command<'a>, AllocError>,
+    sub: Result<Command<'a>, AllocError>,
+) -> Result<Command<'a>, AllocError>
+    ensures { (app inner : App) → IfOk command.entry (λ command. app_of command ≡ app) → IsCommand sub.entry inner → IfOk result (λ command. app_of command ≡ with_subcommand app inner.top) }
+{
+    command?.subcommand(sub?)
+}
 
 /// A required option with a value, by its name, which is its id too.
 fn valued<'a>(
@@ -103,34 +123,35 @@ fn after<'a>(alloc: Global) -> Arg<'a>
         .help("Forward only after the whole trace is applied; has no value [example: --after]")
 }
 
-fn replay<'a>(alloc: Global) -> Command<'a>
-    ensures app { app_of result ≡ replay }
-    ensures local { (fields_of result).has_globals ≡ false }
+fn replay<'a>(alloc: Global) -> Result<Command<'a>, AllocError>
+    ensures { IsCommand result replay }
 {
-    Command::new(alloc, "replay")
-        .about("Answer the script on standard input, line by line, on standard output")
-        .after_help("Example: onuctl replay < examples/one_frame.script")
+    Ok(
+        Command::new(alloc, "replay")
+            .about("Answer the script on standard input, line by line, on standard output")
+            .after_help("Example: onuctl replay < examples/one_frame.script"),
+    )
 }
 
 fn run<'a>(alloc: Global) -> Result<Command<'a>, AllocError>
-    ensures app { IfOk result (λ command. app_of command ≡ run) }
-    ensures local { IfOk result (λ command. (fields_of command).has_globals ≡ false) }
+    ensures { IsCommand result run }
 {
-    Command::new(alloc, "run")
+    let alone = Command::new(alloc, "run")
         .about("Forward the frames of a capture on several lanes while a trace is applied")
         .after_help(
             "Example: onuctl run --trace up.script --frames up.pcap --port 257 --lanes 4 --batch 1024",
-        )
-        .arg(trace(alloc))?
-        .arg(file(
-            alloc,
-            "frames",
-            "Capture of the frames, a file in the classic format of libpcap [example: up.pcap]",
-        ))?
-        .arg(port(alloc))?
-        .arg(lanes(alloc))?
-        .arg(batch(alloc))?
-        .arg(after(alloc))
+        );
+    let frames = file(
+        alloc,
+        "frames",
+        "Capture of the frames, a file in the classic format of libpcap [example: up.pcap]",
+    );
+    let over_trace = with_arg(Ok(alone), trace(alloc));
+    let over_files = with_arg(over_trace, frames);
+    let at_port = with_arg(over_files, port(alloc));
+    let on_lanes = with_arg(at_port, lanes(alloc));
+    let in_batches = with_arg(on_lanes, batch(alloc));
+    with_arg(in_batches, after(alloc))
 }
 
 /// Whether objects are shown in place of lines.
@@ -157,66 +178,68 @@ fn frame<'a>(alloc: Global) -> Arg<'a>
         .help("Bytes of the frame, from the destination address on, in hexadecimal digits")
 }
 
-fn decode<'a>(alloc: Global) -> Command<'a>
-    ensures app { app_of result ≡ decode }
-    ensures local { (fields_of result).has_globals ≡ false }
+fn decode<'a>(alloc: Global) -> Result<Command<'a>, AllocError>
+    ensures { IsCommand result decode }
 {
-    Command::new(alloc, "decode")
-        .about("Say what each line of the script or of the answers on standard input means")
-        .after_help("Example: onuctl decode < examples/one_frame.script")
+    Ok(
+        Command::new(alloc, "decode")
+            .about("Say what each line of the script or of the answers on standard input means")
+            .after_help("Example: onuctl decode < examples/one_frame.script"),
+    )
 }
 
 fn mib<'a>(alloc: Global) -> Result<Command<'a>, AllocError>
-    ensures app { IfOk result (λ command. app_of command ≡ mib) }
-    ensures local { IfOk result (λ command. (fields_of command).has_globals ≡ false) }
+    ensures { IsCommand result mib }
 {
-    Command::new(alloc, "mib")
+    let alone = Command::new(alloc, "mib")
         .about("Show the managed entities after a trace")
-        .after_help("Example: onuctl mib --trace up.script")
-        .arg(trace(alloc))?
-        .arg(json(alloc))
+        .after_help("Example: onuctl mib --trace up.script");
+    let over_trace = with_arg(Ok(alone), trace(alloc));
+    with_arg(over_trace, json(alloc))
+}
+
+/// The command that names a trace and a port, and whether objects are shown.
+fn at_port<'a>(alloc: Global, command: Command<'a>) -> Result<Command<'a>, AllocError>
+    ensures { (name : Text) → IsCommand (Ok command.entry) (new_app name) → IsCommand result (at_port name) }
+{
+    let over_trace = with_arg(Ok(command), trace(alloc));
+    let at_port = with_arg(over_trace, port(alloc));
+    with_arg(at_port, json(alloc))
 }
 
 fn rules<'a>(alloc: Global) -> Result<Command<'a>, AllocError>
-    ensures app { IfOk result (λ command. app_of command ≡ rules) }
-    ensures local { IfOk result (λ command. (fields_of command).has_globals ≡ false) }
+    ensures { IsCommand result rules }
 {
-    Command::new(alloc, "rules")
+    let alone = Command::new(alloc, "rules")
         .about("Show the VLAN tagging table in force at a port after a trace")
-        .after_help("Example: onuctl rules --trace up.script --port 257")
-        .arg(trace(alloc))?
-        .arg(port(alloc))?
-        .arg(json(alloc))
+        .after_help("Example: onuctl rules --trace up.script --port 257");
+    at_port(alloc, alone)
 }
 
 fn explain<'a>(alloc: Global) -> Result<Command<'a>, AllocError>
-    ensures app { IfOk result (λ command. app_of command ≡ explain) }
-    ensures local { IfOk result (λ command. (fields_of command).has_globals ≡ false) }
+    ensures { IsCommand result explain }
 {
-    Command::new(alloc, "explain")
+    let alone = Command::new(alloc, "explain")
         .about("Say step by step what becomes of one frame after a trace")
         .after_help(
             "Example: onuctl explain --trace up.script --port 257 0200000000010200000000028100a0640800",
-        )
-        .arg(trace(alloc))?
-        .arg(port(alloc))?
-        .arg(json(alloc))?
-        .arg(frame(alloc))
+        );
+    with_arg(at_port(alloc, alone), frame(alloc))
 }
 
 /// The program with all that it can be asked for.
 pub fn onuctl<'a>(alloc: Global) -> Result<Command<'a>, AllocError>
     ensures { IfOk result (λ command. app_of command ≡ onuctl) }
 {
-    Command::new(alloc, "onuctl")
+    let alone = Command::new(alloc, "onuctl")
         .version(VERSION)
         .about("Answer OMCI messages and forward Ethernet frames, as an optical network unit does")
         .subcommand_required(true)
-        .arg_required_else_help(true)
-        .subcommand(replay(alloc))?
-        .subcommand(run(alloc)?)?
-        .subcommand(decode(alloc))?
-        .subcommand(mib(alloc)?)?
-        .subcommand(rules(alloc)?)?
-        .subcommand(explain(alloc)?)
+        .arg_required_else_help(true);
+    let answering = with_sub(Ok(alone), replay(alloc));
+    let forwarding = with_sub(answering, run(alloc));
+    let decoding = with_sub(forwarding, decode(alloc));
+    let showing = with_sub(decoding, mib(alloc));
+    let listing = with_sub(showing, rules(alloc));
+    with_sub(listing, explain(alloc))
 }

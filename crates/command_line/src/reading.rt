@@ -1,6 +1,6 @@
 //! What the words ask for.
-ghost use Rattle.std.specs.Prelude.{◌≤◌, IfErr, IfNone, IfOk, IfSome};
-ghost use Rattle.clap.specs.Words.{found_of, rows_of, subcommand_of, subcommand_rows_of};
+ghost use Rattle.std.specs.Prelude.{◌≡◌, ◌≤◌, IfErr, IfNone, IfOk, IfSome};
+ghost use Rattle.clap.specs.Words.{app_of, found_of, rows_of, subcommand_of, subcommand_rows_of};
 ghost use Rattle.clap.specs.Walk.{texts};
 ghost use Rattle.command_line.specs.Asked.{IsAskedBy, IsExplain, IsMib, IsRules, IsRun};
 ghost use Rattle.command_line.specs.Refused.{IsRightlyRefused};
@@ -15,7 +15,7 @@ ghost use Rattle.command_line.specs.Range.{AreInRange, IsInRange};
 use crate::grammar::onuctl;
 use crate::words::{ExplainWords, MibWords, RulesWords, RunWords, Words};
 use clap::error::ErrorKind;
-use clap::{ArgMatches, Error};
+use clap::{ArgMatches, Command, Error};
 use run_settings::{BATCH_LIMIT, LANE_LIMIT, RunSettings};
 use std::alloc::Global;
 
@@ -105,6 +105,23 @@ fn read_matches<'a>(matches: &ArgMatches<'a>) -> Option<Words<'a>>
     Some(Words::Explain(read_explain(given)?))
 }
 
+/// What these words ask for, as a command takes them apart that has the program's grammar.
+fn read_by<'a>(command: &mut Command<'a>, words: &'a [&'a str]) -> Result<Words<'a>, Error>
+    requires { app_of command.old ≡ onuctl }
+    ensures asked { IfOk result (IsAskedBy (subcommand_of onuctl (texts words.entry.now))) }
+    ensures range { IfOk result IsInRange }
+    ensures refused { IfErr result (IsRightlyRefused (texts words.entry.now)) }
+{
+    let matches = command.try_get_matches_from_mut(words)?;
+    match read_matches(&matches) {
+        Some(asked) => Ok(asked),
+        None => Err(command.error(
+            ErrorKind::ValueValidation,
+            "a value is missing or out of its range",
+        )?),
+    }
+}
+
 /// What the words of a command line ask for, the program's name first: a command with its options. Err where they ask
 /// for the help or the version, which is the error's text then; where they make no sense; and where there is no memory to read
 /// them.
@@ -114,12 +131,5 @@ pub fn read_words<'a>(alloc: Global, words: &'a [&'a str]) -> Result<Words<'a>, 
     ensures refused { IfErr result (IsRightlyRefused (texts words.entry.now)) }
 {
     let mut command = onuctl(alloc)?;
-    let matches = command.try_get_matches_from_mut(words)?;
-    match read_matches(&matches) {
-        Some(asked) => Ok(asked),
-        None => Err(command.error(
-            ErrorKind::ValueValidation,
-            "a value is missing or out of its range",
-        )?),
-    }
+    read_by(&mut command, words)
 }

@@ -1,27 +1,26 @@
-use Rattle.std.proofs.Common.{◌∙◌, ◌≡◌, ap, List, Option, subst, sym}
+use Rattle.std.proofs.Common.{◌∙◌, ap, List, Option, subst, sym}
 use Rattle.std.proofs.lemmas.Result.{err_from_is_err_and}
 use Rattle.clap.specs.Walk.{texts}
-use Rattle.clap.specs.Words.{App, Row, Text, subcommand_of, subcommand_rows_of, takes}
+use Rattle.clap.specs.Words.{App, Row, Text, takes}
 use Rattle.command_line.specs.Asked.{IsAskedBy}
-use Rattle.command_line.specs.Grammar.{onuctl}
 use Rattle.command_line.proofs.Parsed.{rows_read}
-use Rattle.command_line.proofs.reading.read_words.Goals as goal
+use Rattle.command_line.proofs.reading.read_by.Goals as goal
 
 pub returns-in-Some-clause-asked : goal.returns-in-Some-clause-asked
 returns-in-Some-clause-asked c =
-    let same = rows_read _ (texts c.args.words.now) _ c.in_ok-command.ensures c.in_ok-matches.ensures.ok.2 in
+    let same = rows_read _ (texts c.args.words.now) _ c.requires c.in_ok-matches.ensures.ok.2 in
     subst (λ (o : Option (Text × List Row)). IsAskedBy o c.in-Some.asked) same c.in-Some.ensures.asked
 
 pub returns-clause-refused : goal.returns-clause-refused
 returns-clause-refused c = λ taken words asked fits.
-    let same = rows_read _ (texts c.args.words.now) _ c.in_ok-command.ensures c.in_ok-matches.ensures.ok.2 in
+    let same = rows_read _ (texts c.args.words.now) _ c.requires c.in_ok-matches.ensures.ok.2 in
     absurd (c.in-None.ensures.none words (subst (λ (o : Option (Text × List Row)). IsAskedBy o words) (sym same) asked) fits)
 
 pub returns-in_err-matches-clause-refused : goal.returns-in_err-matches-clause-refused
 returns-in_err-matches-clause-refused c =
-    let p = err_from_is_err_and c.from_residual-in_err-matches.result c.from_residual-in_err-matches.ensures.1 in
+    let p = err_from_is_err_and c.from_residual.result c.from_residual.ensures.1 in
     rw p.1 (λ taken words asked fits.
-    rw p.2 (c.in_err-matches.ensures.passes (ap (λ (a : App). takes a (texts c.args.words.now)) c.in_ok-command.ensures ∙ taken)))
+    rw p.2 (c.in_err-matches.ensures.passes (ap (λ (a : App). takes a (texts c.args.words.now)) c.requires ∙ taken)))
 
 pub returns-in_err-error-in-None-clause-refused : goal.returns-in_err-error-in-None-clause-refused
 returns-in_err-error-in-None-clause-refused c =
