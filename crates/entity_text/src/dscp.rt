@@ -18,8 +18,9 @@ impl fmt::Display for DscpMapWords<'_> {
             }
         }
         if separator.is_empty() {
-            write!(f, "every DSCP to 0")?;
+            f.write_str("every DSCP to 0")
+        } else {
+            Ok(())
         }
-        Ok(())
     }
 }

@@ -11,10 +11,7 @@ pub struct EntityWords {
 
 impl fmt::Display for EntityWords {
     fn fmt<W: fmt::Write>(&self, f: &mut fmt::Formatter<W>) -> fmt::Result {
-        let EntityWords { class, instance } = *self;
-        match class_name(class) {
-            Some(name) => write!(f, "{name} ({class}) 0x{instance:04x}"),
-            None => write!(f, "unknown class ({class}) 0x{instance:04x}"),
-        }
+        let name = class_name(self.class).unwrap_or("unknown class");
+        write!(f, "{name} ({}) 0x{:04x}", self.class, self.instance)
     }
 }

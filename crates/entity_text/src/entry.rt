@@ -1,7 +1,7 @@
 //! An entry of a VLAN table in words.
 use crate::bytes::HexWords;
 use crate::rule::RuleWords;
-use std::fmt;
+use std::fmt::{self, Display};
 use vlan_rule::{Entry, Rule};
 
 /// An entry that is put into a VLAN table, in words: its rule; for a deletion, the key whose entry goes; and for an entry that
@@ -16,10 +16,7 @@ impl fmt::Display for EntryWords<'_> {
             return write!(f, "delete the entry of key {key:016x}");
         }
         match Rule::read(self.0) {
-            Ok(rule) => {
-                let rule = RuleWords(&rule);
-                write!(f, "{rule}")
-            }
+            Ok(rule) => RuleWords(&rule).fmt(f),
             Err(fault) => {
                 let bytes = HexWords(&self.0.0);
                 write!(f, "bad entry {bytes}: {fault}")

@@ -1,4 +1,5 @@
 //! The filter of a rule in words.
+use crate::field::FieldWords;
 use std::fmt;
 use vlan_rule::{EthertypeFilter, Filter, PriorityFilter, Rule, TagFilter, TpidFilter, VidFilter};
 
@@ -8,22 +9,33 @@ pub struct FilterWords<'a>(pub &'a Rule);
 
 impl fmt::Display for FilterWords<'_> {
     fn fmt<W: fmt::Write>(&self, f: &mut fmt::Formatter<W>) -> fmt::Result {
-        match &self.0.filter {
-            Filter::NoTag => write!(f, "no tag")?,
-            Filter::OneTagDefault => write!(f, "any one tag")?,
-            Filter::TwoTagDefault => write!(f, "any two tags")?,
+        let tags = TagsFilterWords(&self.0.filter);
+        let ethertype = ethertype_words(self.0.ethertype);
+        write!(f, "{tags}, Ethertype {ethertype}")
+    }
+}
+
+/// Which tags a frame must have.
+#[derive(Clone, Copy)]
+struct TagsFilterWords<'a>(&'a Filter);
+
+impl fmt::Display for TagsFilterWords<'_> {
+    fn fmt<W: fmt::Write>(&self, f: &mut fmt::Formatter<W>) -> fmt::Result {
+        let words = match self.0 {
+            Filter::NoTag => "no tag",
+            Filter::OneTagDefault => "any one tag",
+            Filter::TwoTagDefault => "any two tags",
             Filter::OneTag(tag) => {
                 let tag = TagFilterWords(tag);
-                write!(f, "one tag ({tag})")?
+                return write!(f, "one tag ({tag})");
             }
             Filter::TwoTag { outer, inner } => {
                 let outer = TagFilterWords(outer);
                 let inner = TagFilterWords(inner);
-                write!(f, "two tags (outer: {outer}; inner: {inner})")?
+                return write!(f, "two tags (outer: {outer}; inner: {inner})");
             }
-        }
-        let ethertype = ethertype_words(self.0.ethertype);
-        write!(f, ", Ethertype {ethertype}")
+        };
+        f.write_str(words)
     }
 }
 
@@ -33,16 +45,26 @@ struct TagFilterWords<'a>(&'a TagFilter);
 
 impl fmt::Display for TagFilterWords<'_> {
     fn fmt<W: fmt::Write>(&self, f: &mut fmt::Formatter<W>) -> fmt::Result {
-        match self.0.priority {
-            PriorityFilter::Any => write!(f, "priority any")?,
-            PriorityFilter::Exactly(priority) => write!(f, "priority {priority}")?,
-        }
-        match self.0.vid {
-            VidFilter::Any => write!(f, ", VID any")?,
-            VidFilter::Exactly(vid) => write!(f, ", VID {vid}")?,
-        }
+        let priority = priority_words(self.0.priority);
+        let vid = vid_words(self.0.vid);
         let tpid = tpid_words(self.0.tpid);
-        write!(f, ", TPID {tpid}")
+        write!(f, "priority {priority}, VID {vid}, TPID {tpid}")
+    }
+}
+
+/// What the priority of a tag must be.
+fn priority_words(filter: PriorityFilter) -> FieldWords {
+    match filter {
+        PriorityFilter::Any => FieldWords::Words("any"),
+        PriorityFilter::Exactly(priority) => FieldWords::Number(u16::from(priority)),
+    }
+}
+
+/// What the VID of a tag must be.
+fn vid_words(filter: VidFilter) -> FieldWords {
+    match filter {
+        VidFilter::Any => FieldWords::Words("any"),
+        VidFilter::Exactly(vid) => FieldWords::Number(vid),
     }
 }
 

@@ -48,9 +48,13 @@ fn put_instance(text: &mut String, mib: &Mib, held: &HeldInstance<'_>) -> Result
         instance: held.number(),
     };
     writeln!(text, "{entity}")?;
-    for (n, description) in (1..=16).zip(descriptions_of(held.class())) {
+    let descriptions = descriptions_of(held.class());
+    for place in 0..16 {
+        let Some(description) = descriptions.get(usize::from(place)) else {
+            break;
+        };
         let name = description.name;
-        if let Some(bytes) = held.attribute(n) {
+        if let Some(bytes) = held.attribute(place + 1) {
             let value = ValueWords {
                 kind: description.kind,
                 bytes: &bytes,

@@ -1,8 +1,6 @@
 //! What a MIB holds, as JSON.
-use crate::bytes::HexWords;
-use crate::filter::FilterWords;
-use crate::json_text::{JsonText, put_number, put_text, put_words};
-use crate::treatment::TreatmentWords;
+use crate::json_text::{JsonText, put_number, put_text};
+use crate::rule_json::put_table_entry;
 use crate::value::{mapping_of, number_of};
 use json::Writer;
 use managed_entity::{AttributeKind, Description, class_name, descriptions_of};
@@ -65,8 +63,11 @@ fn put_instance(
     put_number(object, "instance", u64::from(held.number()))?;
     object.key("attributes")?;
     object.begin_object()?;
-    for (n, description) in (1..=16).zip(descriptions_of(class)) {
-        put_attribute(alloc, object, mib, held, n, description)?;
+    let descriptions = descriptions_of(class);
+    for place in 0..16 {
+        if let Some(description) = descriptions.get(usize::from(place)) {
+            put_attribute(alloc, object, mib, held, place + 1, description)?;
+        }
     }
     object.end_object()
 }
@@ -110,15 +111,7 @@ fn put_value(object: &mut Writer, kind: AttributeKind, bytes: &[u8]) -> Result<(
 fn put_table(alloc: Global, object: &mut Writer, vlan: &VlanConfig) -> Result<(), AllocError> {
     for place in 0..vlan.table.len() {
         object.begin_object()?;
-        put_number(object, "place", place as u64)?;
-        if let Some(rule) = vlan.table.rule(place) {
-            put_number(object, "rank", u64::from(rule.rank.number()))?;
-            if let Some(entry) = vlan.table.entry(place) {
-                put_words(alloc, object, "entry", &HexWords(&entry.0))?;
-            }
-            put_words(alloc, object, "filter", &FilterWords(rule))?;
-            put_words(alloc, object, "treatment", &TreatmentWords(&rule.treatment))?;
-        }
+        put_table_entry(alloc, object, &vlan.table, place)?;
         object.end_object()?;
     }
     Ok(())

@@ -9,8 +9,11 @@ pub struct TagWords<'a>(pub &'a Tag);
 impl fmt::Display for TagWords<'_> {
     fn fmt<W: fmt::Write>(&self, f: &mut fmt::Formatter<W>) -> fmt::Result {
         let tag = self.0;
-        let (tpid, pcp, vid) = (tag.tpid, tag.pcp, tag.vid);
         let dei = u8::from(tag.dei);
-        write!(f, "priority {pcp}, DEI {dei}, VID {vid}, TPID 0x{tpid:04x}")
+        write!(
+            f,
+            "priority {}, DEI {dei}, VID {}, TPID 0x{:04x}",
+            tag.pcp, tag.vid, tag.tpid
+        )
     }
 }

@@ -1,5 +1,6 @@
 //! The treatment of a rule in words.
-use std::fmt;
+use crate::field::FieldWords;
+use std::fmt::{self, Display};
 use vlan_rule::{
     AddedTag, EligibleSource, PrioritySource, Retag, TpidSource, Treatment, VidSource,
 };
@@ -12,11 +13,8 @@ pub struct TreatmentWords<'a>(pub &'a Treatment);
 impl fmt::Display for TreatmentWords<'_> {
     fn fmt<W: fmt::Write>(&self, f: &mut fmt::Formatter<W>) -> fmt::Result {
         match self.0 {
-            Treatment::Discard => write!(f, "drop the frame"),
-            Treatment::Retag(retag) => {
-                let retag = RetagWords(retag);
-                write!(f, "{retag}")
-            }
+            Treatment::Discard => f.write_str("drop the frame"),
+            Treatment::Retag(retag) => RetagWords(retag).fmt(f),
         }
     }
 }
@@ -27,26 +25,50 @@ struct RetagWords<'a>(&'a Retag);
 
 impl fmt::Display for RetagWords<'_> {
     fn fmt<W: fmt::Write>(&self, f: &mut fmt::Formatter<W>) -> fmt::Result {
-        let Retag {
-            remove,
-            outer,
-            inner,
-        } = self.0;
-        match remove {
-            0 if outer.is_none() && inner.is_none() => write!(f, "leave the tags as they are")?,
-            0 => write!(f, "remove no tag")?,
-            1 => write!(f, "remove 1 tag")?,
-            _ => write!(f, "remove {remove} tags")?,
+        let retag = self.0;
+        if leaves_tags(retag) {
+            return f.write_str("leave the tags as they are");
         }
-        if let Some(tag) = outer {
-            let tag = AddedTagWords(tag);
-            write!(f, ", add outer tag ({tag})")?;
+        let removed = RemovedWords(retag.remove);
+        let outer = NewTagWords("outer", &retag.outer);
+        let inner = NewTagWords("inner", &retag.inner);
+        write!(f, "{removed}{outer}{inner}")
+    }
+}
+
+/// Whether the tags stay as they are.
+fn leaves_tags(retag: &Retag) -> bool {
+    retag.remove == 0 && retag.outer.is_none() && retag.inner.is_none()
+}
+
+/// How many tags go.
+#[derive(Clone, Copy)]
+struct RemovedWords(u8);
+
+impl fmt::Display for RemovedWords {
+    fn fmt<W: fmt::Write>(&self, f: &mut fmt::Formatter<W>) -> fmt::Result {
+        let words = match self.0 {
+            0 => "remove no tag",
+            1 => "remove 1 tag",
+            _ => return write!(f, "remove {} tags", self.0),
+        };
+        f.write_str(words)
+    }
+}
+
+/// The tag that is added at a place, or nothing where none is.
+#[derive(Clone, Copy)]
+struct NewTagWords<'a>(&'static str, &'a Option<AddedTag>);
+
+impl fmt::Display for NewTagWords<'_> {
+    fn fmt<W: fmt::Write>(&self, f: &mut fmt::Formatter<W>) -> fmt::Result {
+        match self.1 {
+            Some(tag) => {
+                let tag = AddedTagWords(tag);
+                write!(f, ", add {} tag ({tag})", self.0)
+            }
+            None => Ok(()),
         }
-        if let Some(tag) = inner {
-            let tag = AddedTagWords(tag);
-            write!(f, ", add inner tag ({tag})")?;
-        }
-        Ok(())
     }
 }
 
@@ -56,26 +78,31 @@ pub struct AddedTagWords<'a>(pub &'a AddedTag);
 
 impl fmt::Display for AddedTagWords<'_> {
     fn fmt<W: fmt::Write>(&self, f: &mut fmt::Formatter<W>) -> fmt::Result {
-        let AddedTag {
-            priority,
-            vid,
-            tpid,
-            eligible,
-        } = *self.0;
-        match priority {
-            PrioritySource::Fixed(priority) => write!(f, "priority {priority}")?,
-            PrioritySource::Inner => write!(f, "priority from inner")?,
-            PrioritySource::Outer => write!(f, "priority from outer")?,
-            PrioritySource::Dscp => write!(f, "priority from DSCP")?,
-        }
-        match vid {
-            VidSource::Fixed(vid) => write!(f, ", VID {vid}")?,
-            VidSource::Inner => write!(f, ", VID from inner")?,
-            VidSource::Outer => write!(f, ", VID from outer")?,
-        }
-        let tpid = tpid_words(tpid);
-        let eligible = eligible_words(eligible);
-        write!(f, ", TPID {tpid}, DEI {eligible}")
+        let priority = priority_words(self.0.priority);
+        let vid = vid_words(self.0.vid);
+        let tpid = tpid_words(self.0.tpid);
+        let eligible = eligible_words(self.0.eligible);
+        write!(
+            f,
+            "priority {priority}, VID {vid}, TPID {tpid}, DEI {eligible}"
+        )
+    }
+}
+
+fn priority_words(source: PrioritySource) -> FieldWords {
+    match source {
+        PrioritySource::Fixed(priority) => FieldWords::Number(u16::from(priority)),
+        PrioritySource::Inner => FieldWords::Words("from inner"),
+        PrioritySource::Outer => FieldWords::Words("from outer"),
+        PrioritySource::Dscp => FieldWords::Words("from DSCP"),
+    }
+}
+
+fn vid_words(source: VidSource) -> FieldWords {
+    match source {
+        VidSource::Fixed(vid) => FieldWords::Number(vid),
+        VidSource::Inner => FieldWords::Words("from inner"),
+        VidSource::Outer => FieldWords::Words("from outer"),
     }
 }
 

@@ -3,7 +3,7 @@ use crate::bytes::HexWords;
 use crate::dscp::DscpMapWords;
 use crate::entry::EntryWords;
 use managed_entity::AttributeKind;
-use std::fmt;
+use std::fmt::{self, Display};
 use tag_view::DscpMap;
 use vlan_rule::Entry;
 
@@ -22,20 +22,11 @@ impl fmt::Display for ValueWords<'_> {
             AttributeKind::Number => write!(f, "{number}"),
             AttributeKind::Pointer | AttributeKind::Tpid => write!(f, "0x{number:04x}"),
             AttributeKind::DscpMapping => match mapping_of(self.bytes) {
-                Some(map) => {
-                    let map = DscpMapWords(&map);
-                    write!(f, "{map}")
-                }
-                None => {
-                    let bytes = HexWords(self.bytes);
-                    write!(f, "{bytes}")
-                }
+                Some(map) => DscpMapWords(&map).fmt(f),
+                None => HexWords(self.bytes).fmt(f),
             },
             AttributeKind::Table => match entry_of(self.bytes) {
-                Some(entry) => {
-                    let entry = EntryWords(&entry);
-                    write!(f, "{entry}")
-                }
+                Some(entry) => EntryWords(&entry).fmt(f),
                 None => write!(f, "{number} bytes"),
             },
         }

@@ -1,10 +1,11 @@
 //! The table in force at a port, as JSON.
 use crate::rules::{shadow_number, table_of};
-use entity_text::{FilterWords, HexWords, JsonText, TreatmentWords, put_number, put_words};
+use entity_text::{JsonText, put_number, put_table_entry};
 use explain::{TableInForce, table_in_force, tried_order};
 use json::Writer;
 use mib_state::Mib;
 use std::alloc::{AllocError, Global};
+use std::fmt;
 use std::io::Write;
 use vlan_rule::RuleTable;
 use writing::TextFault;
@@ -21,15 +22,46 @@ pub fn write_rules_json<W: Write>(
     writer: &mut W,
 ) -> Result<(), TextFault> {
     let force = table_in_force(mib, port);
-    let front = front_of(alloc, port, force)?;
     let mut text = JsonText::new(alloc);
-    text.begin(writer, &front)?;
+    begin_entries(alloc, port, force, &text, writer)?;
     if let Some(table) = table_of(mib, force) {
         for (number, place) in tried_order(table).iter().enumerate() {
             write_entry(alloc, &mut text, table, number, *place, writer)?;
         }
     }
     text.end(writer, "}")
+}
+
+/// Begins the array of the entries, behind the port and the table in force.
+fn begin_entries<W: Write>(
+    alloc: Global,
+    port: u16,
+    force: TableInForce,
+    text: &JsonText,
+    writer: &mut W,
+) -> Result<(), TextFault> {
+    let table = TableObject(force);
+    let front = format!(in alloc; "{{\"port\":{port},\"table\":{table},\"entries\":")?;
+    text.begin(writer, &front)
+}
+
+/// The table in force as an object of JSON.
+#[derive(Clone, Copy)]
+struct TableObject(TableInForce);
+
+impl fmt::Display for TableObject {
+    fn fmt<W: fmt::Write>(&self, f: &mut fmt::Formatter<W>) -> fmt::Result {
+        match self.0 {
+            TableInForce::NoTable => f.write_str("{\"points_to\":\"none\"}"),
+            TableInForce::OfPort(instance) => {
+                write!(f, "{{\"points_to\":\"port\",\"instance\":{instance}}}")
+            }
+            TableInForce::OfMapper { mapper, instance } => write!(
+                f,
+                "{{\"points_to\":\"mapper\",\"instance\":{instance},\"mapper\":{mapper}}}"
+            ),
+        }
+    }
 }
 
 /// Writes an entry as an object.
@@ -42,46 +74,22 @@ fn write_entry<W: Write>(
     writer: &mut W,
 ) -> Result<(), TextFault> {
     let mut object = text.object()?;
-    put_number(&mut object, "number", number as u64)?;
-    put_entry(alloc, &mut object, table, place)?;
+    put_entry(alloc, &mut object, table, number, place)?;
     text.write(writer, object)
 }
 
-/// What stands in front of the entries.
-fn front_of(alloc: Global, port: u16, force: TableInForce) -> Result<String, AllocError> {
-    let mut front = format!(in alloc; "{{\"port\":{port},\"table\":{{")?;
-    match force {
-        TableInForce::NoTable => write!(front, "\"points_to\":\"none\"")?,
-        TableInForce::OfPort(instance) => {
-            write!(front, "\"points_to\":\"port\",\"instance\":{instance}")?
-        }
-        TableInForce::OfMapper { mapper, instance } => write!(
-            front,
-            "\"points_to\":\"mapper\",\"instance\":{instance},\"mapper\":{mapper}"
-        )?,
-    }
-    front.push_str("},\"entries\":")?;
-    Ok(front)
-}
-
-/// Puts the members of an entry, but its number.
+/// Puts the members of an entry.
 fn put_entry(
     alloc: Global,
     object: &mut Writer,
     table: &RuleTable,
+    number: usize,
     place: usize,
 ) -> Result<(), AllocError> {
-    put_number(object, "place", place as u64)?;
-    if let Some(rule) = table.rule(place) {
-        put_number(object, "rank", u64::from(rule.rank.number()))?;
-        if let Some(entry) = table.entry(place) {
-            put_words(alloc, object, "entry", &HexWords(&entry.0))?;
-        }
-        put_words(alloc, object, "filter", &FilterWords(rule))?;
-        put_words(alloc, object, "treatment", &TreatmentWords(&rule.treatment))?;
+    put_number(object, "number", number as u64)?;
+    put_table_entry(alloc, object, table, place)?;
+    match shadow_number(table, place) {
+        Some(other) => put_number(object, "never_used_for", other as u64),
+        None => Ok(()),
     }
-    if let Some(other) = shadow_number(table, place) {
-        put_number(object, "never_used_for", other as u64)?;
-    }
-    Ok(())
 }

@@ -2,9 +2,7 @@
 use crate::rules::table_of;
 use crate::verdict::{FrameDigits, VerdictWords};
 use crate::words::{MismatchWords, OriginWords};
-use entity_text::{
-    FilterWords, HexWords, JsonText, TreatmentWords, put_number, put_text, put_words,
-};
+use entity_text::{HexWords, JsonText, put_number, put_rule_words, put_text, put_words};
 use explain::{
     OutgoingTag, PriorityOrigin, Step, TableInForce, TagOrigin, explain, number_of, table_in_force,
 };
@@ -156,11 +154,10 @@ fn put_rule(
     table: Option<&RuleTable>,
     place: usize,
 ) -> Result<(), AllocError> {
-    if let Some(rule) = table.and_then(|table| table.rule(place)) {
-        put_words(alloc, object, "filter", &FilterWords(rule))?;
-        put_words(alloc, object, "treatment", &TreatmentWords(&rule.treatment))?;
+    match table.and_then(|table| table.rule(place)) {
+        Some(rule) => put_rule_words(alloc, object, rule),
+        None => Ok(()),
     }
-    Ok(())
 }
 
 /// Puts the tags that a frame leaves with.
