@@ -4,7 +4,7 @@ use managed_entity::{Access, AttributeKind, descriptions_of, layout_of, names};
 use std::alloc::AllocError;
 
 /// What stands for a table among values.
-#[derive(Clone, Copy, Debug, PartialEq, Eq)]
+#[derive(Clone, Copy)]
 pub(crate) enum TableValue {
     /// One entry, as in a Set.
     Entry,
@@ -15,7 +15,7 @@ pub(crate) enum TableValue {
 /// The number of bytes of the attribute at a place of a class, or None where the class hasn't so many.
 fn width_at(class: u16, place: usize, table: TableValue) -> Option<usize> {
     let attribute = layout_of(class).get(place)?;
-    if attribute.access.is_table() && table == TableValue::Size {
+    if attribute.access.is_table() && matches!(table, TableValue::Size) {
         return Some(4);
     }
     Some(usize::from(attribute.width))
@@ -45,16 +45,12 @@ fn put_value<'a>(
         descriptions_of(class).get(place),
         width_at(class, place, table),
     ) else {
-        writeln!(
-            text,
-            "  attribute {}: not of this class",
-            place.wrapping_add(1)
-        )?;
+        put_foreign(text, place)?;
         return Ok(bytes);
     };
     let name = description.name;
     if bytes.len() < width {
-        writeln!(text, "  {name}: cut, expected {width} bytes")?;
+        put_cut(text, name, width)?;
         return Ok(bytes);
     }
     let (front, rest) = bytes.split_at(width);
@@ -64,6 +60,17 @@ fn put_value<'a>(
     };
     writeln!(text, "  {name}: {value}")?;
     Ok(rest)
+}
+
+/// Puts a line for an attribute that the class hasn't.
+fn put_foreign(text: &mut String, place: usize) -> Result<(), AllocError> {
+    let number = place.wrapping_add(1);
+    writeln!(text, "  attribute {number}: not of this class")
+}
+
+/// Puts a line for an attribute whose bytes end before its value does.
+fn put_cut(text: &mut String, name: &str, width: usize) -> Result<(), AllocError> {
+    writeln!(text, "  {name}: cut, expected {width} bytes")
 }
 
 /// Puts a line for each attribute that a mask names, its value from bytes without gaps, and gives the bytes behind them.
@@ -97,12 +104,12 @@ pub(crate) fn put_names(
     let mut separator = "";
     for place in 0..16 {
         if names(mask, place) {
-            write!(text, "{separator}")?;
+            text.push_str(separator)?;
             put_name(text, class, place)?;
             separator = ", ";
         }
     }
-    writeln!(text)
+    text.push_str("\n")
 }
 
 /// Puts the name of the attribute at a place, or its number where the class hasn't so many.

@@ -43,5 +43,5 @@ fn put_address(text: &mut String, front: &str, address: &[u8]) -> Result<(), All
         write!(text, "{separator}{byte:02x}")?;
         separator = ":";
     }
-    writeln!(text)
+    text.push_str("\n")
 }

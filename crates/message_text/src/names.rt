@@ -1,5 +1,19 @@
 //! The names of actions, results and faults.
 use omci_msg::Action;
+use std::fmt;
+
+/// An action in words: its name, or its number where it has none.
+#[derive(Clone, Copy)]
+pub(crate) struct ActionWords(pub(crate) Action);
+
+impl fmt::Display for ActionWords {
+    fn fmt<W: fmt::Write>(&self, f: &mut fmt::Formatter<W>) -> fmt::Result {
+        match action_name(self.0) {
+            Some(name) => f.write_str(name),
+            None => write!(f, "unknown action ({})", self.0.code()),
+        }
+    }
+}
 
 /// What an action is called (ITU-T G.988, clause 11.2), or None where it isn't known.
 pub fn action_name(action: Action) -> Option<&'static str> {

@@ -1,7 +1,6 @@
 //! A reply as text.
 use crate::attributes::{TableValue, put_contents, put_names, put_rest, put_values};
-use crate::names::result_name;
-use crate::request::put_action;
+use crate::names::{ActionWords, result_name};
 use byteorder::{BigEndian, ByteOrder};
 use entity_text::{EntityWords, HexWords};
 use managed_entity::class_name;
@@ -12,13 +11,12 @@ use std::alloc::AllocError;
 /// the result where the answer has one; and below it lines with what is returned (ITU-T G.988, clause 11.2 and annex A).
 pub fn put_reply(text: &mut String, reply: &Reply) -> Result<(), AllocError> {
     let tci = reply.tci;
-    write!(text, "reply 0x{tci:04x}: ")?;
-    put_action(text, reply.action)?;
+    let action = ActionWords(reply.action);
     let entity = EntityWords {
         class: reply.class,
         instance: reply.instance,
     };
-    write!(text, ", {entity}")?;
+    write!(text, "reply 0x{tci:04x}: {action}, {entity}")?;
     match reply.action {
         Action::MibUpload => put_count(text, &reply.contents),
         Action::MibUploadNext => put_row(text, &reply.contents),
@@ -40,7 +38,7 @@ fn put_row(text: &mut String, contents: &[u8; 32]) -> Result<(), AllocError> {
     let instance = BigEndian::read_u16(&contents[2..4]);
     let mask = BigEndian::read_u16(&contents[4..6]);
     if class == 0 && instance == 0 && mask == 0 {
-        writeln!(text, ", no row")?;
+        text.push_str(", no row\n")?;
         return put_rest(text, &contents[6..]);
     }
     let entity = EntityWords { class, instance };
@@ -48,7 +46,12 @@ fn put_row(text: &mut String, contents: &[u8; 32]) -> Result<(), AllocError> {
     if class_name(class).is_none() {
         return put_contents(text, contents);
     }
-    let rest = put_values(text, class, mask, TableValue::Size, &contents[6..])?;
+    put_returned(text, class, mask, &contents[6..])
+}
+
+/// Puts the attributes that a mask names, and the bytes behind them.
+fn put_returned(text: &mut String, class: u16, mask: u16, values: &[u8]) -> Result<(), AllocError> {
+    let rest = put_values(text, class, mask, TableValue::Size, values)?;
     put_rest(text, rest)
 }
 
@@ -72,8 +75,7 @@ fn put_got(text: &mut String, class: u16, contents: &[u8; 32]) -> Result<(), All
     let mask = BigEndian::read_u16(&contents[1..3]);
     let unknown = BigEndian::read_u16(&contents[28..30]);
     let left_out = BigEndian::read_u16(&contents[30..]);
-    let rest = put_values(text, class, mask, TableValue::Size, &contents[3..28])?;
-    put_rest(text, rest)?;
+    put_returned(text, class, mask, &contents[3..28])?;
     put_names(text, "unknown", class, unknown)?;
     put_names(text, "failed", class, left_out)
 }

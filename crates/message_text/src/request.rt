@@ -1,6 +1,6 @@
 //! A request as text.
 use crate::attributes::{TableValue, given_mask, put_contents, put_names, put_rest, put_values};
-use crate::names::action_name;
+use crate::names::ActionWords;
 use byteorder::{BigEndian, ByteOrder};
 use entity_text::EntityWords;
 use managed_entity::{class_name, mask_of};
@@ -11,26 +11,22 @@ use std::alloc::AllocError;
 /// an answer is wanted; and below it lines with what the contents say (ITU-T G.988, clause 11.2 and annex A).
 pub fn put_request(text: &mut String, request: &Request) -> Result<(), AllocError> {
     let tci = request.tci;
-    write!(text, "request 0x{tci:04x}: ")?;
-    put_action(text, request.action)?;
+    let action = ActionWords(request.action);
     let entity = EntityWords {
         class: request.class,
         instance: request.instance,
     };
-    let wish = if request.wants_answer {
-        "answer wanted"
-    } else {
-        "no answer wanted"
-    };
-    writeln!(text, ", {entity}, {wish}")?;
+    let wish = wish_words(request.wants_answer);
+    writeln!(text, "request 0x{tci:04x}: {action}, {entity}, {wish}")?;
     put_asked(text, request)
 }
 
-/// Puts the name of an action, or its number.
-pub(crate) fn put_action(text: &mut String, action: Action) -> Result<(), AllocError> {
-    match action_name(action) {
-        Some(name) => text.push_str(name),
-        None => write!(text, "unknown action ({})", action.code()),
+/// Whether an answer is wanted, in words.
+fn wish_words(wants_answer: bool) -> &'static str {
+    if wants_answer {
+        "answer wanted"
+    } else {
+        "no answer wanted"
     }
 }
 
