@@ -1,12 +1,16 @@
 //! Requests by what they ask.
 use omci_msg::{Action, Request};
 
+/// Puts as many of these bytes as have room at its start.
+fn put(room: &mut [u8], bytes: &[u8]) {
+    let count = bytes.len().min(room.len());
+    room[..count].copy_from_slice(&bytes[..count]);
+}
+
 /// Contents that begin with these bytes.
 pub fn contents(bytes: &[u8]) -> [u8; 32] {
     let mut contents = [0; 32];
-    for (to, from) in contents.iter_mut().zip(bytes) {
-        *to = *from;
-    }
+    put(&mut contents, bytes);
     contents
 }
 
@@ -30,9 +34,7 @@ pub fn delete(class: u16, instance: u16) -> Request {
 /// A Set of the attributes of a mask.
 pub fn set(class: u16, instance: u16, mask: u16, values: &[u8]) -> Request {
     let mut set = request(Action::Set, class, instance, &mask.to_be_bytes());
-    for (to, from) in set.contents[2..].iter_mut().zip(values) {
-        *to = *from;
-    }
+    put(&mut set.contents[2..], values);
     set
 }
 
@@ -48,13 +50,13 @@ pub fn create_interwork(instance: u16) -> Request {
 
 /// The creation of a mapper of a port: option 1 and a default priority.
 pub fn create_mapper(instance: u16, port: u16, pointers: [u16; 8], default: u8) -> Request {
-    let [p0, p1, p2, p3, p4, p5, p6, p7] = pointers.map(|pointer| pointer.to_be_bytes());
-    let tp = port.to_be_bytes();
-    let bytes = [
-        tp[0], tp[1], p0[0], p0[1], p1[0], p1[1], p2[0], p2[1], p3[0], p3[1], p4[0], p4[1], p5[0],
-        p5[1], p6[0], p6[1], p7[0], p7[1], 1, default, 1,
-    ];
-    request(Action::Create, 130, instance, &bytes)
+    let mut values = [0; 21];
+    put(&mut values, &port.to_be_bytes());
+    for (place, pointer) in pointers.iter().enumerate() {
+        put(&mut values[2 + 2 * place..], &pointer.to_be_bytes());
+    }
+    put(&mut values[18..], &[1, default, 1]);
+    request(Action::Create, 130, instance, &values)
 }
 
 /// The creation of a table with an association type and an associated ME pointer.

@@ -90,54 +90,82 @@ impl Draws {
     /// The bytes of a frame, changed or not.
     pub fn wild_frame(&mut self, alloc: Global) -> Result<Vec<u8>, AllocError> {
         let tags = self.of(&[0, 1, 1, 2, 2, 3]);
-        let mut bytes = self.frame_of(alloc, tags)?;
+        let mut bytes = Vec::new(alloc);
+        self.push_frame(&mut bytes, tags)?;
         self.change(&mut bytes)?;
         Ok(bytes)
+    }
+
+    /// Appends a line of a script with a message, changed or not.
+    fn push_line(&mut self, line: &mut Vec<u8>, message: &[u8]) -> Result<(), AllocError> {
+        let digits = self.of(&DIGITS);
+        line.extend_from_slice(self.of(&FRONTS).as_bytes())?;
+        push_digits(line, digits, message)?;
+        if self.of(&[true, false, false]) {
+            line.push(b'\r')?;
+        }
+        self.change(line)
     }
 
     /// A line of a script, changed or not.
     pub fn wild_line(&mut self, alloc: Global) -> Result<Vec<u8>, AllocError> {
         let message = self.wild_message(alloc)?;
-        let digits = self.of(&DIGITS);
-        let mut line = self.of(&FRONTS).as_bytes().to_vec(alloc)?;
-        for byte in message.iter() {
-            line.push(digits[usize::from(*byte >> 4)])?;
-            line.push(digits[usize::from(*byte & 15)])?;
-        }
-        if self.of(&[true, false, false]) {
-            line.push(b'\r')?;
-        }
-        self.change(&mut line)?;
+        let mut line = Vec::new(alloc);
+        self.push_line(&mut line, &message)?;
         Ok(line)
     }
 
-    /// Appends a number in a byte order.
-    fn push_number(bytes: &mut Vec<u8>, high_first: bool, number: u32) -> Result<(), AllocError> {
-        let spelled = if high_first {
-            number.to_be_bytes()
-        } else {
-            number.to_le_bytes()
-        };
-        bytes.extend_from_slice(&spelled)
+    /// Appends the record of a frame.
+    fn push_record(
+        &mut self,
+        file: &mut Vec<u8>,
+        alloc: Global,
+        high_first: bool,
+    ) -> Result<(), AllocError> {
+        let frame = self.wild_frame(alloc)?;
+        let len = u32::try_from(frame.len()).unwrap_or(0);
+        push_numbers(file, high_first, &[0, 0, len, len])?;
+        file.extend_from_slice(&frame)
+    }
+
+    /// Appends a capture file of up to three frames, changed or not.
+    fn push_capture(&mut self, file: &mut Vec<u8>, alloc: Global) -> Result<(), AllocError> {
+        let magic = self.of(&MAGICS);
+        let high_first = magic[0] == 0xa1;
+        file.extend_from_slice(&magic)?;
+        push_numbers(file, high_first, &[2, 0, 0, 262_144, 1])?;
+        for _ in 0..self.of(&[0, 1, 2, 3]) {
+            self.push_record(file, alloc, high_first)?;
+        }
+        self.change(file)
     }
 
     /// A capture file of up to three frames, changed or not.
     pub fn wild_capture(&mut self, alloc: Global) -> Result<Vec<u8>, AllocError> {
-        let magic = self.of(&MAGICS);
-        let high_first = magic[0] == 0xa1;
-        let mut file = magic.to_vec(alloc)?;
-        for number in [2, 0, 0, 262_144, 1] {
-            Draws::push_number(&mut file, high_first, number)?;
-        }
-        for _ in 0..self.of(&[0, 1, 2, 3]) {
-            let frame = self.wild_frame(alloc)?;
-            let len = u32::try_from(frame.len()).unwrap_or(0);
-            for number in [0, 0, len, len] {
-                Draws::push_number(&mut file, high_first, number)?;
-            }
-            file.extend_from_slice(&frame)?;
-        }
-        self.change(&mut file)?;
+        let mut file = Vec::new(alloc);
+        self.push_capture(&mut file, alloc)?;
         Ok(file)
     }
+}
+
+/// Appends the two digits of each byte.
+fn push_digits(line: &mut Vec<u8>, digits: &[u8; 16], bytes: &[u8]) -> Result<(), AllocError> {
+    for byte in bytes {
+        line.push(digits[usize::from(*byte >> 4)])?;
+        line.push(digits[usize::from(*byte & 15)])?;
+    }
+    Ok(())
+}
+
+/// Appends numbers in a byte order.
+fn push_numbers(file: &mut Vec<u8>, high_first: bool, numbers: &[u32]) -> Result<(), AllocError> {
+    for number in numbers {
+        let bytes = if high_first {
+            number.to_be_bytes()
+        } else {
+            number.to_le_bytes()
+        };
+        file.extend_from_slice(&bytes)?;
+    }
+    Ok(())
 }
