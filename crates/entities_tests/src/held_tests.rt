@@ -1,9 +1,8 @@
+use crate::scenes::{Scene, play};
 use fixtures::same;
 use mib_state::Mib;
 use omci_msg::{Action, Request};
-use std::alloc::{AllocError, Global};
 use std::process::Abort;
-use std::test::Fail;
 
 /// The creation of an instance, whose contents begin with these bytes.
 fn create(class: u16, instance: u16, bytes: &[u8]) -> Request {
@@ -22,24 +21,22 @@ fn create(class: u16, instance: u16, bytes: &[u8]) -> Request {
 }
 
 /// One instance of each class but GEM port network CTP, of which there are two, made in descending order.
-fn set_up(alloc: Global) -> Result<Mib, AllocError> {
-    let mut mib = Mib::new(alloc)?;
+fn set_up(mib: &mut Mib) {
     let _ = mib.step(&create(268, 0x0402, &[4, 1, 0x80, 1, 3]));
     let _ = mib.step(&create(268, 0x0401, &[4, 0, 0x80, 1, 3]));
     let _ = mib.step(&create(266, 0x0501, &[4, 1, 5, 6, 1]));
     let _ = mib.step(&create(130, 0x0601, &[1, 1, 5, 1, 5, 2, 5, 3]));
     let _ = mib.step(&create(171, 0x0701, &[2, 1, 1]));
-    Ok(mib)
 }
 
 #[test]
-fn instances_are_lent_by_ascending_number(rt: HostRuntime) -> Result<(), Fail> {
-    let mib = set_up(rt.alloc())?;
-    look_at_places(&rt, &mib)
+fn instances_are_lent_by_ascending_number(rt: HostRuntime) {
+    play(&rt, rt.alloc(), Scene::LookAtPlaces);
 }
 
 /// Looks at each place of each class.
-fn look_at_places(rt: &impl Abort, mib: &Mib) -> Result<(), Fail> {
+pub(crate) fn look_at_places(rt: &impl Abort, mib: &mut Mib) {
+    set_up(mib);
     for (class, place, number, n, wanted) in [
         (2, 0, 0, 1, [5].as_slice()),
         (130, 0, 0x0601, 4, [5, 3].as_slice()),
@@ -49,7 +46,7 @@ fn look_at_places(rt: &impl Abort, mib: &Mib) -> Result<(), Fail> {
         (268, 0, 0x0401, 1, [4, 0].as_slice()),
         (268, 1, 0x0402, 1, [4, 1].as_slice()),
     ] {
-        let held = mib.instance_at(class, place).ok_or("it is not held")?;
+        let held = mib.instance_at(class, place).expect(rt, "it is not held");
         same!(rt;
             (held.class(), held.number()),
             (class, number),
@@ -69,40 +66,37 @@ fn look_at_places(rt: &impl Abort, mib: &Mib) -> Result<(), Fail> {
             "place {place} of {class}"
         );
     }
-    Ok(())
 }
 
 #[test]
-fn a_table_and_what_a_class_has_not_have_no_bytes(rt: HostRuntime) -> Result<(), Fail> {
-    let mib = set_up(rt.alloc())?;
-    look_at_no_bytes(&rt, &mib)
+fn a_table_and_what_a_class_has_not_have_no_bytes(rt: HostRuntime) {
+    play(&rt, rt.alloc(), Scene::LookAtNoBytes);
 }
 
 /// Looks at attributes that have no bytes.
-fn look_at_no_bytes(rt: &impl Abort, mib: &Mib) -> Result<(), Fail> {
-    let held = mib.instance_at(171, 0).ok_or("it is not held")?;
+pub(crate) fn look_at_no_bytes(rt: &impl Abort, mib: &mut Mib) {
+    set_up(mib);
+    let held = mib.instance_at(171, 0).expect(rt, "it is not held");
     for (n, what) in [(0, "attribute 0"), (6, "the table"), (9, "attribute 9")] {
         same!(rt; held.attribute(n).is_none(), true, "{what} has no bytes");
     }
-    Ok(())
 }
 
 /// The same, with a second mapper and a second table, made after the first and of smaller numbers.
-fn set_up_two(alloc: Global) -> Result<Mib, AllocError> {
-    let mut mib = set_up(alloc)?;
+fn set_up_two(mib: &mut Mib) {
+    set_up(mib);
     let _ = mib.step(&create(130, 0x0600, &[1, 2, 5, 1, 5, 2, 5, 3]));
     let _ = mib.step(&create(171, 0x0700, &[2, 1, 2]));
-    Ok(mib)
 }
 
 #[test]
-fn an_instance_has_a_place_among_those_of_its_class(rt: HostRuntime) -> Result<(), Fail> {
-    let mib = set_up_two(rt.alloc())?;
-    look_for_places(&rt, &mib)
+fn an_instance_has_a_place_among_those_of_its_class(rt: HostRuntime) {
+    play(&rt, rt.alloc(), Scene::LookForPlaces);
 }
 
 /// Looks for the place of instances, there or not.
-fn look_for_places(rt: &impl Abort, mib: &Mib) -> Result<(), Fail> {
+pub(crate) fn look_for_places(rt: &impl Abort, mib: &mut Mib) {
+    set_up_two(mib);
     for (class, instance, wanted) in [
         (2, 0, Some(0)),
         (2, 1, None),
@@ -125,17 +119,16 @@ fn look_for_places(rt: &impl Abort, mib: &Mib) -> Result<(), Fail> {
             "the place of {instance} of {class}"
         );
     }
-    Ok(())
 }
 
 #[test]
-fn mappers_and_tables_are_lent_by_place(rt: HostRuntime) -> Result<(), Fail> {
-    let mib = set_up_two(rt.alloc())?;
-    look_at_mappers_and_tables(&rt, &mib)
+fn mappers_and_tables_are_lent_by_place(rt: HostRuntime) {
+    play(&rt, rt.alloc(), Scene::LookAtMappersAndTables);
 }
 
 /// Looks at mappers and tables by place.
-fn look_at_mappers_and_tables(rt: &impl Abort, mib: &Mib) -> Result<(), Fail> {
+pub(crate) fn look_at_mappers_and_tables(rt: &impl Abort, mib: &mut Mib) {
+    set_up_two(mib);
     for (place, mapper, vlan) in [
         (0, Some((0x0600, 258)), Some((0x0700, 258))),
         (1, Some((0x0601, 257)), Some((0x0701, 257))),
@@ -153,5 +146,4 @@ fn look_at_mappers_and_tables(rt: &impl Abort, mib: &Mib) -> Result<(), Fail> {
             "the table at place {place}"
         );
     }
-    Ok(())
 }

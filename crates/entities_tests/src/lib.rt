@@ -10,4 +10,6 @@ mod mib_trace_tests;
 #[cfg(test)]
 mod mib_upload_tests;
 #[cfg(test)]
+mod scenes;
+#[cfg(test)]
 mod step_tests;

@@ -1,10 +1,10 @@
 //! Which entities a trace leaves, and which traces are refused.
+use crate::scenes::{Scene, play};
 use fixtures::{holds, push_message, same};
 use mib_state::Mib;
 use mib_trace::{apply_trace, first_bad_line};
 use std::alloc::{AllocError, Global};
 use std::process::Abort;
-use std::test::Fail;
 
 /// A trace of the messages that begin with these digits.
 fn trace_of(alloc: Global, messages: &[&str]) -> Result<String, AllocError> {
@@ -35,17 +35,14 @@ fn apply_messages(rt: &impl Abort, mib: &mut Mib, trace: &[u8]) {
 }
 
 /// The trace of these messages leaves what those leave that are accepted.
-fn apply_all(rt: &impl Abort, alloc: Global, mib: &mut Mib) -> Result<(), AllocError> {
-    let trace = trace_of(alloc, &MESSAGES)?;
+pub(crate) fn apply_all(rt: &impl Abort, alloc: Global, mib: &mut Mib) {
+    let trace = trace_of(alloc, &MESSAGES).expect(rt, "room for a trace");
     apply_messages(rt, mib, trace.as_bytes());
-    Ok(())
 }
 
 #[test]
-fn a_trace_leaves_what_its_accepted_messages_leave(rt: HostRuntime) -> Result<(), Fail> {
-    let mut mib = Mib::new(rt.alloc())?;
-    apply_all(&rt, rt.alloc(), &mut mib)?;
-    Ok(())
+fn a_trace_leaves_what_its_accepted_messages_leave(rt: HostRuntime) {
+    play(&rt, rt.alloc(), Scene::ApplyAll);
 }
 
 /// Applies a trace whose line may not stand, and checks that nothing is left of it.
@@ -55,30 +52,33 @@ fn refuse(rt: &impl Abort, mib: &mut Mib, trace: &[u8], line: u64, what: &str) {
     holds!(rt; mib.gem_port(0x0401).is_none());
 }
 
-/// A message, and behind it a line that may not stand.
-fn refuse_all(rt: &impl Abort, alloc: Global, mib: &mut Mib) -> Result<(), AllocError> {
+/// A message, and behind it lines of which one may not stand.
+fn bad_trace(alloc: Global, behind: &str) -> Result<String, AllocError> {
+    let mut trace = trace_of(alloc, &["0001440a010c04010400800103"])?;
+    trace.push_str(behind)?;
+    Ok(trace)
+}
+
+/// Applies traces in which a line may not stand.
+pub(crate) fn refuse_all(rt: &impl Abort, alloc: Global, mib: &mut Mib) {
     for (behind, line) in [
         ("f 1 00\nx\n", 4),
         ("x\nf 1 00", 4),
         ("-\n", 4),
         ("\no 0\n", 5),
     ] {
-        let mut trace = trace_of(alloc, &["0001440a010c04010400800103"])?;
-        trace.push_str(behind)?;
+        let trace = bad_trace(alloc, behind).expect(rt, "room for a trace");
         refuse(rt, mib, trace.as_bytes(), line, behind);
     }
-    Ok(())
 }
 
 #[test]
-fn a_trace_with_a_frame_or_a_bad_line_is_refused_whole(rt: HostRuntime) -> Result<(), Fail> {
-    let mut mib = Mib::new(rt.alloc())?;
-    refuse_all(&rt, rt.alloc(), &mut mib)?;
-    Ok(())
+fn a_trace_with_a_frame_or_a_bad_line_is_refused_whole(rt: HostRuntime) {
+    play(&rt, rt.alloc(), Scene::RefuseAll);
 }
 
 #[test]
-fn the_first_line_that_may_not_stand_is_found(rt: HostRuntime) -> Result<(), Fail> {
+fn the_first_line_that_may_not_stand_is_found(rt: HostRuntime) {
     let cases: [(&str, Option<u64>); 5] = [
         ("", None),
         ("# one\n\n# three\r\n", None),
@@ -89,5 +89,4 @@ fn the_first_line_that_may_not_stand_is_found(rt: HostRuntime) -> Result<(), Fai
     for (trace, expected) in &cases {
         same!(rt; first_bad_line(trace.as_bytes()), *expected, "{trace}");
     }
-    Ok(())
 }

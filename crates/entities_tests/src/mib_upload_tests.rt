@@ -3,9 +3,8 @@ use fixtures::same;
 use mib_state::Mib;
 use mib_upload::{Desk, Shelf, law_of_rows};
 use omci_msg::{Action, OtherCode, Reply, Request};
-use std::alloc::{AllocError, Global};
+use std::alloc::Global;
 use std::process::Abort;
-use std::test::Fail;
 
 /// A MIB upload.
 fn upload() -> Request {
@@ -33,13 +32,11 @@ fn create_vlan(instance: u16) -> Request {
 }
 
 /// A port, 257, with its GEM port network CTP, interworking termination point, mapper and table.
-fn set_up(alloc: Global) -> Result<Desk, AllocError> {
-    let mut desk = Desk::new(alloc)?;
+fn set_up(desk: &mut Desk) {
     let _ = desk.answer(&create_gem_port(0x0401));
     let _ = desk.answer(&create_interwork(0x0501));
     let _ = desk.answer(&create_mapper(0x0601));
     let _ = desk.answer(&create_vlan(0x0701));
-    Ok(desk)
 }
 
 /// The rows of the port: class, instance, mask, and the bytes up to zeros.
@@ -60,14 +57,44 @@ const ROWS: [&[u8]; 7] = [
     &[1, 0x0c, 4, 1, 0xff, 0xc0, 4, 0, 0x80, 1, 3],
 ];
 
+/// What is done with a new desk.
+#[derive(Clone, Copy)]
+enum Scene {
+    UploadTwice,
+    AskBeforeAnUpload,
+    UploadAndReset,
+    UploadOfAnotherClass,
+    CountRound,
+    AskForSteps,
+}
+
+/// Makes a desk without an instance, and plays a scene with it. It alone owns a desk, since the proof of each function that does is
+/// dear.
+fn play(rt: &impl Abort, alloc: Global, scene: Scene) {
+    let mut desk = Desk::new(alloc).expect(rt, "room for a desk");
+    act(rt, &mut desk, scene);
+}
+
+/// Plays a scene with a desk.
+fn act(rt: &impl Abort, desk: &mut Desk, scene: Scene) {
+    match scene {
+        Scene::UploadTwice => upload_twice(rt, desk),
+        Scene::AskBeforeAnUpload => ask_before_an_upload(rt, desk),
+        Scene::UploadAndReset => upload_and_reset(rt, desk),
+        Scene::UploadOfAnotherClass => upload_of_another_class(rt, desk),
+        Scene::CountRound => count_round(rt, desk),
+        Scene::AskForSteps => ask_for_steps(rt, desk),
+    }
+}
+
 #[test]
-fn rows_are_those_of_the_upload_whatever_is_created_later(rt: HostRuntime) -> Result<(), Fail> {
-    let mut desk = set_up(rt.alloc())?;
-    upload_twice(&rt, &mut desk)
+fn rows_are_those_of_the_upload_whatever_is_created_later(rt: HostRuntime) {
+    play(&rt, rt.alloc(), Scene::UploadTwice);
 }
 
 /// Uploads, creates an instance in between, and uploads again.
-fn upload_twice(rt: &impl Abort, desk: &mut Desk) -> Result<(), Fail> {
+fn upload_twice(rt: &impl Abort, desk: &mut Desk) {
+    set_up(desk);
     let reply = desk.answer(&upload());
     let wanted = Reply {
         tci: 1,
@@ -90,32 +117,30 @@ fn upload_twice(rt: &impl Abort, desk: &mut Desk) -> Result<(), Fail> {
         contents(&[0, 2, 0, 0, 0x80, 0, 5])
     );
     same!(rt; desk.mib().sync(), 5);
-    Ok(())
 }
 
 #[test]
-fn before_an_upload_there_is_no_row(rt: HostRuntime) -> Result<(), Fail> {
-    let mut desk = set_up(rt.alloc())?;
-    ask_before_an_upload(&rt, &mut desk)
+fn before_an_upload_there_is_no_row(rt: HostRuntime) {
+    play(&rt, rt.alloc(), Scene::AskBeforeAnUpload);
 }
 
 /// Asks for rows before an upload.
-fn ask_before_an_upload(rt: &impl Abort, desk: &mut Desk) -> Result<(), Fail> {
+fn ask_before_an_upload(rt: &impl Abort, desk: &mut Desk) {
+    set_up(desk);
     for n in [0, 1, 0xffff] {
         let reply = desk.answer(&upload_next(n));
         same!(rt; reply.contents, [0; 32], "row {n}");
     }
-    Ok(())
 }
 
 #[test]
-fn rows_outlive_a_mib_reset(rt: HostRuntime) -> Result<(), Fail> {
-    let mut desk = set_up(rt.alloc())?;
-    upload_and_reset(&rt, &mut desk)
+fn rows_outlive_a_mib_reset(rt: HostRuntime) {
+    play(&rt, rt.alloc(), Scene::UploadAndReset);
 }
 
 /// Uploads, resets the MIB, and uploads again.
-fn upload_and_reset(rt: &impl Abort, desk: &mut Desk) -> Result<(), Fail> {
+fn upload_and_reset(rt: &impl Abort, desk: &mut Desk) {
+    set_up(desk);
     let mut unanswered = upload();
     unanswered.wants_answer = false;
     let _ = desk.answer(&unanswered);
@@ -132,34 +157,31 @@ fn upload_and_reset(rt: &impl Abort, desk: &mut Desk) -> Result<(), Fail> {
         contents(&[0, 2, 0, 0, 0x80])
     );
     same!(rt; desk.answer(&upload_next(1)).contents, [0; 32]);
-    Ok(())
 }
 
 #[test]
-fn uploads_look_at_no_class_and_no_instance(rt: HostRuntime) -> Result<(), Fail> {
-    let mut desk = set_up(rt.alloc())?;
-    upload_of_another_class(&rt, &mut desk)
+fn uploads_look_at_no_class_and_no_instance(rt: HostRuntime) {
+    play(&rt, rt.alloc(), Scene::UploadOfAnotherClass);
 }
 
 /// Uploads with another class and instance.
-fn upload_of_another_class(rt: &impl Abort, desk: &mut Desk) -> Result<(), Fail> {
+fn upload_of_another_class(rt: &impl Abort, desk: &mut Desk) {
+    set_up(desk);
     let first = desk.answer(&request(Action::MibUpload, 45, 7, &[]));
     same!(rt; (first.class, first.instance), (45, 7));
     same!(rt; first.contents, contents(&[0, 7]));
     let next = desk.answer(&request(Action::MibUploadNext, 0xffff, 9, &[0, 4]));
     same!(rt; (next.class, next.instance), (0xffff, 9));
     same!(rt; next.contents, contents(&[0, 0xab, 7, 1, 1]));
-    Ok(())
 }
 
 #[test]
-fn the_sync_follows_255_by_1_and_a_reset_by_0(rt: HostRuntime) -> Result<(), Fail> {
-    let mut desk = Desk::new(rt.alloc())?;
-    count_round(&rt, &mut desk)
+fn the_sync_follows_255_by_1_and_a_reset_by_0(rt: HostRuntime) {
+    play(&rt, rt.alloc(), Scene::CountRound);
 }
 
 /// Counts the sync round, and resets the MIB.
-fn count_round(rt: &impl Abort, desk: &mut Desk) -> Result<(), Fail> {
+fn count_round(rt: &impl Abort, desk: &mut Desk) {
     let reset = request(Action::MibReset, 2, 0, &[]);
     let read = request(Action::Get, 2, 0, &[0x80, 0]);
     let write = request(Action::Set, 268, 0x0401, &[0x80, 0, 4, 0]);
@@ -173,17 +195,16 @@ fn count_round(rt: &impl Abort, desk: &mut Desk) -> Result<(), Fail> {
     same!(rt; desk.answer(&read).contents, contents(&[0, 0x80, 0, 1]));
     same!(rt; desk.answer(&reset).contents, [0; 32]);
     same!(rt; desk.answer(&read).contents, contents(&[0, 0x80, 0, 0]));
-    Ok(())
 }
 
 #[test]
-fn every_other_action_is_a_step_of_the_entities(rt: HostRuntime) -> Result<(), Fail> {
-    let mut desk = set_up(rt.alloc())?;
-    ask_for_steps(&rt, &mut desk)
+fn every_other_action_is_a_step_of_the_entities(rt: HostRuntime) {
+    play(&rt, rt.alloc(), Scene::AskForSteps);
 }
 
 /// Asks for what is a step of the entities.
-fn ask_for_steps(rt: &impl Abort, desk: &mut Desk) -> Result<(), Fail> {
+fn ask_for_steps(rt: &impl Abort, desk: &mut Desk) {
+    set_up(desk);
     for (request, wanted, what) in [
         (
             request(Action::Create, 45, 1, &[]),
@@ -227,23 +248,22 @@ fn ask_for_steps(rt: &impl Abort, desk: &mut Desk) -> Result<(), Fail> {
         );
     }
     same!(rt; desk.answer(&create_gem_port(255)).contents, contents(&[1]));
-    Ok(())
 }
 
 #[test]
-fn an_upload_of_all_that_there_may_be_has_609_rows(rt: HostRuntime) -> Result<(), Fail> {
-    let mut mib = Mib::new(rt.alloc())?;
-    upload_to_a_shelf(&rt, rt.alloc(), &mut mib)
+fn an_upload_of_all_that_there_may_be_has_609_rows(rt: HostRuntime) {
+    let mut mib = Mib::new(rt.alloc()).expect(&rt, "room for entities");
+    upload_to_a_shelf(&rt, rt.alloc(), &mut mib);
 }
 
 /// Uploads all to a shelf.
-fn upload_to_a_shelf(rt: &impl Abort, alloc: Global, mib: &mut Mib) -> Result<(), Fail> {
-    let mut shelf = Shelf::new(alloc)?;
+fn upload_to_a_shelf(rt: &impl Abort, alloc: Global, mib: &mut Mib) {
+    let mut shelf = Shelf::new(alloc).expect(rt, "room for rows");
     upload_all(rt, mib, &mut shelf)
 }
 
 /// Creates as many instances as there may be, and uploads them twice.
-fn upload_all(rt: &impl Abort, mib: &mut Mib, shelf: &mut Shelf) -> Result<(), Fail> {
+fn upload_all(rt: &impl Abort, mib: &mut Mib, shelf: &mut Shelf) {
     same!(rt; shelf.row(0).is_none(), true, "a new shelf holds no row");
     for n in 0..256 {
         let _ = mib.step(&create_gem_port(n));
@@ -268,7 +288,7 @@ fn upload_all(rt: &impl Abort, mib: &mut Mib, shelf: &mut Shelf) -> Result<(), F
             (353, 268, 0, 0xffc0, 16),
             (608, 268, 255, 0xffc0, 16),
         ] {
-            let row = shelf.row(n).ok_or("a row is missing")?;
+            let row = shelf.row(n).expect(rt, "a row is missing");
             same!(rt;
                 (row.class, row.instance, row.mask),
                 (class, instance, mask),
@@ -278,11 +298,9 @@ fn upload_all(rt: &impl Abort, mib: &mut Mib, shelf: &mut Shelf) -> Result<(), F
         }
         same!(rt; shelf.row(609).is_none(), true, "there are no more");
     }
-    Ok(())
 }
 
 #[test]
-fn entities_have_one_list_of_rows(_rt: HostRuntime) -> Result<(), Fail> {
+fn entities_have_one_list_of_rows() {
     law_of_rows();
-    Ok(())
 }

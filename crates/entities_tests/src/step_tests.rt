@@ -1,11 +1,11 @@
+use crate::scenes::{Scene, play};
 use draws::{contents, create_interwork, create_table, delete, request, set};
 use fixtures::same;
 use mib_state::{Mib, Touch};
 use omci_msg::{Action, OtherCode, Reply, Request};
 use pmapper::{GemPort, Interwork, Mapper};
-use std::alloc::{AllocError, Global};
+use std::alloc::Global;
 use std::process::Abort;
-use std::test::Fail;
 use tag_view::DscpMap;
 
 /// The contents of the answer to a Get: its first bytes, and the two masks behind the values.
@@ -44,28 +44,25 @@ fn set_entry(words: [u32; 4]) -> Request {
     set
 }
 
-/// A port, 257, with its GEM port network CTP, interworking termination point, mapper and table.
-fn set_up(alloc: Global) -> Result<Mib, AllocError> {
-    let mut mib = Mib::new(alloc)?;
+/// Makes a port, 257, with its GEM port network CTP, interworking termination point, mapper and table.
+fn set_up(mib: &mut Mib) {
     let _ = mib.step(&create_gem_port(0x0401));
     let _ = mib.step(&create_interwork(0x0501));
     let _ = mib.step(&create_mapper(0x0601, 257, 0x0501));
     let _ = mib.step(&create_vlan(0x0701, 257));
-    Ok(mib)
 }
 
 /// A request, the contents of its answer, and the sync after it.
 type Turn = (Request, [u8; 32], u8);
 
 /// Carries requests out, one after another. `result_of` gives the result of each before.
-fn take(rt: &impl Abort, mib: &mut Mib, turns: &[Turn]) -> Result<(), Fail> {
+fn take(rt: &impl Abort, mib: &mut Mib, turns: &[Turn]) {
     for (at, (sent, wanted, sync)) in turns.iter().enumerate() {
         let told = mib.result_of(sent);
         same!(rt; mib.step(sent).contents, *wanted, "the answer of turn {at}");
         same!(rt; told, wanted[0], "the result of turn {at}");
         same!(rt; mib.sync(), *sync, "the sync after turn {at}");
     }
-    Ok(())
 }
 
 /// The contents of an answer that has the result alone.
@@ -74,12 +71,11 @@ fn only(code: u8) -> [u8; 32] {
 }
 
 #[test]
-fn a_create_is_answered_and_one_that_exists_changes_nothing(rt: HostRuntime) -> Result<(), Fail> {
-    let mut mib = Mib::new(rt.alloc())?;
-    create_twice(&rt, &mut mib)
+fn a_create_is_answered_and_one_that_exists_changes_nothing(rt: HostRuntime) {
+    play(&rt, rt.alloc(), Scene::CreateTwice);
 }
 
-fn create_twice(rt: &impl Abort, mib: &mut Mib) -> Result<(), Fail> {
+pub(crate) fn create_twice(rt: &impl Abort, mib: &mut Mib) {
     let mut wanted = Reply {
         tci: 1,
         action: Action::Create,
@@ -102,18 +98,15 @@ fn create_twice(rt: &impl Abort, mib: &mut Mib) -> Result<(), Fail> {
     same!(rt; mib.sync(), 1);
     same!(rt; mib.gem_port(0x0401).copied(), Some(port));
     same!(rt; mib.gem_port(0x0402).copied(), None);
-    Ok(())
 }
 
 #[test]
-fn a_get_returns_each_attribute_that_fits_and_names_the_others(
-    rt: HostRuntime,
-) -> Result<(), Fail> {
-    let mut mib = set_up(rt.alloc())?;
-    get_from_each_class(&rt, &mut mib)
+fn a_get_returns_each_attribute_that_fits_and_names_the_others(rt: HostRuntime) {
+    play(&rt, rt.alloc(), Scene::GetFromEachClass);
 }
 
-fn get_from_each_class(rt: &impl Abort, mib: &mut Mib) -> Result<(), Fail> {
+pub(crate) fn get_from_each_class(rt: &impl Abort, mib: &mut Mib) {
+    set_up(mib);
     let ten = [9, 0xff, 0xc0, 4, 0, 0x80, 1, 3];
     let of_table = [
         9, 0xfe, 0, 2, 0, 128, 0x81, 0, 0x81, 0, 0, 0, 0, 0, 0x30, 1, 1,
@@ -141,14 +134,11 @@ fn get_from_each_class(rt: &impl Abort, mib: &mut Mib) -> Result<(), Fail> {
 }
 
 #[test]
-fn the_sync_is_an_attribute_of_onu_data_and_a_set_of_it_counts_nothing(
-    rt: HostRuntime,
-) -> Result<(), Fail> {
-    let mut mib = Mib::new(rt.alloc())?;
-    set_the_sync(&rt, &mut mib)
+fn the_sync_is_an_attribute_of_onu_data_and_a_set_of_it_counts_nothing(rt: HostRuntime) {
+    play(&rt, rt.alloc(), Scene::SetTheSync);
 }
 
-fn set_the_sync(rt: &impl Abort, mib: &mut Mib) -> Result<(), Fail> {
+pub(crate) fn set_the_sync(rt: &impl Abort, mib: &mut Mib) {
     let two = got(&[9, 0x80, 0, 1], [0x40, 0, 0, 0]);
     take(
         rt,
@@ -168,12 +158,11 @@ fn set_the_sync(rt: &impl Abort, mib: &mut Mib) -> Result<(), Fail> {
 }
 
 #[test]
-fn refusals_have_their_results(rt: HostRuntime) -> Result<(), Fail> {
-    let mut mib = Mib::new(rt.alloc())?;
-    ask_for_what_is_refused(&rt, &mut mib)
+fn refusals_have_their_results(rt: HostRuntime) {
+    play(&rt, rt.alloc(), Scene::AskForWhatIsRefused);
 }
 
-fn ask_for_what_is_refused(rt: &impl Abort, mib: &mut Mib) -> Result<(), Fail> {
+pub(crate) fn ask_for_what_is_refused(rt: &impl Abort, mib: &mut Mib) {
     let _ = mib.step(&create_gem_port(0x0401));
     let other = Action::Other(OtherCode { code: 25 });
     for (action, class, instance, wanted) in [
@@ -221,16 +210,14 @@ fn ask_for_what_is_refused(rt: &impl Abort, mib: &mut Mib) -> Result<(), Fail> {
             "the sync after {action:?} of {class} {instance}"
         );
     }
-    Ok(())
 }
 
 #[test]
-fn the_sync_goes_from_255_to_1(rt: HostRuntime) -> Result<(), Fail> {
-    let mut mib = Mib::new(rt.alloc())?;
-    create_256(&rt, &mut mib)
+fn the_sync_goes_from_255_to_1(rt: HostRuntime) {
+    play(&rt, rt.alloc(), Scene::Create256);
 }
 
-fn create_256(rt: &impl Abort, mib: &mut Mib) -> Result<(), Fail> {
+pub(crate) fn create_256(rt: &impl Abort, mib: &mut Mib) {
     for made in 1..=256 {
         // From the greatest number down, so that each goes before the others.
         same!(rt;
@@ -243,20 +230,19 @@ fn create_256(rt: &impl Abort, mib: &mut Mib) -> Result<(), Fail> {
     }
     same!(rt; mib.gem_port(999).is_some(), true);
     same!(rt; mib.gem_port(744).is_some(), true);
-    Ok(())
 }
 
 #[test]
-fn a_mib_reset_leaves_no_instance_and_sync_0(rt: HostRuntime) -> Result<(), Fail> {
-    let mut mib = set_up(rt.alloc())?;
-    reset_and_fill(&rt, &mut mib)
+fn a_mib_reset_leaves_no_instance_and_sync_0(rt: HostRuntime) {
+    play(&rt, rt.alloc(), Scene::ResetAndFill);
 }
 
-fn reset_and_fill(rt: &impl Abort, mib: &mut Mib) -> Result<(), Fail> {
+pub(crate) fn reset_and_fill(rt: &impl Abort, mib: &mut Mib) {
+    set_up(mib);
     // Its class and its instance aren't looked at.
     let reset = request(Action::MibReset, 45, 0xffff, &[0xff]);
     let write = set(268, 0x0401, 0x8000, &[4, 0]);
-    take(rt, mib, &[(reset, only(0), 0)])?;
+    take(rt, mib, &[(reset, only(0), 0)]);
     for class in [130, 171, 266, 268] {
         same!(rt;
             mib.next_instance(class, 0),
@@ -264,9 +250,9 @@ fn reset_and_fill(rt: &impl Abort, mib: &mut Mib) -> Result<(), Fail> {
             "class {class} after a MIB reset"
         );
     }
-    take(rt, mib, &[(create_gem_port(0x0401), only(0), 1)])?;
+    take(rt, mib, &[(create_gem_port(0x0401), only(0), 1)]);
     for count in 2..=255 {
-        take(rt, mib, &[(write, only(0), count)])?;
+        take(rt, mib, &[(write, only(0), count)]);
     }
     take(
         rt,
@@ -276,7 +262,7 @@ fn reset_and_fill(rt: &impl Abort, mib: &mut Mib) -> Result<(), Fail> {
             (create_vlan(0, 257), only(0), 2),
             (reset, only(0), 0),
         ],
-    )?;
+    );
     for number in 0..16 {
         same!(rt;
             mib.step(&create_vlan(number, 257)).contents,
@@ -288,12 +274,11 @@ fn reset_and_fill(rt: &impl Abort, mib: &mut Mib) -> Result<(), Fail> {
 }
 
 #[test]
-fn attributes_are_shown_by_number(rt: HostRuntime) -> Result<(), Fail> {
-    let mut mib = Mib::new(rt.alloc())?;
-    look_at_attributes(&rt, &mut mib)
+fn attributes_are_shown_by_number(rt: HostRuntime) {
+    play(&rt, rt.alloc(), Scene::LookAtAttributes);
 }
 
-fn look_at_attributes(rt: &impl Abort, mib: &mut Mib) -> Result<(), Fail> {
+pub(crate) fn look_at_attributes(rt: &impl Abort, mib: &mut Mib) {
     let _ = mib.step(&create_gem_port(0x0401));
     for (class, instance, n, wanted) in [
         (268, 0x0401, 1, Some([4, 0].as_slice())),
@@ -315,16 +300,15 @@ fn look_at_attributes(rt: &impl Abort, mib: &mut Mib) -> Result<(), Fail> {
             "attribute {n} of {class} {instance}"
         );
     }
-    Ok(())
 }
 
 #[test]
-fn the_next_instance_is_the_least_that_is_not_under_a_number(rt: HostRuntime) -> Result<(), Fail> {
-    let mut mib = set_up(rt.alloc())?;
-    look_for_instances(&rt, &mut mib)
+fn the_next_instance_is_the_least_that_is_not_under_a_number(rt: HostRuntime) {
+    play(&rt, rt.alloc(), Scene::LookForInstances);
 }
 
-fn look_for_instances(rt: &impl Abort, mib: &mut Mib) -> Result<(), Fail> {
+pub(crate) fn look_for_instances(rt: &impl Abort, mib: &mut Mib) {
+    set_up(mib);
     let _ = mib.step(&create_gem_port(0x0410));
     let _ = mib.step(&create_gem_port(0x0300));
     for (class, from, wanted) in [
@@ -344,16 +328,14 @@ fn look_for_instances(rt: &impl Abort, mib: &mut Mib) -> Result<(), Fail> {
         let next = mib.next_instance(class, from);
         same!(rt; next, wanted, "the next of {class} from {from}");
     }
-    Ok(())
 }
 
 #[test]
-fn points_and_mappers_are_created_shown_and_deleted(rt: HostRuntime) -> Result<(), Fail> {
-    let mut mib = Mib::new(rt.alloc())?;
-    create_and_delete(&rt, &mut mib)
+fn points_and_mappers_are_created_shown_and_deleted(rt: HostRuntime) {
+    play(&rt, rt.alloc(), Scene::CreateAndDelete);
 }
 
-fn create_and_delete(rt: &impl Abort, mib: &mut Mib) -> Result<(), Fail> {
+pub(crate) fn create_and_delete(rt: &impl Abort, mib: &mut Mib) {
     let mapper = Mapper {
         tp_pointer: 257,
         interwork_tp_pointers: [0x0501; 8],
@@ -382,7 +364,7 @@ fn create_and_delete(rt: &impl Abort, mib: &mut Mib) -> Result<(), Fail> {
             (create_mapper(0x0601, 257, 0x0501), only(0), 2),
             (create_mapper(0x0602, 258, 0xffff), only(0), 3),
         ],
-    )?;
+    );
     same!(rt; mib.interwork(0x0501).copied(), Some(point));
     same!(rt; mib.mapper(0x0601).copied(), Some(mapper));
     same!(rt; mib.mapper_of_port(257), Some(0x0601));
@@ -399,22 +381,20 @@ fn create_and_delete(rt: &impl Abort, mib: &mut Mib) -> Result<(), Fail> {
             (delete(266, 0x0501), only(0), 7),
             (delete(130, 0x0601), only(0), 8),
         ],
-    )?;
+    );
     same!(rt; mib.gem_port(0x0401).copied(), Some(port));
     same!(rt; mib.interwork(0x0501).copied(), None);
     same!(rt; mib.mapper(0x0601).copied(), None);
     same!(rt; mib.mapper_of_port(257), None);
     same!(rt; mib.mapper_of_port(258), Some(0x0602));
-    Ok(())
 }
 
 #[test]
-fn of_two_mappers_of_a_port_the_least_is_its_own(rt: HostRuntime) -> Result<(), Fail> {
-    let mut mib = Mib::new(rt.alloc())?;
-    change_mappers(&rt, &mut mib)
+fn of_two_mappers_of_a_port_the_least_is_its_own(rt: HostRuntime) {
+    play(&rt, rt.alloc(), Scene::ChangeMappers);
 }
 
-fn change_mappers(rt: &impl Abort, mib: &mut Mib) -> Result<(), Fail> {
+pub(crate) fn change_mappers(rt: &impl Abort, mib: &mut Mib) {
     let of_bridge = request(Action::Create, 130, 0x0500, &[1, 1]);
     for (change, wanted, what) in [
         (
@@ -444,16 +424,15 @@ fn change_mappers(rt: &impl Abort, mib: &mut Mib) -> Result<(), Fail> {
         );
         same!(rt; mib.mapper_of_port(257), wanted, "the mapper after {what}");
     }
-    Ok(())
 }
 
 #[test]
-fn of_two_tables_of_a_port_the_least_is_its_own(rt: HostRuntime) -> Result<(), Fail> {
-    let mut mib = set_up(rt.alloc())?;
-    change_tables(&rt, &mut mib)
+fn of_two_tables_of_a_port_the_least_is_its_own(rt: HostRuntime) {
+    play(&rt, rt.alloc(), Scene::ChangeTables);
 }
 
-fn change_tables(rt: &impl Abort, mib: &mut Mib) -> Result<(), Fail> {
+pub(crate) fn change_tables(rt: &impl Abort, mib: &mut Mib) {
+    set_up(mib);
     let of_mapper = request(Action::Create, 171, 0x0600, &[1, 1, 1]);
     let entry = set_entry([0xf800_0000, 0xf800_0000, 0x000f_0000, 0x0000_0324]);
     for (change, wanted, what) in [
@@ -476,18 +455,17 @@ fn change_tables(rt: &impl Abort, mib: &mut Mib) -> Result<(), Fail> {
         same!(rt; mib.table_of_port(257), wanted, "the table after {what}");
     }
     same!(rt; mib.table_of_port(258), None);
-    let vlan = mib.vlan(0x0701).ok_or("the table is gone")?;
+    let vlan = mib.vlan(0x0701).expect(rt, "the table is gone");
     same!(rt; vlan.table.len(), 3, "a table that is made again is new");
-    Ok(())
 }
 
 #[test]
-fn a_port_without_a_table_of_its_own_has_that_of_its_mapper(rt: HostRuntime) -> Result<(), Fail> {
-    let mut mib = set_up(rt.alloc())?;
-    take_the_table_away(&rt, &mut mib)
+fn a_port_without_a_table_of_its_own_has_that_of_its_mapper(rt: HostRuntime) {
+    play(&rt, rt.alloc(), Scene::TakeTheTableAway);
 }
 
-fn take_the_table_away(rt: &impl Abort, mib: &mut Mib) -> Result<(), Fail> {
+pub(crate) fn take_the_table_away(rt: &impl Abort, mib: &mut Mib) {
+    set_up(mib);
     let _ = mib.step(&request(Action::Create, 171, 0x0700, &[1, 6, 1]));
     same!(rt; mib.table_of_port(257), Some(0x0701));
     let _ = mib.step(&delete(171, 0x0701));
@@ -498,16 +476,15 @@ fn take_the_table_away(rt: &impl Abort, mib: &mut Mib) -> Result<(), Fail> {
         None,
         "its mapper is another, which has none"
     );
-    Ok(())
 }
 
 #[test]
-fn a_table_is_read_as_the_get_of_its_size_found_it(rt: HostRuntime) -> Result<(), Fail> {
-    let mut mib = set_up(rt.alloc())?;
-    read_what_was_latched(&rt, &mut mib)
+fn a_table_is_read_as_the_get_of_its_size_found_it(rt: HostRuntime) {
+    play(&rt, rt.alloc(), Scene::ReadWhatWasLatched);
 }
 
-fn read_what_was_latched(rt: &impl Abort, mib: &mut Mib) -> Result<(), Fail> {
+pub(crate) fn read_what_was_latched(rt: &impl Abort, mib: &mut Mib) {
+    set_up(mib);
     let next = request(Action::GetNext, 171, 0x0701, &[4, 0, 0, 1]);
     same!(rt; mib.step(&next).contents, only(3), "nothing is latched");
     let _ = mib.step(&get(171, 0x0701, 0x0400));
@@ -518,16 +495,14 @@ fn read_what_was_latched(rt: &impl Abort, mib: &mut Mib) -> Result<(), Fail> {
         0, 4, 0, 0x0f, 0, 0, 0xe0, 0, 0, 0, 0xe0, 0, 0, 0, 0, 0x0f, 0, 0, 0, 0x0f,
     ]);
     same!(rt; mib.step(&next).contents, last);
-    Ok(())
 }
 
 #[test]
-fn a_class_has_room_of_its_own_and_a_deletion_gives_it_back(rt: HostRuntime) -> Result<(), Fail> {
-    let mut mib = Mib::new(rt.alloc())?;
-    fill_two_classes(&rt, &mut mib)
+fn a_class_has_room_of_its_own_and_a_deletion_gives_it_back(rt: HostRuntime) {
+    play(&rt, rt.alloc(), Scene::FillTwoClasses);
 }
 
-fn fill_two_classes(rt: &impl Abort, mib: &mut Mib) -> Result<(), Fail> {
+pub(crate) fn fill_two_classes(rt: &impl Abort, mib: &mut Mib) {
     for number in 0..32 {
         let reply = mib.step(&create_mapper(number, 257, 0x0501));
         same!(rt; reply.contents, only(0), "the answer to mapper {number}");
@@ -551,12 +526,12 @@ fn fill_two_classes(rt: &impl Abort, mib: &mut Mib) -> Result<(), Fail> {
 }
 
 #[test]
-fn a_table_holds_128_entries_and_overwrites_a_held_key(rt: HostRuntime) -> Result<(), Fail> {
-    let mut mib = set_up(rt.alloc())?;
-    fill_a_table(&rt, &mut mib)
+fn a_table_holds_128_entries_and_overwrites_a_held_key(rt: HostRuntime) {
+    play(&rt, rt.alloc(), Scene::FillATable);
 }
 
-fn fill_a_table(rt: &impl Abort, mib: &mut Mib) -> Result<(), Fail> {
+pub(crate) fn fill_a_table(rt: &impl Abort, mib: &mut Mib) {
+    set_up(mib);
     for k in 1..=126 {
         let entry = set_entry([
             0xf800_0000,
@@ -580,15 +555,13 @@ fn fill_a_table(rt: &impl Abort, mib: &mut Mib) -> Result<(), Fail> {
             (again, only(0), 130),
             (get(171, 0x0701, 0x0400), contents(&[0, 4, 0, 0, 0, 8]), 130),
         ],
-    )?;
+    );
     same!(rt; mib.vlan(0x0701).map(|vlan| vlan.table.len()), Some(128));
-    Ok(())
 }
 
 #[test]
-fn a_refused_set_keeps_nothing(rt: HostRuntime) -> Result<(), Fail> {
-    let mut mib = set_up(rt.alloc())?;
-    set_what_is_refused(&rt, &mut mib)
+fn a_refused_set_keeps_nothing(rt: HostRuntime) {
+    play(&rt, rt.alloc(), Scene::SetWhatIsRefused);
 }
 
 /// Sets that are refused but for one of no attribute, and a Get.
@@ -619,22 +592,22 @@ fn refused_sets() -> [Turn; 11] {
     ]
 }
 
-fn set_what_is_refused(rt: &impl Abort, mib: &mut Mib) -> Result<(), Fail> {
-    take(rt, mib, &refused_sets())?;
-    let vlan = mib.vlan(0x0701).ok_or("the table is gone")?;
+pub(crate) fn set_what_is_refused(rt: &impl Abort, mib: &mut Mib) {
+    set_up(mib);
+    take(rt, mib, &refused_sets());
+    let vlan = mib.vlan(0x0701).expect(rt, "the table is gone");
     same!(rt; vlan.table.len(), 3);
     same!(rt; vlan.settings.input_tpid, 0x8100);
     same!(rt; vlan.settings.output_tpid, 0x8100);
-    Ok(())
 }
 
 #[test]
-fn each_class_is_written(rt: HostRuntime) -> Result<(), Fail> {
-    let mut mib = set_up(rt.alloc())?;
-    set_in_each_class(&rt, &mut mib)
+fn each_class_is_written(rt: HostRuntime) {
+    play(&rt, rt.alloc(), Scene::SetInEachClass);
 }
 
-fn set_in_each_class(rt: &impl Abort, mib: &mut Mib) -> Result<(), Fail> {
+pub(crate) fn set_in_each_class(rt: &impl Abort, mib: &mut Mib) {
+    set_up(mib);
     let vlan_values = [
         0x88, 0xa8, 0x91, 0, 0xf8, 0, 0, 0, 0xf8, 0, 0, 0, 0, 0x0f, 0, 0, 0, 0, 0x03, 0x24,
     ];
@@ -647,7 +620,7 @@ fn set_in_each_class(rt: &impl Abort, mib: &mut Mib) -> Result<(), Fail> {
             (set(130, 0x0601, 0x0820, &[0xff, 0xfe, 0x38]), only(0), 7),
             (set(171, 0x0701, 0x3400, &vlan_values), only(0), 8),
         ],
-    )?;
+    );
     for (class, instance, n, wanted) in [
         (268, 0x0401, 1, [4, 1].as_slice()),
         (268, 0x0401, 2, [0x80, 1].as_slice()),
@@ -674,34 +647,19 @@ fn set_in_each_class(rt: &impl Abort, mib: &mut Mib) -> Result<(), Fail> {
         "the table has no bytes of its own"
     );
     same!(rt; mib.vlan(0x0701).map(|vlan| vlan.table.len()), Some(4));
-    Ok(())
 }
 
 /// Carries requests out, one after another, in two of the same: what each is answered by `step_touching` is what `step`
 /// answers, with this result, and it touches this.
-fn touch(rt: &impl Abort, alloc: Global, turns: &[(Request, u8, Touch)]) -> Result<(), Fail> {
-    let mut mib = set_up(alloc)?;
-    touch_beside(rt, alloc, &mut mib, turns)
-}
-
-/// The same in one that is there.
-fn touch_beside(
-    rt: &impl Abort,
-    alloc: Global,
-    mib: &mut Mib,
-    turns: &[(Request, u8, Touch)],
-) -> Result<(), Fail> {
-    let mut same = set_up(alloc)?;
-    touch_both(rt, mib, &mut same, turns)
+fn touch(rt: &impl Abort, alloc: Global, mib: &mut Mib, turns: &[(Request, u8, Touch)]) {
+    let mut same = Mib::new(alloc).expect(rt, "room for entities");
+    set_up(mib);
+    set_up(&mut same);
+    touch_both(rt, mib, &mut same, turns);
 }
 
 /// The same in two that are there.
-fn touch_both(
-    rt: &impl Abort,
-    mib: &mut Mib,
-    same: &mut Mib,
-    turns: &[(Request, u8, Touch)],
-) -> Result<(), Fail> {
+fn touch_both(rt: &impl Abort, mib: &mut Mib, same: &mut Mib, turns: &[(Request, u8, Touch)]) {
     for (at, (sent, result, touched)) in turns.iter().enumerate() {
         let (reply, touch) = mib.step_touching(sent);
         same!(rt; touch, *touched, "what turn {at} touches");
@@ -709,17 +667,22 @@ fn touch_both(
         same!(rt; reply, same.step(sent), "the reply of turn {at}");
         same!(rt; mib.sync(), same.sync(), "the sync after turn {at}");
     }
-    Ok(())
 }
 
 #[test]
-fn an_accepted_change_touches_its_instance(rt: HostRuntime) -> Result<(), Fail> {
+fn an_accepted_change_touches_its_instance(rt: HostRuntime) {
+    play(&rt, rt.alloc(), Scene::TouchInstances);
+}
+
+/// Carries out requests that are accepted, and a last one that isn't.
+pub(crate) fn touch_instances(rt: &impl Abort, alloc: Global, mib: &mut Mib) {
     let of_mapper = set(130, 0x0601, 0x0800, &[0xff, 0xfe]);
     let of_no_attribute = set(171, 0x0701, 0, &[]);
     let reset = request(Action::MibReset, 2, 0, &[]);
     touch(
-        &rt,
-        rt.alloc(),
+        rt,
+        alloc,
+        mib,
         &[
             (create_gem_port(0x0402), 0, Touch::One(268, 0x0402)),
             (of_mapper, 0, Touch::One(130, 0x0601)),
@@ -732,15 +695,21 @@ fn an_accepted_change_touches_its_instance(rt: HostRuntime) -> Result<(), Fail> 
 }
 
 #[test]
-fn a_refusal_and_a_reading_touch_nothing(rt: HostRuntime) -> Result<(), Fail> {
+fn a_refusal_and_a_reading_touch_nothing(rt: HostRuntime) {
+    play(&rt, rt.alloc(), Scene::TouchNothing);
+}
+
+/// Carries out requests that are refused or read.
+pub(crate) fn touch_nothing(rt: &impl Abort, alloc: Global, mib: &mut Mib) {
     let of_unknown_class = request(Action::Create, 45, 1, &[]);
     let of_read_only = set(171, 0x0701, 0x4000, &[0, 5]);
     let of_sync = set(2, 0, 0x8000, &[7]);
     let next = request(Action::GetNext, 171, 0x0701, &[4, 0]);
     let upload = request(Action::MibUpload, 2, 0, &[]);
     touch(
-        &rt,
-        rt.alloc(),
+        rt,
+        alloc,
+        mib,
         &[
             (create_gem_port(0x0401), 7, Touch::Nothing),
             (of_unknown_class, 4, Touch::Nothing),
