@@ -1,11 +1,11 @@
 //! The verdicts of the plan beside those of the plain walk, after each of many drawn messages.
 
+use crate::live_scenes::{Scene, play};
 use draws::{Draws, PORTS};
 use fixtures::{holds, same};
-use forward_plan::{Live, NoMemory, Reason, Verdict, plain_walk};
+use forward_plan::{Live, Reason, Verdict, plain_walk};
 use std::alloc::{AllocError, Global};
 use std::process::Abort;
-use std::test::Fail;
 use tag_view::Tag;
 
 /// How many messages change the entities.
@@ -103,18 +103,15 @@ fn are_frequent(rt: &impl Abort, counts: &[u32], what: &str) {
 }
 
 /// Sends messages, and checks that frames left with each number of tags and were dropped for each reason then. It owns one plan and
-/// the test the other, since the proof of a function that owns two is dear.
-fn agree_on_all(rt: &impl Abort, alloc: Global, live: &mut Live) -> Result<(), NoMemory> {
-    let mut anew = Live::new(alloc)?;
-    let seen = agree(rt, alloc, live, &mut anew)?;
+/// lends the other, since the proof of a function that owns two is dear.
+pub(crate) fn agree_on_all(rt: &impl Abort, alloc: Global, live: &mut Live) {
+    let mut anew = Live::new(alloc).expect(rt, "room for a second plan");
+    let seen = agree(rt, alloc, live, &mut anew).expect(rt, "room for frames");
     are_frequent(rt, &seen.tags, "number of tags");
     are_frequent(rt, &seen.reasons[1..], "reason but one");
-    Ok(())
 }
 
 #[test]
-fn verdicts_are_those_of_the_plain_walk_after_each_message(rt: HostRuntime) -> Result<(), Fail> {
-    let mut live = Live::new(rt.alloc())?;
-    agree_on_all(&rt, rt.alloc(), &mut live)?;
-    Ok(())
+fn verdicts_are_those_of_the_plain_walk_after_each_message(rt: HostRuntime) {
+    play(&rt, rt.alloc(), Scene::Agreement);
 }

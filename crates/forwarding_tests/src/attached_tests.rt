@@ -1,11 +1,11 @@
 //! Which tables and mappers are attached to ports.
 
+use crate::live_scenes::{Scene, play};
 use draws::{create_table, request};
 use fixtures::same;
 use forward_plan::Live;
 use omci_msg::{Action, Request};
 use std::process::Abort;
-use std::test::Fail;
 
 /// The creation of a mapper with a TP type and a TP pointer.
 fn create_mapper_at(instance: u16, tp_type: u8, to: u16) -> Request {
@@ -35,8 +35,9 @@ fn attach(live: &mut Live) {
     }
 }
 
-/// Looks what is attached to the ports of `attach`.
-fn look_at_ports(rt: &impl Abort, live: &Live) {
+/// Looks what is attached to ports.
+pub(crate) fn look_at_ports(rt: &impl Abort, live: &mut Live) {
+    attach(live);
     let mib = live.mib();
     for (port, table, mapper, what) in [
         (0, None, None, "nothing points to it"),
@@ -53,9 +54,6 @@ fn look_at_ports(rt: &impl Abort, live: &Live) {
 }
 
 #[test]
-fn tables_and_mappers_are_attached_to_ports(rt: HostRuntime) -> Result<(), Fail> {
-    let mut live = Live::new(rt.alloc())?;
-    attach(&mut live);
-    look_at_ports(&rt, &live);
-    Ok(())
+fn tables_and_mappers_are_attached_to_ports(rt: HostRuntime) {
+    play(&rt, rt.alloc(), Scene::Ports);
 }

@@ -16,6 +16,8 @@ mod lane_tests;
 #[cfg(test)]
 mod law_tests;
 #[cfg(test)]
+mod live_scenes;
+#[cfg(test)]
 mod live_tests;
 #[cfg(test)]
 mod message_tests;

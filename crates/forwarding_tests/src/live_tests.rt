@@ -1,4 +1,5 @@
 use crate::agree_tests::parts;
+use crate::live_scenes::{Scene, play};
 use draws::{
     DOUBLE, UNTAGGED, create_gem_port, create_interwork, create_mapper, create_table, delete,
     request, set,
@@ -8,7 +9,6 @@ use forward_plan::{Live, NoMemory, PortPlan, Reason, Verdict};
 use omci_msg::{Action, Request};
 use std::alloc::Global;
 use std::process::Abort;
-use std::test::Fail;
 
 /// The frame without a tag, when it leaves with one of VLAN 100 and priority 0.
 const TAGGED: [u8; 20] = [
@@ -240,7 +240,11 @@ fn steps_of_what_is_read() -> [Step; 7] {
 }
 
 /// Frames leave by the plan as the entities say, after each change of these.
-fn look_at_changes(rt: &impl Abort, alloc: Global, live: &mut Live) -> Result<(), NoMemory> {
+pub(crate) fn look_at_changes(
+    rt: &impl Abort,
+    alloc: Global,
+    live: &mut Live,
+) -> Result<(), NoMemory> {
     check_tagging(rt, alloc, live)?;
     check_drops(rt, live);
     live.recompile();
@@ -253,8 +257,6 @@ fn look_at_changes(rt: &impl Abort, alloc: Global, live: &mut Live) -> Result<()
 }
 
 #[test]
-fn a_plan_follows_its_entities_where_they_change(rt: HostRuntime) -> Result<(), Fail> {
-    let mut live = Live::new(rt.alloc())?;
-    look_at_changes(&rt, rt.alloc(), &mut live)?;
-    Ok(())
+fn a_plan_follows_its_entities_where_they_change(rt: HostRuntime) {
+    play(&rt, rt.alloc(), Scene::Changes);
 }

@@ -6,7 +6,6 @@ use plan_publish::{Control, OpenFault, open};
 use std::alloc::{AllocError, Global};
 use std::process::Abort;
 use std::sync::Wait;
-use std::test::Fail;
 
 const GET_SYNC: &str = "000d490a00020000 8000";
 
@@ -252,49 +251,41 @@ fn hold<R: Wait + Abort>(
 }
 
 #[test]
-fn a_repeated_message_is_carried_out_again(rt: HostRuntime) -> Result<(), Fail> {
+fn a_repeated_message_is_carried_out_again(rt: HostRuntime) {
     same!(rt; hold(&rt, rt.alloc(), Dialogue::Repeated), Ok(Ok(())));
-    Ok(())
 }
 
 #[test]
-fn a_get_answers_what_fits_and_names_the_others(rt: HostRuntime) -> Result<(), Fail> {
+fn a_get_answers_what_fits_and_names_the_others(rt: HostRuntime) {
     same!(rt; hold(&rt, rt.alloc(), Dialogue::Gets), Ok(Ok(())));
-    Ok(())
 }
 
 #[test]
-fn a_table_holds_128_entries_and_overwrites_a_held_key(rt: HostRuntime) -> Result<(), Fail> {
+fn a_table_holds_128_entries_and_overwrites_a_held_key(rt: HostRuntime) {
     same!(rt; hold(&rt, rt.alloc(), Dialogue::FullTable), Ok(Ok(())));
-    Ok(())
 }
 
 #[test]
-fn a_set_that_is_refused_leaves_everything(rt: HostRuntime) -> Result<(), Fail> {
+fn a_set_that_is_refused_leaves_everything(rt: HostRuntime) {
     same!(rt; hold(&rt, rt.alloc(), Dialogue::RefusedSets), Ok(Ok(())));
-    Ok(())
 }
 
 #[test]
-fn an_upload_has_the_rows_of_its_moment(rt: HostRuntime) -> Result<(), Fail> {
+fn an_upload_has_the_rows_of_its_moment(rt: HostRuntime) {
     same!(rt; hold(&rt, rt.alloc(), Dialogue::Upload), Ok(Ok(())));
-    Ok(())
 }
 
 #[test]
-fn the_sync_goes_from_255_to_1(rt: HostRuntime) -> Result<(), Fail> {
+fn the_sync_goes_from_255_to_1(rt: HostRuntime) {
     same!(rt; hold(&rt, rt.alloc(), Dialogue::Sync), Ok(Ok(())));
-    Ok(())
 }
 
 #[test]
-fn refusals_have_their_results(rt: HostRuntime) -> Result<(), Fail> {
+fn refusals_have_their_results(rt: HostRuntime) {
     same!(rt; hold(&rt, rt.alloc(), Dialogue::Refusals), Ok(Ok(())));
-    Ok(())
 }
 
 #[test]
-fn get_next_gives_the_table_that_was_latched(rt: HostRuntime) -> Result<(), Fail> {
+fn get_next_gives_the_table_that_was_latched(rt: HostRuntime) {
     same!(rt; hold(&rt, rt.alloc(), Dialogue::Latched), Ok(Ok(())));
-    Ok(())
 }

@@ -1,12 +1,12 @@
 //! With which tag frames leave by a table's entries and settings, after each change of these.
 use crate::agree_tests::parts;
+use crate::live_scenes::{Scene, play};
 use crate::live_tests::{Left, lead};
 use draws::{UNTAGGED, create_table, delete, set};
 use fixtures::same;
 use forward_plan::{Live, Reason};
 use omci_msg::Request;
 use std::process::Abort;
-use std::test::Fail;
 
 /// Frames without a tag, with DSCP 46, with 45, and with none.
 const DSCP_46: [u8; 16] = [2, 0, 0, 0, 0, 1, 2, 0, 0, 0, 0, 2, 0x08, 0x00, 0x45, 0xb8];
@@ -72,7 +72,7 @@ fn check_words(rt: &impl Abort, live: &Live, rows: &[(&[u8], Left, &str)]) {
 }
 
 /// A table that is new keeps tags.
-fn look_at_a_new_table(rt: &impl Abort, live: &mut Live) {
+pub(crate) fn look_at_a_new_table(rt: &impl Abort, live: &mut Live) {
     prepare(live);
     check_words(
         rt,
@@ -86,14 +86,12 @@ fn look_at_a_new_table(rt: &impl Abort, live: &mut Live) {
 }
 
 #[test]
-fn a_new_table_keeps_tags(rt: HostRuntime) -> Result<(), Fail> {
-    let mut live = Live::new(rt.alloc())?;
-    look_at_a_new_table(&rt, &mut live);
-    Ok(())
+fn a_new_table_keeps_tags(rt: HostRuntime) {
+    play(&rt, rt.alloc(), Scene::ANewTable);
 }
 
 /// A table translates VLAN 100, drops others, and has no entry for two tags. One that comes in its place keeps tags.
-fn look_at_translating(rt: &impl Abort, live: &mut Live) {
+pub(crate) fn look_at_translating(rt: &impl Abort, live: &mut Live) {
     prepare(live);
     live.apply(&put(0xf8000000_e8000000, 0xc00f0000_000f0000));
     live.apply(&put(0xf8000000_80320000, 0x400f0000_00080644));
@@ -114,14 +112,12 @@ fn look_at_translating(rt: &impl Abort, live: &mut Live) {
 }
 
 #[test]
-fn a_table_has_the_treatments_of_its_own_entries(rt: HostRuntime) -> Result<(), Fail> {
-    let mut live = Live::new(rt.alloc())?;
-    look_at_translating(&rt, &mut live);
-    Ok(())
+fn a_table_has_the_treatments_of_its_own_entries(rt: HostRuntime) {
+    play(&rt, rt.alloc(), Scene::Translating);
 }
 
 /// A table takes the priority of the DSCP.
-fn look_at_marking(rt: &impl Abort, live: &mut Live) {
+pub(crate) fn look_at_marking(rt: &impl Abort, live: &mut Live) {
     prepare(live);
     live.apply(&put(UNTAGGED_KEY, 0x000f0000_000a0324));
     check_words(
@@ -136,10 +132,8 @@ fn look_at_marking(rt: &impl Abort, live: &mut Live) {
 }
 
 #[test]
-fn a_tag_has_the_priority_of_the_dscp(rt: HostRuntime) -> Result<(), Fail> {
-    let mut live = Live::new(rt.alloc())?;
-    look_at_marking(&rt, &mut live);
-    Ok(())
+fn a_tag_has_the_priority_of_the_dscp(rt: HostRuntime) {
+    play(&rt, rt.alloc(), Scene::Marking);
 }
 
 /// Keys for frames without a tag, of VLAN 100 and of VLAN 5.
@@ -226,7 +220,7 @@ fn words(live: &Live) -> [Left; 3] {
 }
 
 /// Puts and deletes entries, and compares what the plan follows, and what is compiled anew.
-fn follow_entries(rt: &impl Abort, live: &mut Live) {
+pub(crate) fn follow_entries(rt: &impl Abort, live: &mut Live) {
     prepare(live);
     live.apply(&put(0xf8000000_e8000000, 0xc00f0000_000f0000));
     for (key, rest, expected) in PUTS {
@@ -238,14 +232,12 @@ fn follow_entries(rt: &impl Abort, live: &mut Live) {
 }
 
 #[test]
-fn a_table_follows_its_entries(rt: HostRuntime) -> Result<(), Fail> {
-    let mut live = Live::new(rt.alloc())?;
-    follow_entries(&rt, &mut live);
-    Ok(())
+fn a_table_follows_its_entries(rt: HostRuntime) {
+    play(&rt, rt.alloc(), Scene::Entries);
 }
 
 /// Changes settings, and compares what the plan follows, and what is compiled anew.
-fn follow_settings(rt: &impl Abort, live: &mut Live) {
+pub(crate) fn follow_settings(rt: &impl Abort, live: &mut Live) {
     prepare(live);
     live.apply(&put(UNTAGGED_KEY, 0x000f0000_000a0324));
     live.apply(&put(VID_100_KEY, 0x400f0000_00080646));
@@ -260,8 +252,6 @@ fn follow_settings(rt: &impl Abort, live: &mut Live) {
 }
 
 #[test]
-fn a_table_follows_its_settings(rt: HostRuntime) -> Result<(), Fail> {
-    let mut live = Live::new(rt.alloc())?;
-    follow_settings(&rt, &mut live);
-    Ok(())
+fn a_table_follows_its_settings(rt: HostRuntime) {
+    play(&rt, rt.alloc(), Scene::Settings);
 }
