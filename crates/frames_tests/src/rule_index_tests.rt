@@ -7,18 +7,19 @@ use std::alloc::{AllocError, Global};
 use std::process::Abort;
 use std::test::Fail;
 use tag_view::{FrameFault, view};
-use vlan_rule::{Entry, Filter, Put, RuleTable, TABLE_MAX_SIZE};
+use vlan_rule::{Entry, Filter, Put, RuleTable, TABLE_MAX_SIZE, TableFault};
 
 /// The place that is found for a frame with these tags and the type behind them.
 fn found(
+    rt: &impl Abort,
     index: &Index,
     alloc: Global,
     tags: &[u32],
     ethertype: u16,
-) -> Result<Option<usize>, Fail> {
-    let bytes = frame(alloc, tags, ethertype)?;
-    let frame = view(&bytes, 0x8100)?;
-    Ok(index.find(&frame, 0x8100))
+) -> Option<usize> {
+    let bytes = frame(alloc, tags, ethertype).expect(rt, "no memory");
+    let frame = view(&bytes, 0x8100).expect(rt, "no frame");
+    index.find(&frame, 0x8100)
 }
 
 /// A table of the predefined entries, a default that drops frames with one tag, and one of VID 100.
@@ -29,10 +30,8 @@ fn one_tag_table(alloc: Global) -> Result<RuleTable, Fail> {
     Ok(table)
 }
 
-/// An index of no table finds nothing.
-fn look_at_nothing(rt: &impl Abort, alloc: Global, index: &Index) -> Result<(), Fail> {
-    same!(rt; found(index, alloc, &[], 0x0800)?, None);
-    same!(rt; found(index, alloc, &[0x8100a064], 0x0800)?, None);
+/// An index of no table has no order and no mask.
+fn look_at_no_entry(rt: &impl Abort, index: &Index) {
     same!(rt; index.order(0), None);
     same!(rt; index.order(255), None);
     for tags in 0..4u8 {
@@ -41,8 +40,21 @@ fn look_at_nothing(rt: &impl Abort, alloc: Global, index: &Index) -> Result<(), 
     same!(rt; index.inner_vid_mask(0), 0);
     same!(rt; index.inner_vid_mask(100), 0);
     same!(rt; index.inner_vid_mask(4095), 0);
+}
+
+/// The number that is found for a frame without tags.
+fn number_of_untagged(index: &Index, alloc: Global) -> Result<usize, Fail> {
     let bytes = frame(alloc, &[], 0x0800)?;
-    same!(rt; index.number(&Head::read(&bytes, 0x8100)?, 0x8100), 128);
+    let head = Head::read(&bytes, 0x8100)?;
+    Ok(index.number(&head, 0x8100))
+}
+
+/// An index of no table finds nothing.
+fn look_at_nothing(rt: &impl Abort, alloc: Global, index: &Index) -> Result<(), Fail> {
+    look_at_no_entry(rt, index);
+    same!(rt; found(rt, index, alloc, &[], 0x0800), None);
+    same!(rt; found(rt, index, alloc, &[0x8100a064], 0x0800), None);
+    same!(rt; number_of_untagged(index, alloc)?, 128);
     Ok(())
 }
 
@@ -52,21 +64,54 @@ fn nothing_is_found_before_a_rebuild(rt: HostRuntime) -> Result<(), Fail> {
     look_at_nothing(&rt, rt.alloc(), &index)
 }
 
-/// Looks at the order and the masks of an index of `one_tag_table`.
-fn look_at_masks(rt: &impl Abort, alloc: Global, index: &mut Index) -> Result<(), Fail> {
-    index.rebuild(&one_tag_table(alloc)?);
-    let order = [Some(4), Some(3), Some(0), Some(1), Some(2), None];
-    for (j, place) in order.iter().enumerate() {
-        same!(rt; index.order(j as u8), *place, "entry number {j}");
+/// The places of the entries of `one_tag_table` by their number, which of them are of a kind with so many tags, and which admit
+/// an inner VID.
+const ORDER: [(u8, Option<usize>); 6] = [
+    (0, Some(4)),
+    (1, Some(3)),
+    (2, Some(0)),
+    (3, Some(1)),
+    (4, Some(2)),
+    (5, None),
+];
+
+const TAG_MASKS: [(u8, u128); 4] = [(0, 0x04), (1, 0x0b), (2, 0x10), (3, 0)];
+
+/// Looks at the order of an index of `one_tag_table`.
+fn look_at_order(rt: &impl Abort, index: &Index) {
+    for (number, place) in &ORDER {
+        same!(rt; index.order(*number), *place, "entry number {number}");
     }
-    let tag_masks = [0x04, 0x0b, 0x10, 0];
-    for (tags, mask) in tag_masks.iter().enumerate() {
-        same!(rt; index.tag_mask(tags as u8), *mask, "{tags} tags");
+}
+
+/// Looks at which entries are of a kind with so many tags.
+fn look_at_tag_masks(rt: &impl Abort, index: &Index) {
+    for (tags, mask) in &TAG_MASKS {
+        same!(rt; index.tag_mask(*tags), *mask, "{tags} tags");
     }
+}
+
+/// Looks at which entries admit an inner VID.
+fn look_at_vid_masks(rt: &impl Abort, index: &Index) {
     let vid_masks = [(100, 0x1f), (101, 0x1e), (0, 0x1e), (4095, 0x1e)];
     for (vid, mask) in vid_masks {
         same!(rt; index.inner_vid_mask(vid), mask, "inner VID {vid}");
     }
+}
+
+/// Makes an index that of `one_tag_table`.
+fn rebuild_one_tag(alloc: Global, index: &mut Index) -> Result<(), Fail> {
+    let table = one_tag_table(alloc)?;
+    index.rebuild(&table);
+    Ok(())
+}
+
+/// Looks at the order and the masks of an index of `one_tag_table`.
+fn look_at_masks(rt: &impl Abort, alloc: Global, index: &mut Index) -> Result<(), Fail> {
+    rebuild_one_tag(alloc, index)?;
+    look_at_order(rt, index);
+    look_at_tag_masks(rt, index);
+    look_at_vid_masks(rt, index);
     Ok(())
 }
 
@@ -76,19 +121,20 @@ fn masks_stand_for_entries_by_rank_and_place(rt: HostRuntime) -> Result<(), Fail
     look_at_masks(&rt, rt.alloc(), &mut index)
 }
 
+/// Which entry of `one_tag_table` is found for a frame with these tags.
+const ONE_TAG_PLACES: [(&str, &[u32], Option<usize>); 4] = [
+    ("VID 100", &[0x8100a064], Some(4)),
+    ("VID 101", &[0x8100a065], Some(3)),
+    ("no tag", &[], Some(0)),
+    ("two tags", &[0x88a80064, 0x810000c8], Some(2)),
+];
+
 /// Looks which entry of `one_tag_table` is found for some frames.
 fn look_for_the_least(rt: &impl Abort, alloc: Global, index: &mut Index) -> Result<(), Fail> {
-    index.rebuild(&one_tag_table(alloc)?);
-    let two_tags = [0x88a80064, 0x810000c8];
-    let rows = [
-        ("VID 100", &[0x8100a064][..], Some(4)),
-        ("VID 101", &[0x8100a065][..], Some(3)),
-        ("no tag", &[][..], Some(0)),
-        ("two tags", &two_tags[..], Some(2)),
-    ];
-    for (what, tags, place) in rows {
-        let found = found(index, alloc, tags, 0x0800)?;
-        same!(rt; found, place, "{what}");
+    rebuild_one_tag(alloc, index)?;
+    for (what, tags, place) in &ONE_TAG_PLACES {
+        let found = found(rt, index, alloc, tags, 0x0800);
+        same!(rt; found, *place, "{what}");
     }
     Ok(())
 }
@@ -99,37 +145,156 @@ fn the_entry_of_least_rank_and_place_is_found(rt: HostRuntime) -> Result<(), Fai
     look_for_the_least(&rt, rt.alloc(), &mut index)
 }
 
+/// A service tag of VLAN 100 round a customer's tag of VLAN 200, and a customer's tag of VLAN 100.
+const TWO_TAGS: &[u32] = &[0x88a80064, 0x810000c8];
+
+const VID_100: &[u32] = &[0x8100a064];
+
+/// Puts an entry, looks what is told, and makes the index that of the table.
+fn put_and_rebuild(
+    rt: &impl Abort,
+    index: &mut Index,
+    table: &mut RuleTable,
+    key: u64,
+    rest: u64,
+    told: Put,
+) {
+    same!(rt; table.put(entry(key, rest)), Ok(told));
+    index.rebuild(table);
+}
+
+/// Looks which entry is found for a frame with these tags.
+fn look_for(rt: &impl Abort, alloc: Global, index: &Index, tags: &[u32], place: Option<usize>) {
+    same!(rt; found(rt, index, alloc, tags, 0x0800), place);
+}
+
 /// Changes a table, and looks what is found after each rebuild.
-fn look_at_rebuilds(
+fn look_at_rebuilds(rt: &impl Abort, alloc: Global, index: &mut Index, table: &mut RuleTable) {
+    index.rebuild(table);
+    put_and_rebuild(
+        rt,
+        index,
+        table,
+        0xf8000000_80320000,
+        UNCHANGED,
+        Put::Replaced,
+    );
+    look_for(rt, alloc, index, VID_100, Some(4));
+    put_and_rebuild(
+        rt,
+        index,
+        table,
+        0xe0000000_e0000000,
+        DELETION,
+        Put::Deleted,
+    );
+    look_for(rt, alloc, index, TWO_TAGS, None);
+    look_for(rt, alloc, index, VID_100, Some(3));
+    table.reset();
+    index.rebuild(table);
+    look_for(rt, alloc, index, TWO_TAGS, Some(2));
+    look_for(rt, alloc, index, VID_100, Some(1));
+    same!(rt; index.order(3), None);
+}
+
+/// The same with that table.
+fn look_at_rebuilds_of_one_tag(
     rt: &impl Abort,
     alloc: Global,
     index: &mut Index,
-    table: &mut RuleTable,
 ) -> Result<(), Fail> {
-    index.rebuild(table);
-    let two_tags = [0x88a80064, 0x810000c8];
-    let replaced = table.put(entry(0xf8000000_80320000, UNCHANGED));
-    same!(rt; replaced, Ok(Put::Replaced));
-    index.rebuild(table);
-    same!(rt; found(index, alloc, &[0x8100a064], 0x0800)?, Some(4));
-    let deleted = table.put(entry(0xe0000000_e0000000, DELETION));
-    same!(rt; deleted, Ok(Put::Deleted));
-    index.rebuild(table);
-    same!(rt; found(index, alloc, &two_tags, 0x0800)?, None);
-    same!(rt; found(index, alloc, &[0x8100a064], 0x0800)?, Some(3));
-    table.reset();
-    index.rebuild(table);
-    same!(rt; found(index, alloc, &two_tags, 0x0800)?, Some(2));
-    same!(rt; found(index, alloc, &[0x8100a064], 0x0800)?, Some(1));
-    same!(rt; index.order(3), None);
+    let mut table = one_tag_table(alloc)?;
+    look_at_rebuilds(rt, alloc, index, &mut table);
     Ok(())
 }
 
 #[test]
 fn a_rebuild_follows_the_table(rt: HostRuntime) -> Result<(), Fail> {
     let mut index = Index::new(rt.alloc())?;
-    let mut table = one_tag_table(rt.alloc())?;
-    look_at_rebuilds(&rt, rt.alloc(), &mut index, &mut table)
+    look_at_rebuilds_of_one_tag(&rt, rt.alloc(), &mut index)
+}
+
+/// What is put, one after another, and what the index says that it changed.
+const FOLLOWS: [(&str, u64, u64, Followed); 12] = [
+    (
+        "nothing",
+        0xf8000000_80320000,
+        0x400f0000_00080644,
+        Followed::Unchanged,
+    ),
+    (
+        "of rank 0",
+        0xf8000000_80320000,
+        UNCHANGED,
+        Followed::Treatment(0),
+    ),
+    (
+        "the same again",
+        0xf8000000_80320000,
+        UNCHANGED,
+        Followed::Unchanged,
+    ),
+    (
+        "a default",
+        0xf8000000_e8000000,
+        UNCHANGED,
+        Followed::Treatment(1),
+    ),
+    (
+        "a predefined one",
+        0xf0000000_f0000000,
+        DROPPED,
+        Followed::Treatment(2),
+    ),
+    (
+        "no such key",
+        0xf8000000_80500000,
+        DELETION,
+        Followed::Unchanged,
+    ),
+    ("a new key", 0xf8000000_80500000, DROPPED, Followed::Rebuilt),
+    (
+        "the new one",
+        0xf8000000_80500000,
+        UNCHANGED,
+        Followed::Treatment(1),
+    ),
+    (
+        "the last by rank",
+        0xe0000000_e0000000,
+        DROPPED,
+        Followed::Treatment(5),
+    ),
+    (
+        "one is gone",
+        0xf8000000_e8000000,
+        DELETION,
+        Followed::Rebuilt,
+    ),
+    (
+        "the first by place",
+        0xf0000000_f0000000,
+        UNCHANGED,
+        Followed::Treatment(2),
+    ),
+    (
+        "the last is gone",
+        0xf8000000_80500000,
+        DELETION,
+        Followed::Rebuilt,
+    ),
+];
+
+/// Puts an entry, and looks what the index says that it changed.
+fn follow_a_put(
+    rt: &impl Abort,
+    index: &mut Index,
+    table: &mut RuleTable,
+    row: &(&str, u64, u64, Followed),
+) {
+    let (what, key, rest, followed) = row;
+    let _ = table.put(entry(*key, *rest));
+    same!(rt; index.follow(table), *followed, "{what}");
 }
 
 /// Changes a table, and looks what the index says that it changed.
@@ -140,125 +305,113 @@ fn look_at_follows(
     table: &mut RuleTable,
 ) -> Result<(), Fail> {
     same!(rt; index.follow(table), Followed::Rebuilt);
-    let vid_100 = 0xf8000000_80320000;
-    let default = 0xf8000000_e8000000;
-    let untagged = 0xf0000000_f0000000;
-    let rows = [
-        ("nothing", vid_100, 0x400f0000_00080644, Followed::Unchanged),
-        ("of rank 0", vid_100, UNCHANGED, Followed::Treatment(0)),
-        ("the same again", vid_100, UNCHANGED, Followed::Unchanged),
-        ("a default", default, UNCHANGED, Followed::Treatment(1)),
-        (
-            "a predefined one",
-            untagged,
-            DROPPED,
-            Followed::Treatment(2),
-        ),
-        (
-            "no such key",
-            0xf8000000_80500000,
-            DELETION,
-            Followed::Unchanged,
-        ),
-        ("a new key", 0xf8000000_80500000, DROPPED, Followed::Rebuilt),
-        (
-            "the new one",
-            0xf8000000_80500000,
-            UNCHANGED,
-            Followed::Treatment(1),
-        ),
-        (
-            "the last by rank",
-            0xe0000000_e0000000,
-            DROPPED,
-            Followed::Treatment(5),
-        ),
-        ("one is gone", default, DELETION, Followed::Rebuilt),
-        (
-            "the first by place",
-            untagged,
-            UNCHANGED,
-            Followed::Treatment(2),
-        ),
-        (
-            "the last is gone",
-            0xf8000000_80500000,
-            DELETION,
-            Followed::Rebuilt,
-        ),
-    ];
     let mut draws = Draws {
         state: 0x9e3779b97f4a7c15,
     };
-    for (what, key, rest, followed) in rows {
-        let _ = table.put(entry(key, rest));
-        same!(rt; index.follow(table), followed, "{what}");
+    for row in &FOLLOWS {
+        follow_a_put(rt, index, table, row);
         compare(rt, alloc, table, index, &mut draws, &mut Seen::default())?;
     }
     Ok(())
 }
 
+/// The same with that table.
+fn look_at_follows_of_one_tag(
+    rt: &impl Abort,
+    alloc: Global,
+    index: &mut Index,
+) -> Result<(), Fail> {
+    let mut table = one_tag_table(alloc)?;
+    look_at_follows(rt, alloc, index, &mut table)
+}
+
 #[test]
 fn follow_says_what_a_put_changed(rt: HostRuntime) -> Result<(), Fail> {
     let mut index = Index::new(rt.alloc())?;
-    let mut table = one_tag_table(rt.alloc())?;
-    look_at_follows(&rt, rt.alloc(), &mut index, &mut table)
+    look_at_follows_of_one_tag(&rt, rt.alloc(), &mut index)
 }
 
 /// Changes two treatments, and looks what the index says of them.
-fn look_at_two_changes(
-    rt: &impl Abort,
-    index: &mut Index,
-    table: &mut RuleTable,
-) -> Result<(), Fail> {
+fn look_at_two_changes(rt: &impl Abort, index: &mut Index, table: &mut RuleTable) {
     index.rebuild(table);
-    table.put(entry(0xf8000000_80320000, UNCHANGED))?;
-    table.put(entry(0xf8000000_e8000000, UNCHANGED))?;
+    same!(rt; table.put(entry(0xf8000000_80320000, UNCHANGED)), Ok(Put::Replaced));
+    same!(rt; table.put(entry(0xf8000000_e8000000, UNCHANGED)), Ok(Put::Replaced));
     same!(rt; index.follow(table), Followed::Rebuilt);
     same!(rt; index.follow(table), Followed::Unchanged);
+}
+
+/// The same with that table.
+fn look_at_two_changes_of_one_tag(
+    rt: &impl Abort,
+    alloc: Global,
+    index: &mut Index,
+) -> Result<(), Fail> {
+    let mut table = one_tag_table(alloc)?;
+    look_at_two_changes(rt, index, &mut table);
     Ok(())
 }
 
 #[test]
 fn two_treatments_are_no_single_one(rt: HostRuntime) -> Result<(), Fail> {
     let mut index = Index::new(rt.alloc())?;
-    let mut table = one_tag_table(rt.alloc())?;
-    look_at_two_changes(&rt, &mut index, &mut table)
+    look_at_two_changes_of_one_tag(&rt, rt.alloc(), &mut index)
 }
 
-#[test]
-fn a_head_is_that_of_the_view(rt: HostRuntime) -> Result<(), Fail> {
-    let rows = [
-        (&[][..], 0, 0x81000000, 0x81000000),
-        (&[0x8100a064][..], 1, 0x8100a064, 0x8100a064),
-        (&[0x88a8f064, 0x810000c8][..], 2, 0x88a8f064, 0x810000c8),
-    ];
-    for (words, tags, outer, inner) in rows {
-        let bytes = frame(rt.alloc(), words, 0x0800)?;
-        for head in [
-            Head::of(&view(&bytes, 0x8100)?),
-            Head::read(&bytes, 0x8100)?,
-        ] {
-            same!(rt; head.tags(), tags);
-            same!(rt; head.outer(), outer, "outer of {tags}");
-            same!(rt; head.inner(), inner, "inner of {tags}");
-            same!(rt; head.ethertype(), 0x0800, "type behind {tags}");
-        }
-    }
+/// The tags of a frame, how many there are, and the words of the first and the last.
+const HEADS: [(&[u32], usize, u32, u32); 3] = [
+    (&[], 0, 0x81000000, 0x81000000),
+    (&[0x8100a064], 1, 0x8100a064, 0x8100a064),
+    (&[0x88a8f064, 0x810000c8], 2, 0x88a8f064, 0x810000c8),
+];
+
+/// Looks at a head.
+fn look_at_head(rt: &impl Abort, head: &Head, tags: usize, outer: u32, inner: u32) {
+    same!(rt; head.tags(), tags);
+    same!(rt; head.outer(), outer, "outer of {tags}");
+    same!(rt; head.inner(), inner, "inner of {tags}");
+    same!(rt; head.ethertype(), 0x0800, "type behind {tags}");
+}
+
+/// Looks at the head of a frame, read from its view and from its bytes.
+fn look_at_heads(
+    rt: &impl Abort,
+    bytes: &[u8],
+    tags: usize,
+    outer: u32,
+    inner: u32,
+) -> Result<(), FrameFault> {
+    let viewed = view(bytes, 0x8100)?;
+    look_at_head(rt, &Head::of(&viewed), tags, outer, inner);
+    let read = Head::read(bytes, 0x8100)?;
+    look_at_head(rt, &read, tags, outer, inner);
     Ok(())
 }
 
 #[test]
+fn a_head_is_that_of_the_view(rt: HostRuntime) -> Result<(), Fail> {
+    for (words, tags, outer, inner) in &HEADS {
+        let bytes = frame(rt.alloc(), words, 0x0800)?;
+        look_at_heads(&rt, &bytes, *tags, *outer, *inner)?;
+    }
+    Ok(())
+}
+
+/// Looks why so many bytes of a frame with two tags have no head.
+fn look_at_cut(rt: &impl Abort, bytes: &[u8]) {
+    let len = bytes.len();
+    let fault = match len {
+        0..=13 => Some(FrameFault::Runt),
+        14..=21 => Some(FrameFault::CutTag),
+        _ => None,
+    };
+    same!(rt; Head::read(bytes, 0x8100).err(), fault, "{len} bytes");
+}
+
+#[test]
 fn a_cut_frame_has_no_head(rt: HostRuntime) -> Result<(), Fail> {
-    let bytes = frame(rt.alloc(), &[0x88a80064, 0x810000c8], 0x0800)?;
+    let bytes = frame(rt.alloc(), TWO_TAGS, 0x0800)?;
     for len in 0..bytes.len() {
-        let read = Head::read(&bytes[..len], 0x8100);
-        let fault = match len {
-            0..=13 => Some(FrameFault::Runt),
-            14..=21 => Some(FrameFault::CutTag),
-            _ => None,
-        };
-        same!(rt; read.err(), fault, "{len} bytes");
+        look_at_cut(&rt, &bytes[..len]);
     }
     Ok(())
 }
@@ -331,26 +484,43 @@ impl Draws {
     }
 }
 
+/// Deletes the predefined entries.
+fn delete_predefined(table: &mut RuleTable) -> Result<(), TableFault> {
+    for key in [
+        0xf0000000_f0000000,
+        0xf0000000_e0000000,
+        0xe0000000_e0000000,
+    ] {
+        table.put(entry(key, DELETION))?;
+    }
+    Ok(())
+}
+
+/// Puts an entry of one of two kinds, where there is room.
+fn draw_entry(
+    table: &mut RuleTable,
+    draws: &mut Draws,
+    kinds: &[u32; 2],
+    number: u32,
+) -> Result<(), TableFault> {
+    if table.len() < TABLE_MAX_SIZE as usize {
+        table.put(draws.entry(kinds, number))?;
+    }
+    Ok(())
+}
+
 /// Makes a table of 128 entries of two kinds, with or without the predefined ones.
-fn draw_table(table: &mut RuleTable, draws: &mut Draws) -> Result<(), Fail> {
+fn draw_table(table: &mut RuleTable, draws: &mut Draws) -> Result<(), TableFault> {
     table.reset();
     if draws.of(&[0, 1]) == 0 {
-        for key in [
-            0xf0000000_f0000000,
-            0xf0000000_e0000000,
-            0xe0000000_e0000000,
-        ] {
-            table.put(entry(key, DELETION))?;
-        }
+        delete_predefined(table)?;
     }
     let kinds = [
         draws.of(&[0, 1, 2, 2, 3, 4, 4, 4]),
         draws.of(&[0, 1, 2, 2, 3, 4, 4, 4]),
     ];
     for number in 1..=128 {
-        if table.len() < TABLE_MAX_SIZE as usize {
-            table.put(draws.entry(&kinds, number))?;
-        }
+        draw_entry(table, draws, &kinds, number)?;
     }
     Ok(())
 }
@@ -389,6 +559,26 @@ impl Seen {
     }
 }
 
+/// Looks a frame up in a table and its index, and gives the filter of the entry that both find.
+fn compare_frame(
+    rt: &impl Abort,
+    table: &RuleTable,
+    index: &Index,
+    bytes: &[u8],
+    input_tpid: u16,
+) -> Result<Option<Filter>, FrameFault> {
+    let frame = view(bytes, input_tpid)?;
+    let walked = table.walk(&frame, input_tpid);
+    same!(rt; index.find(&frame, input_tpid), walked);
+    let number = index.number(&Head::read(bytes, input_tpid)?, input_tpid);
+    same!(rt; index.order(number as u8), walked);
+    Ok(
+        walked
+            .and_then(|place| table.rule(place))
+            .map(|rule| rule.filter),
+    )
+}
+
 /// Looks 100 frames up in a table and its index.
 fn compare(
     rt: &impl Abort,
@@ -401,16 +591,8 @@ fn compare(
     for _ in 0..100 {
         let input_tpid = (draws.of(&[0x8100, 0x88a8, 0x9100]) % 0x10000) as u16;
         let bytes = draws.frame(alloc)?;
-        let frame = view(&bytes, input_tpid)?;
-        let walked = table.walk(&frame, input_tpid);
-        same!(rt; index.find(&frame, input_tpid), walked);
-        let number = index.number(&Head::read(&bytes, input_tpid)?, input_tpid);
-        same!(rt; index.order(number as u8), walked);
-        seen.count(
-            walked
-                .and_then(|place| table.rule(place))
-                .map(|rule| rule.filter),
-        );
+        let walked = compare_frame(rt, table, index, &bytes, input_tpid)?;
+        seen.count(walked);
     }
     Ok(())
 }
@@ -436,9 +618,14 @@ fn agree(
     Ok(())
 }
 
+/// The same in a table that is made.
+fn agree_in_a_table(rt: &impl Abort, alloc: Global, index: &mut Index) -> Result<(), Fail> {
+    let mut table = RuleTable::new(alloc)?;
+    agree(rt, alloc, &mut table, index)
+}
+
 #[test]
 fn find_agrees_with_a_walk(rt: HostRuntime) -> Result<(), Fail> {
-    let mut table = RuleTable::new(rt.alloc())?;
     let mut index = Index::new(rt.alloc())?;
-    agree(&rt, rt.alloc(), &mut table, &mut index)
+    agree_in_a_table(&rt, rt.alloc(), &mut index)
 }

@@ -1,8 +1,10 @@
+ghost use Rattle.std.specs.Prelude.{◌≤◌};
+
 use arrayvec::ArrayVec;
 use fixtures::same;
 use std::process::Abort;
 use std::test::Fail;
-use tag_view::{DscpMap, view};
+use tag_view::{DscpMap, FrameView, Tag, view};
 use treatment::{Treat, Treated, treat};
 use vlan_rule::{Entry, Rule, RuleFault, TableSettings};
 
@@ -28,11 +30,15 @@ const TWO_TAGS: &[u8] = &[
     0x45, 0xb8,
 ];
 
+/// The tags that these frames have.
+const OUTER: u32 = 0x88a87064;
+
+const INNER: u32 = 0x8100c0c8;
+
 /// The rule of an entry for all untagged frames, with these last eight bytes.
 fn rule(treatments: u64) -> Result<Rule, RuleFault> {
-    let mut entry = [0; 16];
-    entry[..8].copy_from_slice(&[0xf8, 0, 0, 0, 0xf8, 0, 0, 0]);
-    entry[8..].copy_from_slice(&treatments.to_be_bytes());
+    let [t0, t1, t2, t3, t4, t5, t6, t7] = treatments.to_be_bytes();
+    let entry = [0xf8, 0, 0, 0, 0xf8, 0, 0, 0, t0, t1, t2, t3, t4, t5, t6, t7];
     Rule::read(&Entry(entry))
 }
 
@@ -50,6 +56,15 @@ fn treated(treatments: u64, frame: &[u8]) -> Result<Option<ArrayVec<u32, 4>>, Fa
     Ok(Some(all))
 }
 
+/// The words of the first and of the last tag of a frame.
+fn ends(tags: &[Tag]) -> (u32, u32) {
+    match tags {
+        [] => (Treat::NO_TAG, Treat::NO_TAG),
+        [only] => (only.word(), only.word()),
+        [first, .., last] => (first.word(), last.word()),
+    }
+}
+
 /// The same by the compiled treatment. Of the DSCP it is told only where it asks for it.
 fn compiled(treatments: u64, frame: &[u8]) -> Result<Option<ArrayVec<u32, 4>>, Fail> {
     let rule = rule(treatments)?;
@@ -57,21 +72,20 @@ fn compiled(treatments: u64, frame: &[u8]) -> Result<Option<ArrayVec<u32, 4>>, F
     let Some(treat) = Treat::of(&rule.treatment, &SETTINGS, frame.tags().len()) else {
         return Ok(None);
     };
-    let (first, last) = match frame.tags() {
-        [] => (Treat::NO_TAG, Treat::NO_TAG),
-        [only] => (only.word(), only.word()),
-        [first, .., last] => (first.word(), last.word()),
-    };
+    Ok(Some(compiled_words(&treat, &frame)))
+}
+
+/// The words of the tags by a compiled treatment.
+fn compiled_words(treat: &Treat, frame: &FrameView<'_>) -> ArrayVec<u32, 4> {
+    let (first, last) = ends(frame.tags());
     let priority = match frame.dscp() {
         Some(dscp) if treat.uses_dscp() => SETTINGS.dscp_map.get(dscp),
         _ => 0,
     };
     let words = treat.words(first, last, priority);
     let mut all = ArrayVec::new();
-    for word in &words[..treat.count()] {
-        let _ = all.try_push(*word);
-    }
-    Ok(Some(all))
+    let _ = all.try_extend_from_slice(&words[..treat.count()]);
+    all
 }
 
 /// Ends the test where a frame doesn't leave with these tags, by the treatment as it stands or compiled.
@@ -93,248 +107,281 @@ fn expect(
     Ok(())
 }
 
+/// The treatment by the inner tag that is added, and the word of that tag for a frame with no tag, with one and with two.
+const CODES: [(&str, u64, [u32; 3]); 16] = [
+    (
+        "priority 0",
+        0x00000964,
+        [0x8100012c, 0x8100012c, 0x8100012c],
+    ),
+    (
+        "priority 7",
+        0x00070964,
+        [0x8100e12c, 0x8100e12c, 0x8100e12c],
+    ),
+    (
+        "priority of the inner tag",
+        0x00080964,
+        [0x8100012c, 0x8100612c, 0x8100c12c],
+    ),
+    (
+        "priority of the outer tag",
+        0x00090964,
+        [0x8100012c, 0x8100612c, 0x8100612c],
+    ),
+    (
+        "priority of the DSCP",
+        0x000a0964,
+        [0x8100a12c, 0x8100a12c, 0x8100a12c],
+    ),
+    ("VID 0", 0x00010004, [0x81002000, 0x81002000, 0x81002000]),
+    ("VID 4094", 0x00017ff4, [0x81002ffe, 0x81002ffe, 0x81002ffe]),
+    (
+        "VID of the inner tag",
+        0x00018004,
+        [0x81002000, 0x81002064, 0x810020c8],
+    ),
+    (
+        "VID of the outer tag",
+        0x0001800c,
+        [0x81002000, 0x81002064, 0x81002064],
+    ),
+    (
+        "TPID and DE of the inner tag",
+        0x00010960,
+        [0x8100212c, 0x88a8312c, 0x8100212c],
+    ),
+    (
+        "TPID and DE of the outer tag",
+        0x00010961,
+        [0x8100212c, 0x88a8312c, 0x88a8312c],
+    ),
+    (
+        "output TPID, DE of the inner tag",
+        0x00010962,
+        [0x9100212c, 0x9100312c, 0x9100212c],
+    ),
+    (
+        "output TPID, DE of the outer tag",
+        0x00010963,
+        [0x9100212c, 0x9100312c, 0x9100312c],
+    ),
+    (
+        "TPID 0x8100",
+        0x00010964,
+        [0x8100212c, 0x8100212c, 0x8100212c],
+    ),
+    (
+        "output TPID, DE 0",
+        0x00010966,
+        [0x9100212c, 0x9100212c, 0x9100212c],
+    ),
+    (
+        "output TPID, DE 1",
+        0x00010967,
+        [0x9100312c, 0x9100312c, 0x9100312c],
+    ),
+];
+
+/// Looks at the tags that frames leave with where an inner tag is added.
+fn look_at_code(
+    rt: &impl Abort,
+    what: &str,
+    inner: u64,
+    [none, one, two]: [u32; 3],
+) -> Result<(), Fail> {
+    let treatments = 0x000f0000_00000000 | inner;
+    let one_left = [one, OUTER];
+    let two_left = [two, OUTER, INNER];
+    expect(rt, what, treatments, UNTAGGED, Some(&[none]))?;
+    expect(rt, what, treatments, ONE_TAG, Some(&one_left))?;
+    expect(rt, what, treatments, TWO_TAGS, Some(&two_left))
+}
+
 #[test]
 fn each_code_adds_its_tag_in_front_of_those_received(rt: HostRuntime) -> Result<(), Fail> {
-    let rows = [
-        (
-            "priority 0",
-            0x00000964,
-            [0x8100012c, 0x8100012c, 0x8100012c],
-        ),
-        (
-            "priority 7",
-            0x00070964,
-            [0x8100e12c, 0x8100e12c, 0x8100e12c],
-        ),
-        (
-            "priority of the inner tag",
-            0x00080964,
-            [0x8100012c, 0x8100612c, 0x8100c12c],
-        ),
-        (
-            "priority of the outer tag",
-            0x00090964,
-            [0x8100012c, 0x8100612c, 0x8100612c],
-        ),
-        (
-            "priority of the DSCP",
-            0x000a0964,
-            [0x8100a12c, 0x8100a12c, 0x8100a12c],
-        ),
-        ("VID 0", 0x00010004, [0x81002000, 0x81002000, 0x81002000]),
-        ("VID 4094", 0x00017ff4, [0x81002ffe, 0x81002ffe, 0x81002ffe]),
-        (
-            "VID of the inner tag",
-            0x00018004,
-            [0x81002000, 0x81002064, 0x810020c8],
-        ),
-        (
-            "VID of the outer tag",
-            0x0001800c,
-            [0x81002000, 0x81002064, 0x81002064],
-        ),
-        (
-            "TPID and DE of the inner tag",
-            0x00010960,
-            [0x8100212c, 0x88a8312c, 0x8100212c],
-        ),
-        (
-            "TPID and DE of the outer tag",
-            0x00010961,
-            [0x8100212c, 0x88a8312c, 0x88a8312c],
-        ),
-        (
-            "output TPID, DE of the inner tag",
-            0x00010962,
-            [0x9100212c, 0x9100312c, 0x9100212c],
-        ),
-        (
-            "output TPID, DE of the outer tag",
-            0x00010963,
-            [0x9100212c, 0x9100312c, 0x9100312c],
-        ),
-        (
-            "TPID 0x8100",
-            0x00010964,
-            [0x8100212c, 0x8100212c, 0x8100212c],
-        ),
-        (
-            "output TPID, DE 0",
-            0x00010966,
-            [0x9100212c, 0x9100212c, 0x9100212c],
-        ),
-        (
-            "output TPID, DE 1",
-            0x00010967,
-            [0x9100312c, 0x9100312c, 0x9100312c],
-        ),
-    ];
-    for (what, inner, [none, one, two]) in rows {
-        let treatments = 0x000f0000_00000000 + inner;
-        let one_left = &[one, 0x88a87064][..];
-        let two_left = &[two, 0x88a87064, 0x8100c0c8][..];
-        expect(&rt, what, treatments, UNTAGGED, Some(&[none][..]))?;
-        expect(&rt, what, treatments, ONE_TAG, Some(one_left))?;
-        expect(&rt, what, treatments, TWO_TAGS, Some(two_left))?;
+    for (what, inner, words) in &CODES {
+        look_at_code(&rt, what, *inner, *words)?;
     }
     Ok(())
+}
+
+/// The treatment, and the tags that frames with no tag, with one and with two leave with.
+const REMOVALS: [(&str, u64, [&[u32]; 3]); 3] = [
+    (
+        "none",
+        0x000f0000_000f0000,
+        [&[], &[OUTER], &[OUTER, INNER]],
+    ),
+    ("one", 0x400f0000_000f0000, [&[], &[], &[INNER]]),
+    ("two", 0x800f0000_000f0000, [&[], &[], &[]]),
+];
+
+/// Looks at the tags that frames leave with.
+fn look_at_removal(
+    rt: &impl Abort,
+    what: &str,
+    treatments: u64,
+    [none, one, two]: [&[u32]; 3],
+) -> Result<(), Fail> {
+    expect(rt, what, treatments, UNTAGGED, Some(none))?;
+    expect(rt, what, treatments, ONE_TAG, Some(one))?;
+    expect(rt, what, treatments, TWO_TAGS, Some(two))
+}
+
+/// Looks that a frame is dropped.
+fn expect_dropped(rt: &impl Abort, what: &str, frame: &[u8]) -> Result<(), Fail> {
+    expect(rt, what, 0xc00f0000_000f0000, frame, None)
 }
 
 #[test]
 fn tags_are_removed_from_the_outermost_on(rt: HostRuntime) -> Result<(), Fail> {
-    let outer = 0x88a87064;
-    let inner = 0x8100c0c8;
-    let rows = [
-        (
-            "none",
-            0x000f0000_000f0000,
-            &[][..],
-            &[outer][..],
-            &[outer, inner][..],
-        ),
-        ("one", 0x400f0000_000f0000, &[][..], &[][..], &[inner][..]),
-        ("two", 0x800f0000_000f0000, &[][..], &[][..], &[][..]),
-    ];
-    for (what, treatments, none, one, two) in rows {
-        expect(&rt, what, treatments, UNTAGGED, Some(none))?;
-        expect(&rt, what, treatments, ONE_TAG, Some(one))?;
-        expect(&rt, what, treatments, TWO_TAGS, Some(two))?;
+    for (what, treatments, left) in &REMOVALS {
+        look_at_removal(&rt, what, *treatments, *left)?;
     }
-    for frame in [UNTAGGED, ONE_TAG, TWO_TAGS] {
-        expect(
-            &rt,
-            "three are to be removed",
-            0xc00f0000_000f0000,
-            frame,
-            None,
-        )?;
-    }
-    Ok(())
+    expect_dropped(&rt, "three are to be removed", UNTAGGED)?;
+    expect_dropped(&rt, "three are to be removed", ONE_TAG)?;
+    expect_dropped(&rt, "three are to be removed", TWO_TAGS)
 }
+
+/// A treatment, a frame, and the tags that it leaves with.
+type Leaving = (&'static str, u64, &'static [u8], &'static [u32]);
+
+/// The outer tag: priority 1, VID 300, output TPID. The inner one: that of the received inner tag.
+const TWO_ADDED: [Leaving; 4] = [
+    (
+        "none",
+        0x00010966_00088000,
+        UNTAGGED,
+        &[0x9100212c, 0x81000000],
+    ),
+    (
+        "two",
+        0x00010966_00088000,
+        TWO_TAGS,
+        &[0x9100212c, 0x8100c0c8, 0x88a87064, 0x8100c0c8],
+    ),
+    (
+        "two, which go",
+        0x80010966_00088000,
+        TWO_TAGS,
+        &[0x9100212c, 0x8100c0c8],
+    ),
+    (
+        "one, the outer tag added alone",
+        0x00010966_000f0000,
+        ONE_TAG,
+        &[0x9100212c, 0x88a87064],
+    ),
+];
 
 #[test]
 fn the_added_outer_tag_stands_before_the_added_inner_tag(rt: HostRuntime) -> Result<(), Fail> {
-    // The outer tag: priority 1, VID 300, output TPID. The inner one: that of the received inner tag.
-    let rows = [
-        (
-            "none",
-            0x00010966_00088000,
-            UNTAGGED,
-            &[0x9100212c, 0x81000000][..],
-        ),
-        (
-            "two",
-            0x00010966_00088000,
-            TWO_TAGS,
-            &[0x9100212c, 0x8100c0c8, 0x88a87064, 0x8100c0c8][..],
-        ),
-        (
-            "two, which go",
-            0x80010966_00088000,
-            TWO_TAGS,
-            &[0x9100212c, 0x8100c0c8][..],
-        ),
-        (
-            "one, the outer tag added alone",
-            0x00010966_000f0000,
-            ONE_TAG,
-            &[0x9100212c, 0x88a87064][..],
-        ),
-    ];
-    for (what, treatments, frame, want) in rows {
-        expect(&rt, what, treatments, frame, Some(want))?;
+    for (what, treatments, frame, want) in &TWO_ADDED {
+        expect(&rt, what, *treatments, frame, Some(want))?;
     }
     Ok(())
 }
 
+/// Frames without a DSCP or with another: untagged, of VLAN 100 with priority 5, of VLAN 100 round 200, with an IPv6 packet of
+/// DSCP 46, and of ARP.
+const PLAIN: &[u8] = &[2, 0, 0, 0, 0, 1, 2, 0, 0, 0, 0, 2, 0x08, 0x00, 0x45, 0x00];
+
+const VOICE: &[u8] = &[
+    2, 0, 0, 0, 0, 1, 2, 0, 0, 0, 0, 2, 0x81, 0x00, 0xa0, 0x64, 0x08, 0x00, 0x45, 0x00,
+];
+
+const DOUBLE: &[u8] = &[
+    2, 0, 0, 0, 0, 1, 2, 0, 0, 0, 0, 2, 0x88, 0xa8, 0x00, 0x64, 0x81, 0x00, 0x00, 0xc8, 0x08, 0x00,
+    0x45, 0x00,
+];
+
+const IPV6: &[u8] = &[2, 0, 0, 0, 0, 1, 2, 0, 0, 0, 0, 2, 0x86, 0xdd, 0x6b, 0x80];
+
+const ARP: &[u8] = &[2, 0, 0, 0, 0, 1, 2, 0, 0, 0, 0, 2, 0x08, 0x06, 0x00, 0x01];
+
+const WORKED: [Leaving; 8] = [
+    (
+        "VLAN 100 is added",
+        0x000f0000_00000324,
+        PLAIN,
+        &[0x81000064],
+    ),
+    (
+        "the VID changes and the priority stays",
+        0x400f0000_00080644,
+        VOICE,
+        &[0x8100a0c8],
+    ),
+    (
+        "copies of no tag",
+        0x000f0000_00088000,
+        PLAIN,
+        &[0x81000000],
+    ),
+    ("two of one tag go", 0x800f0000_000f0000, VOICE, &[]),
+    (
+        "the outer of two tags goes",
+        0x400f0000_000f0000,
+        DOUBLE,
+        &[0x810000c8],
+    ),
+    (
+        "the priority of an IPv4 packet",
+        0x000f0000_000a0324,
+        UNTAGGED,
+        &[0x8100a064],
+    ),
+    (
+        "the priority of an IPv6 packet",
+        0x000f0000_000a0324,
+        IPV6,
+        &[0x8100a064],
+    ),
+    (
+        "the priority without a DSCP",
+        0x000f0000_000a0324,
+        ARP,
+        &[0x81000064],
+    ),
+];
+
 #[test]
 fn worked_frames_leave_with_their_tags(rt: HostRuntime) -> Result<(), Fail> {
-    let plain = &[2, 0, 0, 0, 0, 1, 2, 0, 0, 0, 0, 2, 0x08, 0x00, 0x45, 0x00][..];
-    let voice = &[
-        2, 0, 0, 0, 0, 1, 2, 0, 0, 0, 0, 2, 0x81, 0x00, 0xa0, 0x64, 0x08, 0x00, 0x45, 0x00,
-    ][..];
-    let double = &[
-        2, 0, 0, 0, 0, 1, 2, 0, 0, 0, 0, 2, 0x88, 0xa8, 0x00, 0x64, 0x81, 0x00, 0x00, 0xc8, 0x08,
-        0x00, 0x45, 0x00,
-    ][..];
-    let ipv6 = &[2, 0, 0, 0, 0, 1, 2, 0, 0, 0, 0, 2, 0x86, 0xdd, 0x6b, 0x80][..];
-    let arp = &[2, 0, 0, 0, 0, 1, 2, 0, 0, 0, 0, 2, 0x08, 0x06, 0x00, 0x01][..];
-    let rows = [
-        (
-            "VLAN 100 is added",
-            0x000f0000_00000324,
-            plain,
-            &[0x81000064][..],
-        ),
-        (
-            "the VID changes and the priority stays",
-            0x400f0000_00080644,
-            voice,
-            &[0x8100a0c8][..],
-        ),
-        (
-            "copies of no tag",
-            0x000f0000_00088000,
-            plain,
-            &[0x81000000][..],
-        ),
-        ("two of one tag go", 0x800f0000_000f0000, voice, &[][..]),
-        (
-            "the outer of two tags goes",
-            0x400f0000_000f0000,
-            double,
-            &[0x810000c8][..],
-        ),
-        (
-            "the priority of an IPv4 packet",
-            0x000f0000_000a0324,
-            UNTAGGED,
-            &[0x8100a064][..],
-        ),
-        (
-            "the priority of an IPv6 packet",
-            0x000f0000_000a0324,
-            ipv6,
-            &[0x8100a064][..],
-        ),
-        (
-            "the priority without a DSCP",
-            0x000f0000_000a0324,
-            arp,
-            &[0x81000064][..],
-        ),
-    ];
-    for (what, treatments, frame, want) in rows {
-        expect(&rt, what, treatments, frame, Some(want))?;
+    for (what, treatments, frame, want) in &WORKED {
+        expect(&rt, what, *treatments, frame, Some(want))?;
     }
-    for frame in [voice, double] {
-        expect(&rt, "dropped", 0xc00f0000_000f0000, frame, None)?;
-    }
-    Ok(())
+    expect_dropped(&rt, "dropped", VOICE)?;
+    expect_dropped(&rt, "dropped", DOUBLE)
+}
+
+/// Whether a treatment asks for the DSCP.
+const ASKING: [(&str, u64, bool); 6] = [
+    ("no tag is added", 0x000f0000_000f0000, false),
+    ("a fixed priority", 0x000f0000_00000324, false),
+    ("that of a received tag", 0x00080644_00090644, false),
+    ("the inner tag's is the DSCP's", 0x000f0000_000a0324, true),
+    ("the outer tag's is the DSCP's", 0x000a0324_000f0000, true),
+    ("the inner of two is the DSCP's", 0x00010966_000a0324, true),
+];
+
+/// Looks whether a treatment of frames with so many tags asks for the DSCP.
+fn look_at_asking(rt: &impl Abort, what: &str, rule: &Rule, received: usize, want: bool)
+    requires { received ≤ 2 }
+{
+    let asks = Treat::of(&rule.treatment, &SETTINGS, received).map(|treat| treat.uses_dscp());
+    same!(rt; asks, Some(want), "{what}, {received} tags");
 }
 
 #[test]
 fn a_compiled_treatment_asks_for_the_dscp_where_a_tag_takes_its_priority(
     rt: HostRuntime,
 ) -> Result<(), Fail> {
-    let rows = [
-        ("no tag is added", 0x000f0000_000f0000, false),
-        ("a fixed priority", 0x000f0000_00000324, false),
-        ("that of a received tag", 0x00080644_00090644, false),
-        ("the inner tag's is the DSCP's", 0x000f0000_000a0324, true),
-        ("the outer tag's is the DSCP's", 0x000a0324_000f0000, true),
-        ("the inner of two is the DSCP's", 0x00010966_000a0324, true),
-    ];
-    for (what, treatments, want) in rows {
-        let rule = rule(treatments)?;
-        for received in 0..3 {
-            let treat = Treat::of(&rule.treatment, &SETTINGS, received);
-            same!(rt;
-                treat.map(|t| t.uses_dscp()),
-                Some(want),
-                "{what}, {received} tags"
-            );
-        }
+    for (what, treatments, want) in &ASKING {
+        let rule = rule(*treatments)?;
+        look_at_asking(&rt, what, &rule, 0, *want);
+        look_at_asking(&rt, what, &rule, 1, *want);
+        look_at_asking(&rt, what, &rule, 2, *want);
     }
     Ok(())
 }

@@ -39,284 +39,326 @@ fn used(
     Ok(table.walk(&frame, input_tpid))
 }
 
+/// The first eight bytes of an entry for one tag, whatever it is.
+const ANY_TAG: u64 = 0xf8000000_88000000;
+
+const REFUSALS: [(&str, u64, u64, RuleFault, u8); 17] = [
+    (
+        "inner priority 9",
+        0xf8000000_98000000,
+        UNCHANGED,
+        RuleFault::Priority,
+        1,
+    ),
+    (
+        "inner priority 13",
+        0xf8000000_d8000000,
+        UNCHANGED,
+        RuleFault::Priority,
+        1,
+    ),
+    (
+        "outer priority 9",
+        0x98000000_88000000,
+        UNCHANGED,
+        RuleFault::Priority,
+        1,
+    ),
+    (
+        "outer default, inner 9",
+        0xe8000000_98000000,
+        UNCHANGED,
+        RuleFault::Priority,
+        1,
+    ),
+    (
+        "outer 3, inner default",
+        0x38000000_e8000000,
+        UNCHANGED,
+        RuleFault::Mixed,
+        2,
+    ),
+    (
+        "outer ANY_TAG, inner default",
+        0x88000000_e8000000,
+        UNCHANGED,
+        RuleFault::Mixed,
+        2,
+    ),
+    (
+        "one tag's VID 4097",
+        0xf8000000_88008000,
+        UNCHANGED,
+        RuleFault::Vid,
+        3,
+    ),
+    (
+        "outer VID 4097",
+        0x88008000_88000000,
+        UNCHANGED,
+        RuleFault::Vid,
+        3,
+    ),
+    (
+        "one tag's TPID/DE 1",
+        0xf8000000_88001000,
+        UNCHANGED,
+        RuleFault::Tpid,
+        4,
+    ),
+    (
+        "outer TPID/DE 3",
+        0x88003000_88000000,
+        UNCHANGED,
+        RuleFault::Tpid,
+        4,
+    ),
+    (
+        "Ethertype 6",
+        0xf8000000_f8000006,
+        UNCHANGED,
+        RuleFault::Ethertype,
+        5,
+    ),
+    (
+        "added outer priority 11",
+        ANY_TAG,
+        0x000b0000_000f0000,
+        RuleFault::TreatPriority,
+        6,
+    ),
+    (
+        "added inner priority 14",
+        ANY_TAG,
+        0x000f0000_000e0000,
+        RuleFault::TreatPriority,
+        6,
+    ),
+    (
+        "added inner VID 4095",
+        ANY_TAG,
+        0x000f0000_00007ffc,
+        RuleFault::TreatVid,
+        7,
+    ),
+    (
+        "added outer VID 4098",
+        ANY_TAG,
+        0x00008010_000f0000,
+        RuleFault::TreatVid,
+        7,
+    ),
+    (
+        "added inner TPID/DE 5",
+        ANY_TAG,
+        0x000f0000_00000325,
+        RuleFault::TreatTpid,
+        8,
+    ),
+    (
+        "a bad VID before a bad Ethertype",
+        0xf8000000_88008006,
+        UNCHANGED,
+        RuleFault::Vid,
+        3,
+    ),
+];
+
+/// Looks why an entry is refused.
+fn look_at_refusal(rt: &impl Abort, row: &(&str, u64, u64, RuleFault, u8)) {
+    let (what, key, rest, fault, number) = row;
+    same!(rt; Rule::read(&entry(*key, *rest)).err(), Some(*fault), "{what}");
+    same!(rt; fault.code(), *number, "{what}");
+    same!(rt; TableFault::Bad(*fault).code(), 1, "{what}");
+}
+
 #[test]
 fn each_refusal_has_its_number(rt: HostRuntime) {
-    let any = 0xf8000000_88000000;
-    let rows = [
-        (
-            "inner priority 9",
-            0xf8000000_98000000,
-            UNCHANGED,
-            RuleFault::Priority,
-            1,
-        ),
-        (
-            "inner priority 13",
-            0xf8000000_d8000000,
-            UNCHANGED,
-            RuleFault::Priority,
-            1,
-        ),
-        (
-            "outer priority 9",
-            0x98000000_88000000,
-            UNCHANGED,
-            RuleFault::Priority,
-            1,
-        ),
-        (
-            "outer default, inner 9",
-            0xe8000000_98000000,
-            UNCHANGED,
-            RuleFault::Priority,
-            1,
-        ),
-        (
-            "outer 3, inner default",
-            0x38000000_e8000000,
-            UNCHANGED,
-            RuleFault::Mixed,
-            2,
-        ),
-        (
-            "outer any, inner default",
-            0x88000000_e8000000,
-            UNCHANGED,
-            RuleFault::Mixed,
-            2,
-        ),
-        (
-            "one tag's VID 4097",
-            0xf8000000_88008000,
-            UNCHANGED,
-            RuleFault::Vid,
-            3,
-        ),
-        (
-            "outer VID 4097",
-            0x88008000_88000000,
-            UNCHANGED,
-            RuleFault::Vid,
-            3,
-        ),
-        (
-            "one tag's TPID/DE 1",
-            0xf8000000_88001000,
-            UNCHANGED,
-            RuleFault::Tpid,
-            4,
-        ),
-        (
-            "outer TPID/DE 3",
-            0x88003000_88000000,
-            UNCHANGED,
-            RuleFault::Tpid,
-            4,
-        ),
-        (
-            "Ethertype 6",
-            0xf8000000_f8000006,
-            UNCHANGED,
-            RuleFault::Ethertype,
-            5,
-        ),
-        (
-            "added outer priority 11",
-            any,
-            0x000b0000_000f0000,
-            RuleFault::TreatPriority,
-            6,
-        ),
-        (
-            "added inner priority 14",
-            any,
-            0x000f0000_000e0000,
-            RuleFault::TreatPriority,
-            6,
-        ),
-        (
-            "added inner VID 4095",
-            any,
-            0x000f0000_00007ffc,
-            RuleFault::TreatVid,
-            7,
-        ),
-        (
-            "added outer VID 4098",
-            any,
-            0x00008010_000f0000,
-            RuleFault::TreatVid,
-            7,
-        ),
-        (
-            "added inner TPID/DE 5",
-            any,
-            0x000f0000_00000325,
-            RuleFault::TreatTpid,
-            8,
-        ),
-        (
-            "a bad VID before a bad Ethertype",
-            0xf8000000_88008006,
-            UNCHANGED,
-            RuleFault::Vid,
-            3,
-        ),
-    ];
-    for (what, key, rest, fault, number) in rows {
-        same!(rt; Rule::read(&entry(key, rest)).err(), Some(fault), "{what}");
-        same!(rt; fault.code(), number, "{what}");
-        same!(rt; TableFault::Bad(fault).code(), 1, "{what}");
+    for row in &REFUSALS {
+        look_at_refusal(&rt, row);
     }
     same!(rt; TableFault::Full.code(), 2);
 }
 
+const ACCEPTED: [(&str, u64, u64); 8] = [
+    (
+        "outer priority 9 of a no-tag entry",
+        0x98000000_f8000000,
+        UNCHANGED,
+    ),
+    ("filters of a no-tag entry", 0xd8009000_f8009000, UNCHANGED),
+    (
+        "outer filters of a one-tag entry",
+        0xf8009000_88000000,
+        UNCHANGED,
+    ),
+    (
+        "filters of a one-tag default",
+        0xf8009000_e8009000,
+        UNCHANGED,
+    ),
+    (
+        "filters of a two-tag default",
+        0xe8009000_88009000,
+        UNCHANGED,
+    ),
+    (
+        "VIDs and TPIDs where no tag is added",
+        0xf8000000_88000000,
+        0x000f7ffd_000f7ffd,
+    ),
+    (
+        "treatments of a frame that is dropped",
+        0xf8000000_88000000,
+        0xc00b7ffd_000b7ffd,
+    ),
+    ("padding", 0x80000fff_80000ff0, 0x3ff00000_fff00000),
+];
+
 #[test]
 fn fields_that_do_not_count_are_not_refused(rt: HostRuntime) {
-    let rows = [
-        (
-            "outer priority 9 of a no-tag entry",
-            0x98000000_f8000000,
-            UNCHANGED,
-        ),
-        ("filters of a no-tag entry", 0xd8009000_f8009000, UNCHANGED),
-        (
-            "outer filters of a one-tag entry",
-            0xf8009000_88000000,
-            UNCHANGED,
-        ),
-        (
-            "filters of a one-tag default",
-            0xf8009000_e8009000,
-            UNCHANGED,
-        ),
-        (
-            "filters of a two-tag default",
-            0xe8009000_88009000,
-            UNCHANGED,
-        ),
-        (
-            "VIDs and TPIDs where no tag is added",
-            0xf8000000_88000000,
-            0x000f7ffd_000f7ffd,
-        ),
-        (
-            "treatments of a frame that is dropped",
-            0xf8000000_88000000,
-            0xc00b7ffd_000b7ffd,
-        ),
-        ("padding", 0x80000fff_80000ff0, 0x3ff00000_fff00000),
-    ];
-    for (what, key, rest) in rows {
-        same!(rt; Rule::read(&entry(key, rest)).err(), None, "{what}");
+    for (what, key, rest) in &ACCEPTED {
+        same!(rt; Rule::read(&entry(*key, *rest)).err(), None, "{what}");
     }
+}
+
+/// A filter of any tag.
+const ANY: TagFilter = TagFilter {
+    priority: PriorityFilter::Any,
+    vid: VidFilter::Any,
+    tpid: TpidFilter::Any,
+};
+
+const VID_100: TagFilter = TagFilter {
+    vid: VidFilter::Exactly(100),
+    ..ANY
+};
+
+/// A treatment that takes a tag away, and adds one of VID 200 with its priority.
+const SWAPPED: Retag = Retag {
+    remove: 1,
+    outer: None,
+    inner: Some(AddedTag {
+        priority: PrioritySource::Inner,
+        vid: VidSource::Fixed(200),
+        tpid: TpidSource::Standard,
+        eligible: EligibleSource::Clear,
+    }),
+};
+
+/// Looks at the parts of an entry that translates VID 100.
+fn look_at_translated(rt: &impl Abort, rule: &Rule) {
+    same!(rt; rule.filter, Filter::OneTag(VID_100));
+    same!(rt; rule.ethertype, EthertypeFilter::Any);
+    same!(rt; rule.rank, Rank::Ordinary);
+    same!(rt; rule.treatment, Treatment::Retag(SWAPPED));
+}
+
+const PPPOE_OUTER: TagFilter = TagFilter {
+    priority: PriorityFilter::Exactly(5),
+    vid: VidFilter::Exactly(7),
+    tpid: TpidFilter::InputNotEligible,
+};
+
+const PPPOE_INNER: TagFilter = TagFilter {
+    tpid: TpidFilter::InputEligible,
+    ..ANY
+};
+
+/// A treatment that takes two tags away, and adds one of the outer and one of the DSCP.
+const REPLACED: Retag = Retag {
+    remove: 2,
+    outer: Some(AddedTag {
+        priority: PrioritySource::Outer,
+        vid: VidSource::Outer,
+        tpid: TpidSource::Output,
+        eligible: EligibleSource::Outer,
+    }),
+    inner: Some(AddedTag {
+        priority: PrioritySource::Dscp,
+        vid: VidSource::Inner,
+        tpid: TpidSource::Output,
+        eligible: EligibleSource::Set,
+    }),
+};
+
+/// Looks at the parts of an entry that copies and replaces tags.
+fn look_at_copied(rt: &impl Abort, rule: &Rule) {
+    let filter = Filter::TwoTag {
+        outer: PPPOE_OUTER,
+        inner: PPPOE_INNER,
+    };
+    same!(rt; rule.filter, filter);
+    same!(rt; rule.ethertype, EthertypeFilter::Pppoe);
+    same!(rt; rule.treatment, Treatment::Retag(REPLACED));
 }
 
 #[test]
 fn a_rule_has_the_parts_of_its_entry(rt: HostRuntime) -> Result<(), Fail> {
     let translated = Rule::read(&entry(0xf8000000_80320000, 0x400f0000_00080644))?;
-    let any = TagFilter {
-        priority: PriorityFilter::Any,
-        vid: VidFilter::Any,
-        tpid: TpidFilter::Any,
-    };
-    let vid_100 = TagFilter {
-        vid: VidFilter::Exactly(100),
-        ..any
-    };
-    same!(rt; translated.filter, Filter::OneTag(vid_100));
-    same!(rt; translated.ethertype, EthertypeFilter::Any);
-    same!(rt; translated.rank, Rank::Ordinary);
-    let vid_200 = AddedTag {
-        priority: PrioritySource::Inner,
-        vid: VidSource::Fixed(200),
-        tpid: TpidSource::Standard,
-        eligible: EligibleSource::Clear,
-    };
-    let swapped = Retag {
-        remove: 1,
-        outer: None,
-        inner: Some(vid_200),
-    };
-    same!(rt; translated.treatment, Treatment::Retag(swapped));
-
+    look_at_translated(&rt, &translated);
     let copied = Rule::read(&entry(0x5003e000_88007002, 0x8009800b_000a8007))?;
-    let outer = TagFilter {
-        priority: PriorityFilter::Exactly(5),
-        vid: VidFilter::Exactly(7),
-        tpid: TpidFilter::InputNotEligible,
-    };
-    let inner = TagFilter {
-        tpid: TpidFilter::InputEligible,
-        ..any
-    };
-    same!(rt; copied.filter, Filter::TwoTag { outer, inner });
-    same!(rt; copied.ethertype, EthertypeFilter::Pppoe);
-    let from_outer = AddedTag {
-        priority: PrioritySource::Outer,
-        vid: VidSource::Outer,
-        tpid: TpidSource::Output,
-        eligible: EligibleSource::Outer,
-    };
-    let from_dscp = AddedTag {
-        priority: PrioritySource::Dscp,
-        vid: VidSource::Inner,
-        tpid: TpidSource::Output,
-        eligible: EligibleSource::Set,
-    };
-    let replaced = Retag {
-        remove: 2,
-        outer: Some(from_outer),
-        inner: Some(from_dscp),
-    };
-    same!(rt; copied.treatment, Treatment::Retag(replaced));
+    look_at_copied(&rt, &copied);
+    Ok(())
+}
+
+const RANKS: [(&str, u64, Rank, u8); 10] = [
+    ("no tag", 0xf8000000_f8000000, Rank::Ordinary, 0),
+    ("one tag", 0xf8000000_88000000, Rank::Ordinary, 0),
+    ("two tags", 0x88000000_88000000, Rank::Ordinary, 0),
+    ("one tag, default", 0xf8000000_e8000000, Rank::Default, 1),
+    ("two tags, default", 0xe8000000_e8000000, Rank::Default, 1),
+    (
+        "no tag, predefined",
+        0xf0000000_f0000000,
+        Rank::Predefined,
+        2,
+    ),
+    (
+        "one tag, predefined",
+        0xf0000000_e0000000,
+        Rank::Predefined,
+        2,
+    ),
+    (
+        "two tags, predefined",
+        0xe0000000_e0000000,
+        Rank::Predefined,
+        2,
+    ),
+    (
+        "one bit beside a predefined key",
+        0xf0000000_f0000001,
+        Rank::Ordinary,
+        0,
+    ),
+    (
+        "one bit beside another",
+        0xf0000000_e0000001,
+        Rank::Default,
+        1,
+    ),
+];
+
+/// Looks at the rank of an entry that drops frames.
+fn look_at_rank(
+    rt: &impl Abort,
+    what: &str,
+    key: u64,
+    rank: Rank,
+    number: u8,
+) -> Result<(), RuleFault> {
+    let rule = Rule::read(&entry(key, DROPPED))?;
+    same!(rt; rule.rank, rank, "{what}");
+    same!(rt; rank.number(), number, "{what}");
+    same!(rt; rule.treatment, Treatment::Discard, "{what}");
     Ok(())
 }
 
 #[test]
 fn the_rank_is_that_of_the_key_and_the_kind(rt: HostRuntime) -> Result<(), Fail> {
-    let rows = [
-        ("no tag", 0xf8000000_f8000000, Rank::Ordinary, 0),
-        ("one tag", 0xf8000000_88000000, Rank::Ordinary, 0),
-        ("two tags", 0x88000000_88000000, Rank::Ordinary, 0),
-        ("one tag, default", 0xf8000000_e8000000, Rank::Default, 1),
-        ("two tags, default", 0xe8000000_e8000000, Rank::Default, 1),
-        (
-            "no tag, predefined",
-            0xf0000000_f0000000,
-            Rank::Predefined,
-            2,
-        ),
-        (
-            "one tag, predefined",
-            0xf0000000_e0000000,
-            Rank::Predefined,
-            2,
-        ),
-        (
-            "two tags, predefined",
-            0xe0000000_e0000000,
-            Rank::Predefined,
-            2,
-        ),
-        (
-            "one bit beside a predefined key",
-            0xf0000000_f0000001,
-            Rank::Ordinary,
-            0,
-        ),
-        (
-            "one bit beside another",
-            0xf0000000_e0000001,
-            Rank::Default,
-            1,
-        ),
-    ];
-    for (what, key, rank, number) in rows {
-        let rule = Rule::read(&entry(key, DROPPED))?;
-        same!(rt; rule.rank, rank, "{what}");
-        same!(rt; rank.number(), number, "{what}");
-        same!(rt; rule.treatment, Treatment::Discard, "{what}");
+    for (what, key, rank, number) in &RANKS {
+        look_at_rank(&rt, what, *key, *rank, *number)?;
     }
     Ok(())
 }
@@ -336,17 +378,19 @@ fn look_by_rank(rt: &impl Abort, alloc: Global, table: &mut RuleTable) -> Result
     look_behind_a_deletion(rt, alloc, table)
 }
 
+/// Which entry is used for a frame with these tags.
+const BY_TAGS: [(&str, &[u32], Option<usize>); 4] = [
+    ("VID 100", &[0x8100a064], Some(4)),
+    ("VID 101", &[0x8100a065], Some(3)),
+    ("no tag", &[], Some(0)),
+    ("two tags", &DOUBLE, Some(2)),
+];
+
 /// Looks for frames in that table.
 fn look_by_tags(rt: &impl Abort, alloc: Global, table: &RuleTable) -> Result<(), Fail> {
-    let rows = [
-        ("VID 100", &[0x8100a064][..], Some(4)),
-        ("VID 101", &[0x8100a065][..], Some(3)),
-        ("no tag", &[][..], Some(0)),
-        ("two tags", &DOUBLE[..], Some(2)),
-    ];
-    for (what, tags, place) in rows {
+    for (what, tags, place) in &BY_TAGS {
         let found = used(table, alloc, 0x8100, tags, 0x0800)?;
-        same!(rt; found, place, "{what}");
+        same!(rt; found, *place, "{what}");
     }
     Ok(())
 }
@@ -371,38 +415,69 @@ fn the_first_entry_of_least_rank_is_used(rt: HostRuntime) -> Result<(), Fail> {
     look_by_rank(&rt, rt.alloc(), &mut table)
 }
 
-/// Sets, rewrites and deletes two keys, and looks which entry is used then.
-fn look_at_order(rt: &impl Abort, alloc: Global, table: &mut RuleTable) -> Result<(), Fail> {
-    let (a, b) = (0xf8000000_f8000000, 0xf8000000_f8000001);
-    let first = entry(a, 0x000f0000_00000324);
-    let second = entry(b, 0x000f0000_00000644);
-    let second_again = entry(b, 0x000f0000_00000964);
-    let first_again = entry(a, 0x000f0000_0000032c);
-    let rows = [
-        ("A is set", first, Put::Added, first),
-        ("B is set", second, Put::Added, first),
-        ("B is rewritten", second_again, Put::Replaced, first),
-        ("A is rewritten", first_again, Put::Replaced, first_again),
-        (
-            "A is deleted",
-            entry(a, DELETION),
-            Put::Deleted,
-            second_again,
-        ),
-        ("A is set again", first, Put::Added, second_again),
-    ];
-    for (what, put, told, used_entry) in rows {
-        same!(rt; table.check(&put), Ok(told), "{what}");
-        same!(rt; table.put(put), Ok(told), "{what}");
-        let place = used(table, alloc, 0x8100, &[], 0x0800)?;
-        same!(rt; place, Some(3), "{what}");
-        same!(rt; table.entry(3), Some(used_entry), "{what}");
-    }
+/// Two keys, and what is put under them.
+const A: u64 = 0xf8000000_f8000000;
+
+const B: u64 = 0xf8000000_f8000001;
+
+const FIRST: (u64, u64) = (A, 0x000f0000_00000324);
+
+const SECOND: (u64, u64) = (B, 0x000f0000_00000644);
+
+const SECOND_AGAIN: (u64, u64) = (B, 0x000f0000_00000964);
+
+const FIRST_AGAIN: (u64, u64) = (A, 0x000f0000_0000032c);
+
+/// What is put, one after another, what is told, and which entry is used then.
+type Turn = (&'static str, (u64, u64), Put, (u64, u64));
+
+const TURNS: [Turn; 6] = [
+    ("A is set", FIRST, Put::Added, FIRST),
+    ("B is set", SECOND, Put::Added, FIRST),
+    ("B is rewritten", SECOND_AGAIN, Put::Replaced, FIRST),
+    ("A is rewritten", FIRST_AGAIN, Put::Replaced, FIRST_AGAIN),
+    ("A is deleted", (A, DELETION), Put::Deleted, SECOND_AGAIN),
+    ("A is set again", FIRST, Put::Added, SECOND_AGAIN),
+];
+
+/// Puts the entry of a turn, and looks what is told.
+fn put_in_turn(rt: &impl Abort, table: &mut RuleTable, turn: &Turn) {
+    let (what, (key, rest), told, _) = turn;
+    let put = entry(*key, *rest);
+    same!(rt; table.check(&put), Ok(*told), "{what}");
+    same!(rt; table.put(put), Ok(*told), "{what}");
+}
+
+/// Looks which entry is used after a turn.
+fn look_behind_a_turn(
+    rt: &impl Abort,
+    alloc: Global,
+    table: &RuleTable,
+    turn: &Turn,
+) -> Result<(), Fail> {
+    let (what, _, _, (key, rest)) = turn;
+    let place = used(table, alloc, 0x8100, &[], 0x0800)?;
+    same!(rt; place, Some(3), "{what}");
+    same!(rt; table.entry(3), Some(entry(*key, *rest)), "{what}");
+    Ok(())
+}
+
+/// Looks at the table after all turns.
+fn look_at_the_end(rt: &impl Abort, table: &RuleTable) {
     same!(rt; table.len(), 5);
-    same!(rt; table.entry(4), Some(first));
+    same!(rt; table.entry(4), Some(entry(A, 0x000f0000_00000324)));
     same!(rt; table.entry(5), None);
     same!(rt; table.rule(4).map(|rule| rule.filter), Some(Filter::NoTag));
     holds!(rt; table.rule(5).is_none());
+}
+
+/// Sets, rewrites and deletes two keys, and looks which entry is used then.
+fn look_at_order(rt: &impl Abort, alloc: Global, table: &mut RuleTable) -> Result<(), Fail> {
+    for turn in &TURNS {
+        put_in_turn(rt, table, turn);
+        look_behind_a_turn(rt, alloc, table, turn)?;
+    }
+    look_at_the_end(rt, table);
     Ok(())
 }
 
@@ -418,6 +493,13 @@ fn look_at_full(rt: &impl Abort, table: &mut RuleTable) {
         let put = table.put(entry(0xf8000000_80000000 + vid * 32768, UNCHANGED));
         same!(rt; put, Ok(Put::Added), "VID {vid}");
     }
+    look_at_one_more(rt, table);
+    look_at_a_held_key(rt, table);
+    look_at_a_reset(rt, table);
+}
+
+/// Puts one entry more in a full table.
+fn look_at_one_more(rt: &impl Abort, table: &mut RuleTable) {
     same!(rt; table.len(), 128);
     same!(rt; TABLE_MAX_SIZE, 128);
     let one_more = entry(0xf8000000_803f0000, UNCHANGED);
@@ -425,10 +507,18 @@ fn look_at_full(rt: &impl Abort, table: &mut RuleTable) {
     same!(rt; table.put(one_more), Err(TableFault::Full));
     same!(rt; table.len(), 128);
     same!(rt; table.entry(128), None);
+}
+
+/// Puts an entry of a held key in a full table.
+fn look_at_a_held_key(rt: &impl Abort, table: &mut RuleTable) {
     let held = entry(0xf8000000_803e8000, DROPPED);
     same!(rt; table.put(held), Ok(Put::Replaced));
     same!(rt; table.entry(127), Some(held));
     same!(rt; table.len(), 128);
+}
+
+/// Resets a table, and looks at its predefined entries.
+fn look_at_a_reset(rt: &impl Abort, table: &mut RuleTable) {
     table.reset();
     same!(rt; table.len(), 3);
     same!(rt; table.entry(0), Some(entry(0xf0000000_f0000000, UNCHANGED)));
@@ -443,23 +533,29 @@ fn a_full_table_takes_only_the_keys_that_it_holds(rt: HostRuntime) -> Result<(),
     Ok(())
 }
 
+const REFUSED: [(u64, u64, RuleFault); 3] = [
+    (
+        0xf8000000_f8000000,
+        0x000f0000_00007ffc,
+        RuleFault::TreatVid,
+    ),
+    (0xf8000000_98000000, UNCHANGED, RuleFault::Priority),
+    (0x38000000_e8000000, UNCHANGED, RuleFault::Mixed),
+];
+
+/// Puts an entry that is refused, and its deletion.
+fn put_refused(rt: &impl Abort, table: &mut RuleTable, key: u64, rest: u64, fault: RuleFault) {
+    let refused = table.put(entry(key, rest));
+    same!(rt; refused, Err(TableFault::Bad(fault)));
+    same!(rt; table.len(), 3);
+    let deleted = table.put(entry(key, DELETION));
+    same!(rt; deleted, Ok(Put::Absent), "a deletion isn't checked");
+}
+
 /// Puts entries that are refused.
 fn look_at_refused(rt: &impl Abort, table: &mut RuleTable) {
-    let rows = [
-        (
-            0xf8000000_f8000000,
-            0x000f0000_00007ffc,
-            RuleFault::TreatVid,
-        ),
-        (0xf8000000_98000000, UNCHANGED, RuleFault::Priority),
-        (0x38000000_e8000000, UNCHANGED, RuleFault::Mixed),
-    ];
-    for (key, rest, fault) in rows {
-        let refused = table.put(entry(key, rest));
-        same!(rt; refused, Err(TableFault::Bad(fault)));
-        same!(rt; table.len(), 3);
-        let deleted = table.put(entry(key, DELETION));
-        same!(rt; deleted, Ok(Put::Absent), "a deletion isn't checked");
+    for (key, rest, fault) in &REFUSED {
+        put_refused(rt, table, *key, *rest, *fault);
     }
 }
 
@@ -470,46 +566,59 @@ fn a_refused_entry_leaves_the_table(rt: HostRuntime) -> Result<(), Fail> {
     Ok(())
 }
 
+const KINDS: [u64; 5] = [
+    0xf8000000_f8000004,
+    0xf8000000_80320000,
+    0xf8000000_e8000003,
+    0x80320000_80640000,
+    0xe8000000_e8000004,
+];
+
+/// Which entry is used for a frame with these tags and the type behind them.
+const BY_KIND: [(&str, &[u32], u16, usize); 11] = [
+    ("no tag", &[], 0x0800, 0),
+    ("no tag, IPv6", &[], 0x86dd, 3),
+    ("VID 100", &[0x81000064], 0x0800, 4),
+    ("VID 100, ARP", &[0x81000064], 0x0806, 4),
+    ("VID 101", &[0x81000065], 0x0800, 1),
+    ("VID 101, ARP", &[0x81000065], 0x0806, 5),
+    ("VIDs 100 and 200", &[0x88a80064, 0x810000c8], 0x0800, 6),
+    ("VIDs 200 and 100", &[0x88a800c8, 0x81000064], 0x0800, 2),
+    ("VIDs 100 and 201", &[0x88a80064, 0x810000c9], 0x0800, 2),
+    (
+        "VIDs 101 and 200, IPv6",
+        &[0x88a80065, 0x810000c8],
+        0x86dd,
+        7,
+    ),
+    (
+        "a third tag",
+        &[0x88a80064, 0x810000c8, 0x81000001],
+        0x0800,
+        6,
+    ),
+];
+
 /// Looks which entry is used for frames with none to three tags.
-fn look_at_kinds(rt: &impl Abort, alloc: Global, table: &mut RuleTable) -> Result<(), Fail> {
-    let keys = [
-        0xf8000000_f8000004,
-        0xf8000000_80320000,
-        0xf8000000_e8000003,
-        0x80320000_80640000,
-        0xe8000000_e8000004,
-    ];
-    for key in keys {
-        same!(rt; table.put(entry(key, UNCHANGED)), Ok(Put::Added));
-    }
-    let rows = [
-        ("no tag", &[][..], 0x0800, 0),
-        ("no tag, IPv6", &[][..], 0x86dd, 3),
-        ("VID 100", &[0x81000064][..], 0x0800, 4),
-        ("VID 100, ARP", &[0x81000064][..], 0x0806, 4),
-        ("VID 101", &[0x81000065][..], 0x0800, 1),
-        ("VID 101, ARP", &[0x81000065][..], 0x0806, 5),
-        ("VIDs 100 and 200", &[0x88a80064, 0x810000c8][..], 0x0800, 6),
-        ("VIDs 200 and 100", &[0x88a800c8, 0x81000064][..], 0x0800, 2),
-        ("VIDs 100 and 201", &[0x88a80064, 0x810000c9][..], 0x0800, 2),
-        (
-            "VIDs 101 and 200, IPv6",
-            &[0x88a80065, 0x810000c8][..],
-            0x86dd,
-            7,
-        ),
-        (
-            "a third tag",
-            &[0x88a80064, 0x810000c8, 0x81000001][..],
-            0x0800,
-            6,
-        ),
-    ];
-    for (what, tags, ethertype, place) in rows {
-        let found = used(table, alloc, 0x8100, tags, ethertype)?;
-        same!(rt; found, Some(place), "{what}");
+fn look_by_kind(rt: &impl Abort, alloc: Global, table: &RuleTable) -> Result<(), Fail> {
+    for (what, tags, ethertype, place) in &BY_KIND {
+        let found = used(table, alloc, 0x8100, tags, *ethertype)?;
+        same!(rt; found, Some(*place), "{what}");
     }
     Ok(())
+}
+
+/// Puts an entry of each kind.
+fn put_kinds(rt: &impl Abort, table: &mut RuleTable) {
+    for key in &KINDS {
+        same!(rt; table.put(entry(*key, UNCHANGED)), Ok(Put::Added));
+    }
+}
+
+/// Looks at a table with an entry of each kind.
+fn look_at_kinds(rt: &impl Abort, alloc: Global, table: &mut RuleTable) -> Result<(), Fail> {
+    put_kinds(rt, table);
+    look_by_kind(rt, alloc, table)
 }
 
 #[test]
@@ -548,71 +657,93 @@ fn is_used(
     is_last_used(&table, alloc, input_tpid, tags, ethertype)
 }
 
+/// A tag's filter, a tag, and whether it matches where the input TPID is 0x9100.
+const TAG_FILTERS: [(&str, u64, u32, bool); 15] = [
+    ("priority 5", 0x58000000, 0x8100a064, true),
+    ("another than priority 5", 0x58000000, 0x8100c064, false),
+    ("VID 4095", 0x87ff8000, 0x81000fff, true),
+    ("another than VID 4095", 0x87ff8000, 0x81000064, false),
+    ("any TPID", 0x88000000, 0x91001064, true),
+    ("TPID 0x8100", 0x88004000, 0x81000064, true),
+    ("another than TPID 0x8100", 0x88004000, 0x91000064, false),
+    ("the input TPID", 0x88005000, 0x91000064, true),
+    ("another than the input TPID", 0x88005000, 0x81000064, false),
+    ("the input TPID with DE 0", 0x88006000, 0x91000064, true),
+    (
+        "the input TPID with DE 1, not 0",
+        0x88006000,
+        0x91001064,
+        false,
+    ),
+    ("another TPID with DE 0", 0x88006000, 0x81000064, false),
+    ("the input TPID with DE 1", 0x88007000, 0x91001064, true),
+    (
+        "the input TPID with DE 0, not 1",
+        0x88007000,
+        0x91000064,
+        false,
+    ),
+    ("another TPID with DE 1", 0x88007000, 0x81001064, false),
+];
+
+/// Looks whether a filter matches a tag that stands alone, outside another and inside another.
+fn look_at_tag_filter(
+    rt: &impl Abort,
+    alloc: Global,
+    row: &(&str, u64, u32, bool),
+) -> Result<(), Fail> {
+    let (what, filter, tag, want) = row;
+    let one = 0xf8000000_00000000 | *filter;
+    let alone = is_used(alloc, one, 0x9100, &[*tag], 0x0800)?;
+    same!(rt; alone, *want, "{what}");
+    let outer = 0x88000000 | *filter << 32;
+    let first = is_used(alloc, outer, 0x9100, &[*tag, 0x88a80001], 0x0800)?;
+    same!(rt; first, *want, "{what}, of the outer tag");
+    let inner = 0x88000000_00000000 | *filter;
+    let last = is_used(alloc, inner, 0x9100, &[0x88a80001, *tag], 0x0800)?;
+    same!(rt; last, *want, "{what}, of the inner tag");
+    Ok(())
+}
+
 #[test]
 fn a_tag_filter_asks_for_priority_vid_tpid_and_de(rt: HostRuntime) -> Result<(), Fail> {
-    let rows = [
-        ("priority 5", 0x58000000, 0x8100a064, true),
-        ("another than priority 5", 0x58000000, 0x8100c064, false),
-        ("VID 4095", 0x87ff8000, 0x81000fff, true),
-        ("another than VID 4095", 0x87ff8000, 0x81000064, false),
-        ("any TPID", 0x88000000, 0x91001064, true),
-        ("TPID 0x8100", 0x88004000, 0x81000064, true),
-        ("another than TPID 0x8100", 0x88004000, 0x91000064, false),
-        ("the input TPID", 0x88005000, 0x91000064, true),
-        ("another than the input TPID", 0x88005000, 0x81000064, false),
-        ("the input TPID with DE 0", 0x88006000, 0x91000064, true),
-        (
-            "the input TPID with DE 1, not 0",
-            0x88006000,
-            0x91001064,
-            false,
-        ),
-        ("another TPID with DE 0", 0x88006000, 0x81000064, false),
-        ("the input TPID with DE 1", 0x88007000, 0x91001064, true),
-        (
-            "the input TPID with DE 0, not 1",
-            0x88007000,
-            0x91000064,
-            false,
-        ),
-        ("another TPID with DE 1", 0x88007000, 0x81001064, false),
-    ];
-    for (what, filter, tag, want) in rows {
-        let one = is_used(
-            rt.alloc(),
-            0xf8000000_00000000 | filter,
-            0x9100,
-            &[tag],
-            0x0800,
-        )?;
-        same!(rt; one, want, "{what}");
-        let outer = 0x88000000 | filter << 32;
-        let first = is_used(rt.alloc(), outer, 0x9100, &[tag, 0x88a80001], 0x0800)?;
-        same!(rt; first, want, "{what}, of the outer tag");
-        let inner = 0x88000000_00000000 | filter;
-        let last = is_used(rt.alloc(), inner, 0x9100, &[0x88a80001, tag], 0x0800)?;
-        same!(rt; last, want, "{what}, of the inner tag");
+    for row in &TAG_FILTERS {
+        look_at_tag_filter(&rt, rt.alloc(), row)?;
+    }
+    Ok(())
+}
+
+const TYPES: [u16; 7] = [0x0800, 0x8863, 0x8864, 0x0806, 0x86dd, 0x888e, 0x1234];
+
+/// A filter's code, and which of these types it matches.
+const ETHERTYPE_FILTERS: [(u64, [bool; 7]); 6] = [
+    (0, [true, true, true, true, true, true, true]),
+    (1, [true, false, false, false, false, false, false]),
+    (2, [false, true, true, false, false, false, false]),
+    (3, [false, false, false, true, false, false, false]),
+    (4, [false, false, false, false, true, false, false]),
+    (5, [false, false, false, false, false, true, false]),
+];
+
+/// Looks which types a filter matches.
+fn look_at_ethertype_filter(
+    rt: &impl Abort,
+    alloc: Global,
+    code: u64,
+    wants: &[bool; 7],
+) -> Result<(), Fail> {
+    let key = 0xf8000000_88000000 | code;
+    for (ethertype, want) in TYPES.iter().zip(wants) {
+        let found = is_used(alloc, key, 0x8100, &[0x81000064], *ethertype)?;
+        same!(rt; found, *want, "code {code}, type {ethertype:x}");
     }
     Ok(())
 }
 
 #[test]
 fn an_ethertype_filter_asks_for_the_type_behind_the_tags(rt: HostRuntime) -> Result<(), Fail> {
-    let types = [0x0800, 0x8863, 0x8864, 0x0806, 0x86dd, 0x888e, 0x1234];
-    let rows = [
-        (0, [true, true, true, true, true, true, true]),
-        (1, [true, false, false, false, false, false, false]),
-        (2, [false, true, true, false, false, false, false]),
-        (3, [false, false, false, true, false, false, false]),
-        (4, [false, false, false, false, true, false, false]),
-        (5, [false, false, false, false, false, true, false]),
-    ];
-    for (code, wants) in rows {
-        for (ethertype, want) in types.iter().zip(wants.iter()) {
-            let key = 0xf8000000_88000000 | code;
-            let found = is_used(rt.alloc(), key, 0x8100, &[0x81000064], *ethertype)?;
-            same!(rt; found, *want, "code {code}, type {ethertype:x}");
-        }
+    for (code, wants) in &ETHERTYPE_FILTERS {
+        look_at_ethertype_filter(&rt, rt.alloc(), *code, wants)?;
     }
     law_of_choice();
     Ok(())
