@@ -77,16 +77,15 @@ fn turn(
     compare_frames(rt, alloc, live, &frames)
 }
 
-fn compare_all(rt: &impl Abort, alloc: Global, live: &mut Live) -> Result<(), AllocError> {
+fn compare_all(rt: &impl Abort, alloc: Global, live: &mut Live) {
     let mut draws = Draws::new();
     for message in 0..MESSAGES {
-        turn(rt, alloc, live, &mut draws, message)?;
+        turn(rt, alloc, live, &mut draws, message).expect(rt, "room for frames");
     }
-    Ok(())
 }
 
 #[test]
-fn the_last_step_is_the_verdict_of_the_plan(rt: HostRuntime) -> Result<(), AllocError> {
-    let mut live = Live::new(rt.alloc())?;
-    compare_all(&rt, rt.alloc(), &mut live)
+fn the_last_step_is_the_verdict_of_the_plan(rt: HostRuntime) {
+    let mut live = Live::new(rt.alloc()).expect(&rt, "room for a plan");
+    compare_all(&rt, rt.alloc(), &mut live);
 }

@@ -5,7 +5,6 @@ use forward_plan::{Live, Reason, Verdict, plain_walk};
 use omci_msg::read;
 use std::alloc::{AllocError, Global};
 use std::process::Abort;
-use std::test::Fail;
 use tag_view::Tag;
 
 /// How many messages come.
@@ -66,12 +65,16 @@ fn agree(rt: &impl Abort, alloc: Global, live: &mut Live) -> Result<usize, Alloc
     Ok(leaving)
 }
 
-#[test]
-fn verdicts_are_those_of_the_plain_walk_whatever_the_bytes(rt: HostRuntime) -> Result<(), Fail> {
-    let mut live = Live::new(rt.alloc())?;
-    let leaving = agree(&rt, rt.alloc(), &mut live)?;
+/// Checks that many frames leave, and as the plain walk has it.
+fn agree_often(rt: &impl Abort, alloc: Global, live: &mut Live) {
+    let leaving = agree(rt, alloc, live).expect(rt, "room for frames");
     holds!(rt; leaving > 1_000, "{leaving}");
-    Ok(())
+}
+
+#[test]
+fn verdicts_are_those_of_the_plain_walk_whatever_the_bytes(rt: HostRuntime) {
+    let mut live = Live::new(rt.alloc()).expect(&rt, "room for a plan");
+    agree_often(&rt, rt.alloc(), &mut live);
 }
 
 /// Whether a frame of so many bytes leaves or is dropped as it must.
@@ -97,14 +100,18 @@ fn is_as_cut(live: &Live, len: usize) -> bool {
     }
 }
 
-#[test]
-fn a_frame_cut_short_is_dropped_for_its_length(rt: HostRuntime) -> Result<(), Fail> {
-    let mut live = Live::new(rt.alloc())?;
+/// Makes a port, and cuts a frame that comes in there behind each of its bytes.
+fn cut(rt: &impl Abort, live: &mut Live) {
     for digits in &PORT_257[..4] {
-        apply(&mut live, &message(digits));
+        apply(live, &message(digits));
     }
     for len in 0..=24 {
-        holds!(rt; is_as_cut(&live, len), "{len} bytes");
+        holds!(rt; is_as_cut(live, len), "{len} bytes");
     }
-    Ok(())
+}
+
+#[test]
+fn a_frame_cut_short_is_dropped_for_its_length(rt: HostRuntime) {
+    let mut live = Live::new(rt.alloc()).expect(&rt, "room for a plan");
+    cut(&rt, &mut live);
 }
