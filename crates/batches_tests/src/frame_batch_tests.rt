@@ -6,12 +6,11 @@ use frame_batch::{
     law_of_arrival, run_batch,
 };
 use frame_stats::{Counts, count_of};
-use plan_publish::{Control, Held, Lane, OpenFault, open};
+use plan_publish::{Control, Held, Lane, open};
 use std::alloc::Global;
 use std::process::Abort;
 use std::sync::Wait;
 use std::sync::atomic::{AtomicU64, Ordering};
-use std::test::Fail;
 use std::thread::{Threads, join, yield_now};
 
 /// A frame that is cut in its tag.
@@ -104,44 +103,49 @@ fn report_of(alloc: Global, held: &Held<'_>, batch: u32) -> Result<Report<'stati
 /// What gathering gives: how many there are, and whether each is in its place and the counts are those of the frames.
 type Outcome = Result<(usize, bool), GatherFault>;
 
-/// What gathering the reports of batches of these numbers gives.
-fn gathered(alloc: Global, held: &Held<'_>, batches: &[u32], count: u32) -> Option<Outcome> {
+/// The reports of batches of these numbers.
+fn reports_of(
+    rt: &impl Abort,
+    alloc: Global,
+    held: &Held<'_>,
+    batches: &[u32],
+) -> Vec<Report<'static>> {
     let mut reports = Vec::new(alloc);
     for batch in batches {
-        let Ok(report) = report_of(alloc, held, *batch) else {
-            return None;
-        };
-        let Ok(()) = reports.push(report) else {
-            return None;
-        };
+        let report = report_of(alloc, held, *batch).expect(rt, "a report");
+        reports.push(report).ok().expect(rt, "memory");
     }
-    match gather(alloc, reports, count) {
-        Ok(all) => {
-            let whole = in_places(&all.reports) && counted(all.reports.len(), &all.counts);
-            Some(Ok((all.reports.len(), whole)))
-        }
-        Err(fault) => Some(Err(fault)),
-    }
+    reports
 }
 
-/// What gathering their tallies gives.
-fn tallied(alloc: Global, held: &Held<'_>, batches: &[u32], count: u32) -> Option<Outcome> {
+/// Their tallies.
+fn tallies_of(rt: &impl Abort, alloc: Global, held: &Held<'_>, batches: &[u32]) -> Vec<Tally> {
     let mut tallies = Vec::new(alloc);
     for batch in batches {
-        let Ok(report) = report_of(alloc, held, *batch) else {
-            return None;
-        };
-        let Ok(()) = tallies.push(report.tally()) else {
-            return None;
-        };
+        let report = report_of(alloc, held, *batch).expect(rt, "a report");
+        tallies.push(report.tally()).ok().expect(rt, "memory");
     }
-    match gather_tallies(alloc, tallies, count) {
-        Ok(all) => {
-            let whole = tallies_in_places(&all.tallies) && counted(all.tallies.len(), &all.counts);
-            Some(Ok((all.tallies.len(), whole)))
-        }
-        Err(fault) => Some(Err(fault)),
-    }
+    tallies
+}
+
+/// What gathering reports gives.
+fn gathered(alloc: Global, reports: Vec<Report<'_>>, count: u32) -> Outcome {
+    let all = gather(alloc, reports, count)?;
+    let number = all.reports.len();
+    Ok((
+        number,
+        in_places(&all.reports) && counted(number, &all.counts),
+    ))
+}
+
+/// What gathering tallies gives.
+fn tallied(alloc: Global, tallies: Vec<Tally>, count: u32) -> Outcome {
+    let all = gather_tallies(alloc, tallies, count)?;
+    let number = all.tallies.len();
+    Ok((
+        number,
+        tallies_in_places(&all.tallies) && counted(number, &all.counts),
+    ))
 }
 
 /// Whether each report is in its place.
@@ -192,14 +196,12 @@ fn counted(batches: usize, counts: &Counts) -> bool {
 }
 
 /// So many times the same frame.
-fn repeated(alloc: Global, frame: &[u8], times: usize) -> Option<Vec<&[u8]>> {
+fn repeated<'f>(rt: &impl Abort, alloc: Global, frame: &'f [u8], times: usize) -> Vec<&'f [u8]> {
     let mut frames = Vec::new(alloc);
     for _ in 0..times {
-        let Ok(()) = frames.push(frame) else {
-            return None;
-        };
+        frames.push(frame).ok().expect(rt, "memory");
     }
-    Some(frames)
+    frames
 }
 
 /// How many verdicts a list of frames gets, and how many of them are of tagged frames.
@@ -213,61 +215,70 @@ fn forwarded<R: Threads + Sync>(
     Ok((verdicts.len(), tagged(&verdicts)))
 }
 
-/// A list with a runt between two frames, and an empty one.
-fn forward_short<R: Wait + Threads + Abort + Sync>(rt: &R, alloc: Global, held: &Held<'_>) {
-    let short = [UNTAGGED.as_slice(), SHORT.as_slice(), UNTAGGED.as_slice()];
-    let as_meant = match &forward_all(rt, alloc, held, 257, &short) {
-        Ok(verdicts) => match verdicts.as_slice() {
-            [first, Verdict::Drop(Reason::Runt), last] => is_tagged(first) && is_tagged(last),
-            _ => false,
-        },
-        Err(_) => false,
-    };
-    holds!(rt; as_meant, "a runt between two frames");
-    same!(rt; forwarded(rt, alloc, held, &[]), Ok((0, 0)));
-}
-
-/// A list of as many frames as a batch may have.
-fn forward_most<R: Wait + Threads + Abort + Sync>(
+/// Stops a test in which so many verdicts, and so many of tagged frames, aren't what a list of frames gets.
+fn must_forward<R: Threads + Abort + Sync>(
     rt: &R,
     alloc: Global,
     held: &Held<'_>,
-    most: &[&[u8]],
+    frames: &[&[u8]],
+    want: Result<(usize, usize), BatchFault>,
 ) {
-    same!(rt; forwarded(rt, alloc, held, most), Ok((65_536, 65_536)));
-    holds!(rt; counts_of_most(rt, alloc, held, most), "counts");
+    same!(rt; forwarded(rt, alloc, held, frames), want);
+}
+
+/// Whether a runt is dropped between two frames that are tagged.
+fn has_runt_between(verdicts: &[Verdict<'_>]) -> bool {
+    match verdicts {
+        [first, Verdict::Drop(Reason::Runt), last] => is_tagged(first) && is_tagged(last),
+        _ => false,
+    }
+}
+
+/// A list with a runt between two frames, and an empty one.
+fn forward_short<R: Wait + Threads + Abort + Sync>(rt: &R, alloc: Global, held: &Held<'_>) {
+    let short = [UNTAGGED.as_slice(), SHORT.as_slice(), UNTAGGED.as_slice()];
+    let verdicts = forward_all(rt, alloc, held, 257, &short).expect(rt, "verdicts");
+    holds!(rt; has_runt_between(&verdicts), "a runt between two frames");
+    must_forward(rt, alloc, held, &[], Ok((0, 0)));
+}
+
+/// A list of as many frames as a batch may have.
+fn forward_most<R: Wait + Threads + Abort + Sync>(rt: &R, alloc: Global, held: &Held<'_>) {
+    let most = repeated(rt, alloc, &UNTAGGED, 65_536);
+    must_forward(rt, alloc, held, &most, Ok((65_536, 65_536)));
+    holds!(rt; counts_of_most(rt, alloc, held, &most), "counts");
+}
+
+/// A list of one frame more.
+fn forward_more<R: Wait + Threads + Abort + Sync>(rt: &R, alloc: Global, held: &Held<'_>) {
+    let more = repeated(rt, alloc, &UNTAGGED, 65_537);
+    must_forward(rt, alloc, held, &more, Err(BatchFault::TooMany(65_537)));
 }
 
 /// Lists of frames, short ones, and the longest that there may be.
 fn forward_lists<R: Wait + Threads + Abort + Sync>(rt: &R, alloc: Global, held: &Held<'_>) {
     forward_short(rt, alloc, held);
-    if let Some(most) = repeated(alloc, &UNTAGGED, 65_536) {
-        forward_most(rt, alloc, held, &most);
-    }
-    if let Some(more) = repeated(alloc, &UNTAGGED, 65_537) {
-        let refused = Err(BatchFault::TooMany(65_537));
-        same!(rt; forwarded(rt, alloc, held, &more), refused);
-    }
+    forward_most(rt, alloc, held);
+    forward_more(rt, alloc, held);
 }
 
 /// Whether the counts of 65,536 frames are as they have to be.
-fn counts_of_most<R: Threads + Sync>(
+fn counts_of_most<R: Threads + Abort + Sync>(
     rt: &R,
     alloc: Global,
     held: &Held<'_>,
     frames: &[&[u8]],
 ) -> bool {
-    let Ok(verdicts) = forward_all(rt, alloc, held, 257, frames) else {
-        return false;
-    };
-    match count_of(alloc, &verdicts) {
-        Ok(counts) => show(&counts, 65_536, 1_310_720, [0; 9], 65_536),
-        Err(_) => false,
-    }
+    let verdicts = forward_all(rt, alloc, held, 257, frames).expect(rt, "verdicts");
+    let counts = count_of(alloc, &verdicts).expect(rt, "counts");
+    show(&counts, 65_536, 1_310_720, [0; 9], 65_536)
 }
 
+/// A case by its name.
+type Case = (&'static str, &'static [u32], u32, Outcome);
+
 /// The numbers of batches that are gathered, how many there should be, and what comes of it: how many, and whether in order.
-const CASES: [(&str, &[u32], u32, Outcome); 16] = [
+const CASES: [Case; 16] = [
     ("both", &[1, 0], 2, Ok((2, true))),
     ("one twice", &[0, 0], 2, Err(GatherFault::Double(0))),
     ("one too high", &[0, 2], 2, Err(GatherFault::Stranger(2))),
@@ -301,67 +312,41 @@ const CASES: [(&str, &[u32], u32, Outcome); 16] = [
     ("2, 1, 0", &[2, 1, 0], 3, Ok((3, true))),
 ];
 
+/// Reports of a case, and their tallies, are gathered as they have to be.
+fn gather_case(rt: &impl Abort, alloc: Global, held: &Held<'_>, case: &Case) {
+    let (what, batches, count, expected) = *case;
+    let reports = reports_of(rt, alloc, held, batches);
+    same!(rt; gathered(alloc, reports, count), expected, "{what}");
+    let tallies = tallies_of(rt, alloc, held, batches);
+    same!(rt; tallied(alloc, tallies, count), expected, "{what}, tallies");
+}
+
 /// Reports, and their tallies, in every order, twice, of no batch and missing.
-fn gather_reports<R: Abort>(rt: &R, alloc: Global, held: &Held<'_>) {
-    for (what, batches, count, expected) in &CASES {
-        same!(rt;
-            gathered(alloc, held, batches, *count),
-            Some(*expected),
-            "{what}"
-        );
-        same!(rt;
-            tallied(alloc, held, batches, *count),
-            Some(*expected),
-            "{what}"
-        );
+fn gather_reports(rt: &impl Abort, alloc: Global, held: &Held<'_>) {
+    for case in &CASES {
+        gather_case(rt, alloc, held, case);
     }
 }
 
-/// The reports of batches 1, 0 and 2.
-fn three_reports(alloc: Global, held: &Held<'_>) -> Option<Vec<Report<'static>>> {
-    let mut reports = Vec::new(alloc);
-    for batch in [1, 0, 2] {
-        let Ok(report) = report_of(alloc, held, batch) else {
-            return None;
-        };
-        reports.push(report).ok()?;
-    }
-    Some(reports)
-}
-
-/// Their tallies.
-fn three_tallies(alloc: Global, held: &Held<'_>) -> Option<Vec<Tally>> {
-    let mut tallies = Vec::new(alloc);
-    for batch in [1, 0, 2] {
-        let Ok(report) = report_of(alloc, held, batch) else {
-            return None;
-        };
-        tallies.push(report.tally()).ok()?;
-    }
-    Some(tallies)
-}
-
-/// The counts of what is gathered of reports.
-fn counts_of_reports(alloc: Global, held: &Held<'_>) -> Option<Counts> {
-    let all = gather(alloc, three_reports(alloc, held)?, 3).ok()?;
-    Some(all.counts)
+/// The counts of what is gathered of reports of batches 1, 0 and 2.
+fn counts_of_reports(rt: &impl Abort, alloc: Global, held: &Held<'_>) -> Counts {
+    let reports = reports_of(rt, alloc, held, &[1, 0, 2]);
+    gather(alloc, reports, 3).expect(rt, "all reports").counts
 }
 
 /// The counts of what is gathered of their tallies.
-fn counts_of_tallies(alloc: Global, held: &Held<'_>) -> Option<Counts> {
-    let all = gather_tallies(alloc, three_tallies(alloc, held)?, 3).ok()?;
-    Some(all.counts)
+fn counts_of_tallies(rt: &impl Abort, alloc: Global, held: &Held<'_>) -> Counts {
+    let tallies = tallies_of(rt, alloc, held, &[1, 0, 2]);
+    gather_tallies(alloc, tallies, 3)
+        .expect(rt, "all tallies")
+        .counts
 }
 
-/// Whether the tallies of reports of batches 1, 0 and 2 have the counts that the reports have, all together.
-fn same_counts(alloc: Global, held: &Held<'_>) -> bool {
-    match (
-        counts_of_reports(alloc, held),
-        counts_of_tallies(alloc, held),
-    ) {
-        (Some(whole), Some(short)) => are_same(&whole, &short),
-        _ => false,
-    }
+/// The tallies of reports of batches 1, 0 and 2 have the counts that the reports have, all together.
+fn count_tallies(rt: &impl Abort, alloc: Global, held: &Held<'_>) {
+    let whole = counts_of_reports(rt, alloc, held);
+    let short = counts_of_tallies(rt, alloc, held);
+    holds!(rt; are_same(&whole, &short), "counts of tallies");
 }
 
 /// Whether counts are the same, and of GEM port 1024 alone.
@@ -413,13 +398,11 @@ fn with_held<R: Wait + Threads + Abort + Sync>(
     lane: &mut Lane,
     scene: Scene,
 ) {
-    let Some(held) = lane.enter() else {
-        return;
-    };
+    let held = lane.enter().expect(rt, "the lane may enter");
     match scene {
         Scene::ForwardLists => forward_lists(rt, alloc, &held),
         Scene::GatherReports => gather_reports(rt, alloc, &held),
-        _ => holds!(rt; same_counts(alloc, &held), "counts of tallies"),
+        _ => count_tallies(rt, alloc, &held),
     }
 }
 
@@ -474,52 +457,42 @@ fn publish_5<R: Wait + Threads + Abort + Sync>(rt: &R, control: &mut Control) {
 }
 
 /// Opens a control with two lanes, publishes version 5, and plays a scene.
-fn play<R: Wait + Threads + Abort + Sync>(
-    rt: &R,
-    alloc: Global,
-    scene: Scene,
-) -> Result<(), OpenFault> {
-    let (mut control, mut lanes) = open(rt, alloc, 2)?;
+fn play<R: Wait + Threads + Abort + Sync>(rt: &R, alloc: Global, scene: Scene) {
+    let (mut control, mut lanes) = open(rt, alloc, 2).expect(rt, "a control");
     publish_5(rt, &mut control);
-    if let (Some(one), Some(zero)) = (lanes.pop(), lanes.pop()) {
-        with_lanes(rt, alloc, zero, one, scene);
-    }
+    let one = lanes.pop().expect(rt, "lane 1");
+    let zero = lanes.pop().expect(rt, "lane 0");
+    with_lanes(rt, alloc, zero, one, scene);
     control.close(rt);
-    Ok(())
 }
 
 #[test]
-fn lists_are_forwarded_in_order(rt: HostRuntime) -> Result<(), Fail> {
-    same!(rt; play(&rt, rt.alloc(), Scene::ForwardLists), Ok(()));
-    Ok(())
+fn lists_are_forwarded_in_order(rt: HostRuntime) {
+    play(&rt, rt.alloc(), Scene::ForwardLists);
 }
 
 #[test]
-fn reports_are_gathered_in_every_order(rt: HostRuntime) -> Result<(), Fail> {
-    same!(rt; play(&rt, rt.alloc(), Scene::GatherReports), Ok(()));
-    Ok(())
+fn reports_are_gathered_in_every_order(rt: HostRuntime) {
+    play(&rt, rt.alloc(), Scene::GatherReports);
 }
 
 #[test]
-fn tallies_have_the_counts_of_their_reports(rt: HostRuntime) -> Result<(), Fail> {
-    same!(rt; play(&rt, rt.alloc(), Scene::CountTallies), Ok(()));
-    Ok(())
+fn tallies_have_the_counts_of_their_reports(rt: HostRuntime) {
+    play(&rt, rt.alloc(), Scene::CountTallies);
 }
 
 #[test]
-fn lanes_on_two_threads_meet(rt: HostRuntime) -> Result<(), Fail> {
-    same!(rt; play(&rt, rt.alloc(), Scene::MeetOnThreads), Ok(()));
-    Ok(())
+fn lanes_on_two_threads_meet(rt: HostRuntime) {
+    play(&rt, rt.alloc(), Scene::MeetOnThreads);
 }
 
 #[test]
-fn a_batch_that_the_gate_stops_is_stalled(rt: HostRuntime) -> Result<(), Fail> {
-    same!(rt; play(&rt, rt.alloc(), Scene::MeetInTurn), Ok(()));
-    Ok(())
+fn a_batch_that_the_gate_stops_is_stalled(rt: HostRuntime) {
+    play(&rt, rt.alloc(), Scene::MeetInTurn);
 }
 
 #[test]
-fn faults_have_their_numbers(rt: HostRuntime) -> Result<(), Fail> {
+fn faults_have_their_numbers(rt: HostRuntime) {
     law_of_arrival();
     let of_batches = [
         BatchFault::TooMany(65_537).code(),
@@ -536,5 +509,4 @@ fn faults_have_their_numbers(rt: HostRuntime) -> Result<(), Fail> {
         GatherFault::CountFull.code(),
     ];
     same!(rt; of_gathering, [1, 2, 3, 4, 5]);
-    Ok(())
 }

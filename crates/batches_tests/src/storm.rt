@@ -150,7 +150,7 @@ impl From<OpenFault> for Fault {
     }
 }
 
-/// What a storm has left.
+/// What a storm has left so far.
 #[derive(Drop)]
 pub(crate) struct Ran<'f> {
     /// The accepted requests.
@@ -193,11 +193,13 @@ struct Token<O: Origin> {
     ghost at_home: { Some (told_home told) ≡ O.home },
 }
 
-/// A lane that has worked, with its reports.
+/// A lane that has worked, with its reports so far.
 #[derive(Drop)]
 struct Done<'f, O: Origin> {
     lane: Lane,
-    reports: Result<Vec<Report<'f>>, Fault>,
+    reports: Vec<Report<'f>>,
+    /// Whether each of its batches has a report.
+    worked: Result<(), Fault>,
     of: PhantomData<O>,
     ghost at_home: { Some (home_of lane) ≡ O.home },
 }
@@ -223,13 +225,14 @@ fn run_held<'f>(
     Ok(run_batch(alloc, held, batch, port, frames, 1, &Answers(true))?)
 }
 
-/// A lane's batch, for which it enters.
+/// A lane's batch, for which it enters, is put to its reports.
 fn forward_batch<'f>(
     alloc: Global,
     lane: &mut Lane,
     storm: &Storm<'_, 'f>,
     batch: u32,
-) -> Result<Report<'f>, Fault>
+    reports: &mut Vec<Report<'f>>,
+) -> Result<(), Fault>
     ensures { home_of lane.new ≡ home_of lane.old }
 {
     let Some(held) = lane.enter() else {
@@ -237,7 +240,10 @@ fn forward_batch<'f>(
     };
     let report = run_held(alloc, &held, storm, batch);
     held.leave();
-    report
+    match reports.push(report?) {
+        Ok(()) => Ok(()),
+        Err(_) => Err(Fault::NoMemory),
+    }
 }
 
 /// All batches of a lane but the last.
@@ -245,17 +251,15 @@ fn forward_batches<'f>(
     alloc: Global,
     lane: &mut Lane,
     storm: &Storm<'_, 'f>,
-) -> Result<Vec<Report<'f>>, Fault>
+    reports: &mut Vec<Report<'f>>,
+) -> Result<(), Fault>
     ensures { home_of lane.new ≡ home_of lane.old }
 {
-    let mut reports = Vec::new(alloc);
     for batch in 0..storm.batches {
         storm.keep_pace(batch);
-        let Ok(()) = reports.push(forward_batch(alloc, lane, storm, batch)?) else {
-            return Err(Fault::NoMemory);
-        };
+        forward_batch(alloc, lane, storm, batch, reports)?;
     }
-    Ok(reports)
+    Ok(())
 }
 
 /// What a lane does on its thread.
@@ -268,10 +272,12 @@ fn work<'f, O: Origin>(
     requires { Some (home_of lane) ≡ O.home }
 {
     lane.learn(&first.told);
-    let reports = forward_batches(alloc, &mut lane, storm);
+    let mut reports = Vec::new(alloc);
+    let worked = forward_batches(alloc, &mut lane, storm, &mut reports);
     Done {
         lane,
         reports,
+        worked,
         of: PhantomData,
     }
 }
@@ -323,60 +329,61 @@ fn send<R: Wait>(
     }
 }
 
-/// Sends requests, and gives those that are accepted. Where it is counted how many were sent, each of these is published by itself.
+/// Sends requests, and keeps those that are accepted. Where it is counted how many were sent, each of these is published by itself.
 fn send_all<R: Wait>(
     rt: &R,
-    alloc: Global,
     control: &mut Control,
     requests: &[Request],
     sent: Option<&AtomicU64>,
-) -> Result<Vec<Request>, AllocError>
+    accepted: &mut Vec<Request>,
+)
     ensures { control.new.home ≡ control.old.home }
 {
-    let mut accepted = Vec::with_capacity(alloc, requests.len())?;
     for request in requests {
-        send(rt, control, request, sent, &mut accepted);
+        send(rt, control, request, sent, accepted);
     }
-    Ok(accepted)
 }
 
-/// The reports of a lane, which then learns what was published last and forwards its last batch.
+/// A lane learns what was published last, and forwards its last batch. Its reports are put to those of other lanes.
 fn settle<'f, O: Origin>(
     alloc: Global,
     done: Done<'f, O>,
     last: &Token<O>,
     storm: &Storm<'_, 'f>,
-) -> Result<Vec<Report<'f>>, Fault> {
+    lanes: &mut Vec<Vec<Report<'f>>>,
+) -> Result<(), Fault> {
     let Done {
         mut lane,
-        reports,
+        mut reports,
+        worked,
         of: _,
     } = done;
     lane.learn(&last.told);
-    let mut reports = reports?;
-    match reports.push(forward_batch(alloc, &mut lane, storm, storm.batches)?) {
-        Ok(()) => Ok(reports),
+    let settled = match worked {
+        Ok(()) => forward_batch(alloc, &mut lane, storm, storm.batches, &mut reports),
+        Err(fault) => Err(fault),
+    };
+    match lanes.push(reports) {
+        Ok(()) => settled,
         Err(_) => Err(Fault::NoMemory),
     }
 }
 
-/// The reports of all lanes.
+/// The reports of all lanes, each of which forwards its last batch.
 fn settle_all<'f, O: Origin>(
     alloc: Global,
-    all: Vec<Done<'f, O>>,
+    all: Result<Vec<Done<'f, O>>, AllocError>,
     last: &Token<O>,
     storm: &Storm<'_, 'f>,
-) -> Result<Vec<Vec<Report<'f>>>, Fault> {
-    let mut lanes = Vec::new(alloc);
-    for done in all {
-        let Ok(()) = lanes.push(settle(alloc, done, last, storm)?) else {
-            return Err(Fault::NoMemory);
-        };
+    lanes: &mut Vec<Vec<Report<'f>>>,
+) -> Result<(), Fault> {
+    for done in all? {
+        settle(alloc, done, last, storm, lanes)?;
     }
-    Ok(lanes)
+    Ok(())
 }
 
-/// The lanes work while the control is sent messages.
+/// The lanes work while the control is sent messages, of which the accepted ones are kept.
 fn work_beside<'f, O: Origin + Send + Sync, R: Threads + Wait + Sync>(
     rt: &R,
     alloc: Global,
@@ -384,23 +391,22 @@ fn work_beside<'f, O: Origin + Send + Sync, R: Threads + Wait + Sync>(
     lanes: Vec<Lane>,
     first: &Token<O>,
     storm: &Storm<'_, 'f>,
-) -> (
-    Result<Vec<Done<'f, O>>, AllocError>,
-    Result<Vec<Request>, AllocError>,
-)
+    accepted: &mut Vec<Request>,
+) -> Result<Vec<Done<'f, O>>, AllocError>
     requires { All (λ l. Some (home_of l) ≡ O.home) lanes.items }
     ensures { control.new.home ≡ control.old.home }
 {
     let mut waiting = Some(lanes);
-    join_mut(
+    let (done, ()) = join_mut(
         rt,
         &mut || -> Result<Vec<Done<'_, O>>, AllocError>
             requires { ForSome waiting (λ lanes. All (λ l. Some (home_of l) ≡ O.home) lanes.items) }
         { work_all(rt, alloc, &mut waiting, first, storm) },
-        &mut || -> Result<Vec<Request>, AllocError>
+        &mut || -> ()
             ensures { control.exit.now.home ≡ control.entry.now.home }
-        { send_all(rt, alloc, control, storm.beside, Some(&storm.sent)) },
-    )
+        { send_all(rt, control, storm.beside, Some(&storm.sent), accepted) },
+    );
+    done
 }
 
 /// The storm, of the history that is picked.
@@ -410,41 +416,54 @@ fn run_as<'f, O: Origin + Send + Sync, R: Threads + Wait + Sync>(
     control: &mut Control,
     lanes: Vec<Lane>,
     storm: &Storm<'_, 'f>,
-) -> Result<Ran<'f>, Fault>
+    ran: &mut Ran<'f>,
+) -> Result<(), Fault>
     requires control { Some control.old.home ≡ O.home }
     requires lanes { All (λ l. Some (home_of l) ≡ O.home) lanes.items }
 {
-    let mut accepted = send_all(rt, alloc, control, storm.first, None)?;
+    send_all(rt, control, storm.first, None, &mut ran.accepted);
     let first: Token<O> = Token {
         told: control.publish(rt),
         of: PhantomData,
     };
-    let (done, more) = work_beside(rt, alloc, control, lanes, &first, storm);
+    let done = work_beside(rt, alloc, control, lanes, &first, storm, &mut ran.accepted);
     let last = Token {
         told: control.publish(rt),
         of: PhantomData,
     };
-    let mut more = more?;
-    accepted.append(&mut more)?;
-    let lanes = settle_all(alloc, done?, &last, storm)?;
-    Ok(Ran {
-        accepted,
-        told: last.told.version(),
-        lanes,
-    })
+    ran.told = last.told.version();
+    settle_all(alloc, done, &last, storm, &mut ran.lanes)
 }
 
 /// Opens a control with so many lanes for a storm, and closes it at the end.
+fn run_open<'f, R: Threads + Wait + Sync>(
+    rt: &R,
+    alloc: Global,
+    lanes: u16,
+    storm: &Storm<'_, 'f>,
+    left: &mut Ran<'f>,
+) -> Result<(), Fault> {
+    let (mut control, lanes) = open(rt, alloc, lanes)?;
+    let ran = run_as::<Brand, R>(rt, alloc, &mut control, lanes, storm, left);
+    control.close(rt);
+    ran
+}
+
+/// What a storm with so many lanes leaves.
 pub(crate) fn run<'f, R: Threads + Wait + Sync>(
     rt: &R,
     alloc: Global,
     lanes: u16,
     storm: &Storm<'_, 'f>,
 ) -> Result<Ran<'f>, Fault> {
-    let (mut control, lanes) = open(rt, alloc, lanes)?;
-    let ran = run_as::<Brand, R>(rt, alloc, &mut control, lanes, storm);
-    control.close(rt);
-    ran
+    let room = storm.first.len().saturating_add(storm.beside.len());
+    let mut ran = Ran {
+        accepted: Vec::with_capacity(alloc, room)?,
+        told: 0,
+        lanes: Vec::new(alloc),
+    };
+    run_open(rt, alloc, lanes, storm, &mut ran)?;
+    Ok(ran)
 }
 
 /// What isn't as it has to be after a storm.

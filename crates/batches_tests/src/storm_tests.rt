@@ -1,14 +1,14 @@
 //! Storms, whose outcome is the same whatever the order in which threads run.
-use crate::storm::{Drawn, Fault, Storm, Wrong, check, run};
+use crate::storm::{Drawn, Storm, Wrong, check, run};
 use draws::{Draws, PORTS, UNTAGGED, set};
 use fixtures::same;
 use forward_plan::Verdict;
 use frame_batch::Report;
 use omci_msg::{Request, read};
 use std::alloc::{AllocError, Global};
+use std::process::Abort;
 use std::sync::Wait;
 use std::sync::atomic::AtomicU64;
-use std::test::Fail;
 use std::thread::Threads;
 
 /// How many batches a lane forwards beside the messages.
@@ -110,17 +110,10 @@ fn first_other(lanes: &[Vec<Report<'_>>]) -> Option<(u16, u32, u64)> {
 type Outcome = (usize, u64, Option<(u16, u32, u64)>, Result<(), Wrong>);
 
 /// The storm in which one GEM port is set again and again.
-fn fixed_storm<R: Threads + Wait + Sync>(
-    rt: &R,
-    alloc: Global,
-    lanes: u16,
-) -> Result<Outcome, Fault> {
-    let mut lists = Vec::new(alloc);
-    let Ok(()) = lists.push(untagged(alloc)?) else {
-        return Err(Fault::NoMemory);
-    };
-    let first = set_up(alloc)?;
-    let beside = sets(alloc)?;
+fn fixed_storm<R: Threads + Wait + Abort + Sync>(rt: &R, alloc: Global, lanes: u16) -> Outcome {
+    let lists = [untagged(alloc).expect(rt, "frames")];
+    let first = set_up(alloc).expect(rt, "requests");
+    let beside = sets(alloc).expect(rt, "requests");
     let storm = Storm {
         first: &first,
         beside: &beside,
@@ -129,23 +122,23 @@ fn fixed_storm<R: Threads + Wait + Sync>(
         batches: BATCHES,
         sent: AtomicU64::new(0),
     };
-    let ran = run(rt, alloc, lanes, &storm)?;
-    Ok((
+    let ran = run(rt, alloc, lanes, &storm).expect(rt, "a storm");
+    (
         ran.lanes.len(),
         ran.told,
         first_other(&ran.lanes),
         check(rt, alloc, &storm, &ran),
-    ))
+    )
 }
 
 /// A storm of drawn messages and frames: how many lanes it had, and what is wrong.
-fn drawn_storm<R: Threads + Wait + Sync>(
+fn drawn_storm<R: Threads + Wait + Abort + Sync>(
     rt: &R,
     alloc: Global,
     lanes: u16,
-) -> Result<(usize, Result<(), Wrong>), Fault> {
-    let drawn = Drawn::next(alloc, &mut Draws::new())?;
-    let lists = drawn.frames(alloc)?;
+) -> (usize, Result<(), Wrong>) {
+    let drawn = Drawn::next(alloc, &mut Draws::new()).expect(rt, "what is drawn");
+    let lists = drawn.frames(alloc).expect(rt, "frames");
     let storm = Storm {
         first: &[],
         beside: &drawn.requests,
@@ -154,30 +147,28 @@ fn drawn_storm<R: Threads + Wait + Sync>(
         batches: BATCHES,
         sent: AtomicU64::new(0),
     };
-    let ran = run(rt, alloc, lanes, &storm)?;
-    Ok((ran.lanes.len(), check(rt, alloc, &storm, &ran)))
+    let ran = run(rt, alloc, lanes, &storm).expect(rt, "a storm");
+    (ran.lanes.len(), check(rt, alloc, &storm, &ran))
 }
 
 #[test]
-fn frames_leave_by_the_gem_port_of_their_version(rt: HostRuntime) -> Result<(), Fail> {
+fn frames_leave_by_the_gem_port_of_their_version(rt: HostRuntime) {
     for lanes in [1u16, 4, 16] {
         same!(rt;
             fixed_storm(&rt, rt.alloc(), lanes),
-            Ok((usize::from(lanes), 1_004, None, Ok(()))),
+            (usize::from(lanes), 1_004, None, Ok(())),
             "{lanes} lanes"
         );
     }
-    Ok(())
 }
 
 #[test]
-fn verdicts_are_those_of_the_plain_walk_at_their_version(rt: HostRuntime) -> Result<(), Fail> {
+fn verdicts_are_those_of_the_plain_walk_at_their_version(rt: HostRuntime) {
     for lanes in [1u16, 4, 16] {
         same!(rt;
             drawn_storm(&rt, rt.alloc(), lanes),
-            Ok((usize::from(lanes), Ok(()))),
+            (usize::from(lanes), Ok(())),
             "{lanes} lanes"
         );
     }
-    Ok(())
 }

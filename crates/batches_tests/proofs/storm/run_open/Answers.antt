@@ -1,6 +1,6 @@
 use Rattle.std.proofs.Common.{arith, Some, ℕ, ◌<◌, length, ap, suc, zero, List, [], ◌∷◌, slice_index_or}
 use Rattle.std.specs.Prelude.{IfSome, slice_get}
-use Rattle.batches_tests.proofs.storm.run.Goals as goal
+use Rattle.batches_tests.proofs.storm.run_open.Goals as goal
 
 -- what holds of what is at a place, if something is there, holds of what is there
 at_place : {X : Type 0} (P : X → Type 0) (xs : List X) (k : ℕ) (d : X) → k < length xs → IfSome (slice_get xs k) P → P (slice_index_or xs k d)
