@@ -4,6 +4,8 @@
 #![tactic(auto)]
 
 #[cfg(test)]
+mod faults;
+#[cfg(test)]
 mod omci_msg_tests;
 #[cfg(test)]
 mod pmapper_tests;

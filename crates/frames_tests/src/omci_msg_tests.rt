@@ -1,10 +1,9 @@
+use crate::faults::look_at_fault;
 use fixtures::same;
 use omci_msg::{
     Action, MsgFault, OtherCode, Reply, Request, law_of_action_codes, law_of_spellings, read,
     read_reply, write, write_request,
 };
-use std::fmt;
-use std::fmt::Write;
 use std::process::Abort;
 use std::test::Fail;
 
@@ -280,32 +279,9 @@ const FAULTS: [(MsgFault, u8, &str); 5] = [
     (MsgFault::Device(11), 4, "device identifier 11, expected 10"),
 ];
 
-/// Looks at the number of a fault, and at what it says.
-fn look_at_fault(
-    rt: &impl Abort,
-    shown: &mut String,
-    fault: &MsgFault,
-    code: u8,
-    text: &str,
-) -> fmt::Result {
-    same!(rt; fault.code(), code, "{text}");
-    write!(shown, "{fault}")?;
-    same!(rt; shown.as_str(), text);
-    Ok(())
-}
-
-/// Looks at each fault.
-fn look_at_faults(rt: &impl Abort, shown: &mut String) -> fmt::Result {
-    for (fault, code, text) in &FAULTS {
-        shown.clear();
-        look_at_fault(rt, shown, fault, *code, text)?;
-    }
-    Ok(())
-}
-
 #[test]
-fn a_fault_has_its_number_and_says_what_came(rt: HostRuntime) -> Result<(), Fail> {
-    let mut shown = String::new(rt.alloc());
-    look_at_faults(&rt, &mut shown)?;
-    Ok(())
+fn a_fault_has_its_number_and_says_what_came(rt: HostRuntime) {
+    for (fault, code, text) in &FAULTS {
+        look_at_fault(&rt, rt.alloc(), fault, (fault.code(), *code), text);
+    }
 }
