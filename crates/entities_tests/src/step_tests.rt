@@ -1,3 +1,4 @@
+//! What entities answer and show, call by call. The dialogues beside the examples ask the program for replies to messages.
 use crate::scenes::{Scene, play};
 use draws::{contents, create_interwork, create_table, delete, request, set};
 use fixtures::same;
@@ -7,13 +8,6 @@ use pmapper::{GemPort, Interwork, Mapper};
 use std::alloc::Global;
 use std::process::Abort;
 use tag_view::DscpMap;
-
-/// The contents of the answer to a Get: its first bytes, and the two masks behind the values.
-fn got(first: &[u8], masks: [u8; 4]) -> [u8; 32] {
-    let mut contents = contents(first);
-    contents[28..].copy_from_slice(&masks);
-    contents
-}
 
 /// A Get of the attributes of a mask.
 fn get(class: u16, instance: u16, mask: u16) -> Request {
@@ -33,15 +27,6 @@ fn create_mapper(instance: u16, port: u16, pointer: u16) -> Request {
 /// The creation of an extended VLAN tagging operation configuration data of a port.
 fn create_vlan(instance: u16, port: u16) -> Request {
     create_table(instance, 2, port)
-}
-
-/// A Set of an entry of table 0x0701, by its four words.
-fn set_entry(words: [u32; 4]) -> Request {
-    let mut set = set(171, 0x0701, 0x0400, &[]);
-    for (to, word) in set.contents[2..].chunks_exact_mut(4).zip(words) {
-        to.copy_from_slice(&word.to_be_bytes());
-    }
-    set
 }
 
 /// Makes a port, 257, with its GEM port network CTP, interworking termination point, mapper and table.
@@ -101,63 +86,6 @@ pub(crate) fn create_twice(rt: &impl Abort, mib: &mut Mib) {
 }
 
 #[test]
-fn a_get_returns_each_attribute_that_fits_and_names_the_others(rt: HostRuntime) {
-    play(&rt, rt.alloc(), Scene::GetFromEachClass);
-}
-
-pub(crate) fn get_from_each_class(rt: &impl Abort, mib: &mut Mib) {
-    set_up(mib);
-    let ten = [9, 0xff, 0xc0, 4, 0, 0x80, 1, 3];
-    let of_table = [
-        9, 0xfe, 0, 2, 0, 128, 0x81, 0, 0x81, 0, 0, 0, 0, 0, 0x30, 1, 1,
-    ];
-    let size = [0, 4, 0, 0, 0, 0, 0x30];
-    let map = [0, 0, 0, 0x20];
-    take(
-        rt,
-        mib,
-        &[
-            (get(268, 0x0401, 0xffff), got(&ten, [0, 0x3f, 0, 0]), 4),
-            (get(130, 0x0601, 0x8020), got(&[9, 0x80, 0, 1, 1], map), 4),
-            (
-                get(130, 0x0601, 0x8030),
-                got(&[9, 0x80, 0x10, 1, 1], map),
-                4,
-            ),
-            (get(130, 0x0601, 0x0030), contents(&[0, 0, 0x30]), 4),
-            (get(266, 0x0501, 0x8100), contents(&[0, 0x81, 0, 4, 1]), 4),
-            (get(171, 0x0701, 0x0400), contents(&size), 4),
-            (get(171, 0x0701, 0xff00), got(&of_table, [0, 0, 1, 0]), 4),
-            (get(268, 0x0401, 0), only(0), 4),
-        ],
-    )
-}
-
-#[test]
-fn the_sync_is_an_attribute_of_onu_data_and_a_set_of_it_counts_nothing(rt: HostRuntime) {
-    play(&rt, rt.alloc(), Scene::SetTheSync);
-}
-
-pub(crate) fn set_the_sync(rt: &impl Abort, mib: &mut Mib) {
-    let two = got(&[9, 0x80, 0, 1], [0x40, 0, 0, 0]);
-    take(
-        rt,
-        mib,
-        &[
-            (create_gem_port(0x0401), only(0), 1),
-            (create_gem_port(0x0401), only(7), 1),
-            (get(2, 0, 0x8000), contents(&[0, 0x80, 0, 1]), 1),
-            (get(2, 0, 0xc000), two, 1),
-            (set(2, 0, 0x8000, &[254]), only(0), 254),
-            (set(2, 0, 0, &[7]), only(0), 254),
-            (set(2, 0, 0xc000, &[7]), contents(&[9, 0x40]), 254),
-            (create_gem_port(0x0402), only(0), 255),
-            (create_gem_port(0x0403), only(0), 1),
-        ],
-    )
-}
-
-#[test]
 fn refusals_have_their_results(rt: HostRuntime) {
     play(&rt, rt.alloc(), Scene::AskForWhatIsRefused);
 }
@@ -213,79 +141,22 @@ pub(crate) fn ask_for_what_is_refused(rt: &impl Abort, mib: &mut Mib) {
 }
 
 #[test]
-fn the_sync_goes_from_255_to_1(rt: HostRuntime) {
-    play(&rt, rt.alloc(), Scene::Create256);
-}
-
-pub(crate) fn create_256(rt: &impl Abort, mib: &mut Mib) {
-    for made in 1..=256 {
-        // From the greatest number down, so that each goes before the others.
-        same!(rt;
-            mib.step(&create_gem_port(1000 - made)).contents,
-            only(0),
-            "Create {made}"
-        );
-        let wanted = if made == 256 { 1 } else { made };
-        same!(rt; mib.sync() as u16, wanted, "the sync after Create {made}");
-    }
-    same!(rt; mib.gem_port(999).is_some(), true);
-    same!(rt; mib.gem_port(744).is_some(), true);
-}
-
-#[test]
-fn a_mib_reset_leaves_no_instance_and_sync_0(rt: HostRuntime) {
-    play(&rt, rt.alloc(), Scene::ResetAndFill);
-}
-
-pub(crate) fn reset_and_fill(rt: &impl Abort, mib: &mut Mib) {
-    set_up(mib);
-    // Its class and its instance aren't looked at.
-    let reset = request(Action::MibReset, 45, 0xffff, &[0xff]);
-    let write = set(268, 0x0401, 0x8000, &[4, 0]);
-    take(rt, mib, &[(reset, only(0), 0)]);
-    for class in [130, 171, 266, 268] {
-        same!(rt;
-            mib.next_instance(class, 0),
-            None,
-            "class {class} after a MIB reset"
-        );
-    }
-    take(rt, mib, &[(create_gem_port(0x0401), only(0), 1)]);
-    for count in 2..=255 {
-        take(rt, mib, &[(write, only(0), count)]);
-    }
-    take(
-        rt,
-        mib,
-        &[
-            (write, only(0), 1),
-            (create_vlan(0, 257), only(0), 2),
-            (reset, only(0), 0),
-        ],
-    );
-    for number in 0..16 {
-        same!(rt;
-            mib.step(&create_vlan(number, 257)).contents,
-            only(0),
-            "table {number}"
-        );
-    }
-    take(rt, mib, &[(create_vlan(16, 257), only(1), 16)])
-}
-
-#[test]
 fn attributes_are_shown_by_number(rt: HostRuntime) {
     play(&rt, rt.alloc(), Scene::LookAtAttributes);
 }
 
 pub(crate) fn look_at_attributes(rt: &impl Abort, mib: &mut Mib) {
     let _ = mib.step(&create_gem_port(0x0401));
+    let _ = mib.step(&create_vlan(0x0701, 257));
     for (class, instance, n, wanted) in [
         (268, 0x0401, 1, Some([4, 0].as_slice())),
         (268, 0x0401, 2, Some([0x80, 1].as_slice())),
         (268, 0x0401, 3, Some([3].as_slice())),
         (268, 0x0401, 10, Some([0].as_slice())),
-        (2, 0, 1, Some([1].as_slice())),
+        (2, 0, 1, Some([2].as_slice())),
+        (171, 0x0701, 2, Some([0, 128].as_slice())),
+        // A table has no bytes of its own.
+        (171, 0x0701, 6, None),
         (268, 0x0401, 0, None),
         (268, 0x0401, 11, None),
         (268, 0x0402, 1, None),
@@ -431,10 +302,15 @@ fn of_two_tables_of_a_port_the_least_is_its_own(rt: HostRuntime) {
     play(&rt, rt.alloc(), Scene::ChangeTables);
 }
 
+/// The entry that pushes VLAN 100.
+const PUSH_VLAN_100: [u8; 16] = [
+    0xf8, 0, 0, 0, 0xf8, 0, 0, 0, 0, 0x0f, 0, 0, 0, 0, 0x03, 0x24,
+];
+
 pub(crate) fn change_tables(rt: &impl Abort, mib: &mut Mib) {
     set_up(mib);
     let of_mapper = request(Action::Create, 171, 0x0600, &[1, 1, 1]);
-    let entry = set_entry([0xf800_0000, 0xf800_0000, 0x000f_0000, 0x0000_0324]);
+    let entry = set(171, 0x0701, 0x0400, &PUSH_VLAN_100);
     for (change, wanted, what) in [
         (entry, Some(0x0701), "an entry is set"),
         (
@@ -476,177 +352,6 @@ pub(crate) fn take_the_table_away(rt: &impl Abort, mib: &mut Mib) {
         None,
         "its mapper is another, which has none"
     );
-}
-
-#[test]
-fn a_table_is_read_as_the_get_of_its_size_found_it(rt: HostRuntime) {
-    play(&rt, rt.alloc(), Scene::ReadWhatWasLatched);
-}
-
-pub(crate) fn read_what_was_latched(rt: &impl Abort, mib: &mut Mib) {
-    set_up(mib);
-    let next = request(Action::GetNext, 171, 0x0701, &[4, 0, 0, 1]);
-    same!(rt; mib.step(&next).contents, only(3), "nothing is latched");
-    let _ = mib.step(&get(171, 0x0701, 0x0400));
-    let _ = mib.step(&delete(171, 0x0701));
-    same!(rt; mib.step(&next).contents, only(5), "it is gone");
-    let _ = mib.step(&create_vlan(0x0701, 257));
-    let last = contents(&[
-        0, 4, 0, 0x0f, 0, 0, 0xe0, 0, 0, 0, 0xe0, 0, 0, 0, 0, 0x0f, 0, 0, 0, 0x0f,
-    ]);
-    same!(rt; mib.step(&next).contents, last);
-}
-
-#[test]
-fn a_class_has_room_of_its_own_and_a_deletion_gives_it_back(rt: HostRuntime) {
-    play(&rt, rt.alloc(), Scene::FillTwoClasses);
-}
-
-pub(crate) fn fill_two_classes(rt: &impl Abort, mib: &mut Mib) {
-    for number in 0..32 {
-        let reply = mib.step(&create_mapper(number, 257, 0x0501));
-        same!(rt; reply.contents, only(0), "the answer to mapper {number}");
-    }
-    for number in 0..256 {
-        let reply = mib.step(&create_interwork(number));
-        same!(rt; reply.contents, only(0), "the answer to point {number}");
-    }
-    take(
-        rt,
-        mib,
-        &[
-            (create_mapper(32, 257, 0x0501), only(1), 33),
-            (create_interwork(256), only(1), 33),
-            (delete(130, 7), only(0), 34),
-            (delete(130, 7), only(5), 34),
-            (create_mapper(32, 257, 0x0501), only(0), 35),
-            (create_mapper(33, 257, 0x0501), only(1), 35),
-        ],
-    )
-}
-
-#[test]
-fn a_table_holds_128_entries_and_overwrites_a_held_key(rt: HostRuntime) {
-    play(&rt, rt.alloc(), Scene::FillATable);
-}
-
-pub(crate) fn fill_a_table(rt: &impl Abort, mib: &mut Mib) {
-    set_up(mib);
-    for k in 1..=126 {
-        let entry = set_entry([
-            0xf800_0000,
-            0x8000_0000 + k * 32768,
-            0x000f_0000,
-            0x000f_0000,
-        ]);
-        let wanted = if k == 126 { 1 } else { 0 };
-        same!(rt; mib.result_of(&entry), wanted, "the result of entry {k}");
-        same!(rt;
-            mib.step(&entry).contents,
-            only(wanted),
-            "the answer to entry {k}"
-        );
-    }
-    let again = set_entry([0xf800_0000, 0x803e_8000, 0xc00f_0000, 0x000f_0000]);
-    take(
-        rt,
-        mib,
-        &[
-            (again, only(0), 130),
-            (get(171, 0x0701, 0x0400), contents(&[0, 4, 0, 0, 0, 8]), 130),
-        ],
-    );
-    same!(rt; mib.vlan(0x0701).map(|vlan| vlan.table.len()), Some(128));
-}
-
-#[test]
-fn a_refused_set_keeps_nothing(rt: HostRuntime) {
-    play(&rt, rt.alloc(), Scene::SetWhatIsRefused);
-}
-
-/// Sets that are refused but for one of no attribute, and a Get.
-fn refused_sets() -> [Turn; 11] {
-    let bad_vid = set_entry([0xf800_0000, 0xf800_0000, 0x000f_0000, 0x0000_7ffc]);
-    let bad_priority = set_entry([0xf800_0000, 0x9800_0000, 0x000f_0000, 0x000f_0000]);
-    let no_kind = set_entry([0x3800_0000, 0xe800_0000, 0x000f_0000, 0x000f_0000]);
-    let mut with_tpid = set(171, 0x0701, 0x1400, &[0x91, 0]);
-    with_tpid.contents[4..20].copy_from_slice(&bad_vid.contents[2..18]);
-    let fixed = contents(&[9, 0, 0, 0x40, 0]);
-    let ninth = contents(&[9, 0, 0x80, 0, 0]);
-    let as_new = contents(&[0, 0x34, 0, 0x81, 0, 0x81, 0, 0, 0, 0, 0x30]);
-    [
-        // A reserved VID to add, a reserved priority, priorities of no kind.
-        (bad_vid, only(3), 4),
-        (bad_priority, only(3), 4),
-        (no_kind, only(3), 4),
-        // The output TPID with the first of them, the max size with the input TPID.
-        (with_tpid, only(3), 4),
-        (set(171, 0x0701, 0x6000, &[0, 5, 0x91, 0]), fixed, 4),
-        // Attribute 9, attributes of 40 bytes with it and without it.
-        (set(171, 0x0701, 0x0080, &[]), ninth, 4),
-        (set(171, 0x0701, 0x0580, &[]), ninth, 4),
-        (set(171, 0x0701, 0x0500, &[]), only(3), 4),
-        (get(171, 0x0701, 0x3400), as_new, 4),
-        (set(171, 0x0701, 0, &[]), only(0), 5),
-        (set(171, 0x0702, 0, &[]), only(5), 5),
-    ]
-}
-
-pub(crate) fn set_what_is_refused(rt: &impl Abort, mib: &mut Mib) {
-    set_up(mib);
-    take(rt, mib, &refused_sets());
-    let vlan = mib.vlan(0x0701).expect(rt, "the table is gone");
-    same!(rt; vlan.table.len(), 3);
-    same!(rt; vlan.settings.input_tpid, 0x8100);
-    same!(rt; vlan.settings.output_tpid, 0x8100);
-}
-
-#[test]
-fn each_class_is_written(rt: HostRuntime) {
-    play(&rt, rt.alloc(), Scene::SetInEachClass);
-}
-
-pub(crate) fn set_in_each_class(rt: &impl Abort, mib: &mut Mib) {
-    set_up(mib);
-    let vlan_values = [
-        0x88, 0xa8, 0x91, 0, 0xf8, 0, 0, 0, 0xf8, 0, 0, 0, 0, 0x0f, 0, 0, 0, 0, 0x03, 0x24,
-    ];
-    take(
-        rt,
-        mib,
-        &[
-            (set(268, 0x0401, 0xa000, &[4, 1, 2]), only(0), 5),
-            (set(266, 0x0501, 0x8100, &[4, 0x99, 7]), only(0), 6),
-            (set(130, 0x0601, 0x0820, &[0xff, 0xfe, 0x38]), only(0), 7),
-            (set(171, 0x0701, 0x3400, &vlan_values), only(0), 8),
-        ],
-    );
-    for (class, instance, n, wanted) in [
-        (268, 0x0401, 1, [4, 1].as_slice()),
-        (268, 0x0401, 2, [0x80, 1].as_slice()),
-        (268, 0x0401, 3, [2].as_slice()),
-        (266, 0x0501, 1, [4, 0x99].as_slice()),
-        (266, 0x0501, 8, [7].as_slice()),
-        (130, 0x0601, 4, [5, 1].as_slice()),
-        (130, 0x0601, 5, [0xff, 0xfe].as_slice()),
-        (130, 0x0601, 6, [5, 1].as_slice()),
-        (171, 0x0701, 2, [0, 128].as_slice()),
-        (171, 0x0701, 3, [0x88, 0xa8].as_slice()),
-        (171, 0x0701, 4, [0x91, 0].as_slice()),
-    ] {
-        let shown = mib.attribute(class, instance, n);
-        same!(rt;
-            shown.as_ref().map(|bytes| bytes.as_slice()),
-            Some(wanted),
-            "attribute {n} of {class}"
-        );
-    }
-    same!(rt;
-        mib.attribute(171, 0x0701, 6).is_none(),
-        true,
-        "the table has no bytes of its own"
-    );
-    same!(rt; mib.vlan(0x0701).map(|vlan| vlan.table.len()), Some(4));
 }
 
 /// Carries requests out, one after another, in two of the same: what each is answered by `step_touching` is what `step`

@@ -21,5 +21,3 @@ mod live_scenes;
 mod live_tests;
 #[cfg(test)]
 mod message_tests;
-#[cfg(test)]
-mod table_tests;

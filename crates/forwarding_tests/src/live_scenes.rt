@@ -2,9 +2,6 @@
 use crate::agree_tests::agree_on_all;
 use crate::attached_tests::look_at_ports;
 use crate::live_tests::look_at_changes;
-use crate::table_tests::{
-    follow_entries, follow_settings, look_at_a_new_table, look_at_marking, look_at_translating,
-};
 use forward_plan::Live;
 use std::alloc::Global;
 use std::process::Abort;
@@ -13,13 +10,8 @@ use std::process::Abort;
 #[derive(Clone, Copy)]
 pub(crate) enum Scene {
     Agreement,
-    ANewTable,
     Changes,
-    Entries,
-    Marking,
     Ports,
-    Settings,
-    Translating,
 }
 
 /// Makes the entities and their plan, and plays a scene with them. It only lends them, since each branch where they are owned is
@@ -33,12 +25,7 @@ pub(crate) fn play(rt: &impl Abort, alloc: Global, scene: Scene) {
 fn act(rt: &impl Abort, alloc: Global, live: &mut Live, scene: Scene) {
     match scene {
         Scene::Agreement => agree_on_all(rt, alloc, live),
-        Scene::ANewTable => look_at_a_new_table(rt, live),
         Scene::Changes => look_at_changes(rt, alloc, live).expect(rt, "room for frames"),
-        Scene::Entries => follow_entries(rt, live),
-        Scene::Marking => look_at_marking(rt, live),
         Scene::Ports => look_at_ports(rt, live),
-        Scene::Settings => follow_settings(rt, live),
-        Scene::Translating => look_at_translating(rt, live),
     }
 }

@@ -16,7 +16,7 @@ const TAGGED: [u8; 20] = [
 ];
 
 /// Leaves the entities that lead port 257 to port-ID 1024, with a table that keeps tags, and no other.
-pub(crate) fn lead(live: &mut Live) {
+fn lead(live: &mut Live) {
     for sent in [
         request(Action::MibReset, 2, 0, &[]),
         create_gem_port(3),
@@ -122,7 +122,7 @@ fn word_left(live: &Live) -> Left {
 }
 
 /// What becomes of the frame without a tag at port 257: the word of the tag that it leaves with, if it leaves with one.
-pub(crate) type Left = Result<Option<u32>, Reason>;
+type Left = Result<Option<u32>, Reason>;
 
 /// It leaves with the tag that `tagging` gives.
 const TAG: Left = Ok(Some(0x8100_0064));

@@ -1,6 +1,7 @@
 use fixtures::{Sink, compare, same};
+use std::alloc::AllocError;
 use std::test::Fail;
-use writing::{WriteFault, write_whole};
+use writing::{DecodeFault, WriteFault, write_whole};
 
 #[test]
 fn bytes_are_written_whole_or_to_where_a_write_fails(rt: HostRuntime) -> Result<(), Fail> {
@@ -33,5 +34,20 @@ fn what_differs_is_said_with_both(rt: HostRuntime) -> Result<(), Fail> {
     let difference = compare(&"ports", &2u8, &3).expect_err(&rt, "two are not three");
     let text = format!(in rt.alloc(); "{difference:?}")?;
     same!(rt; text.as_str(), "ports: 2, and not 3");
+    Ok(())
+}
+
+#[test]
+fn a_fault_of_a_decoding_has_words_and_a_status(rt: HostRuntime) -> Result<(), AllocError> {
+    for (fault, words, status) in [
+        (DecodeFault::BadLine(7), "line 7 is bad", 2),
+        (DecodeFault::Read, "read failed", 1),
+        (DecodeFault::Write, "write failed", 1),
+        (DecodeFault::NoMemory, "no memory", 1),
+    ] {
+        same!(rt; fault.status(), status);
+        let text = fault.to_string(rt.alloc())?;
+        same!(rt; text.as_str(), words);
+    }
     Ok(())
 }

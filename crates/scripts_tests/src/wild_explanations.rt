@@ -1,6 +1,6 @@
 //! The last steps of explanations beside the verdicts of the plan, after each of many drawn messages.
 
-use crate::live_tests::parts;
+use crate::wild_plans::parts;
 use draws::{Draws, PORTS};
 use explain::{Step, explain};
 use fixtures::{holds, same};
