@@ -38,22 +38,24 @@ fn write(alloc: Global, mib: &Mib, text: Text, mut writer: &mut [u8]) -> Result<
     }
 }
 
-/// Writes a text into fewer bytes than it takes: they are filled with its front.
-fn write_front(rt: &impl Abort, alloc: Global, mib: &Mib, text: Text, front: &str, room: usize) {
+/// Writes a text into as many bytes as a front of it has: they are filled with that.
+fn write_front(rt: &impl Abort, alloc: Global, mib: &Mib, text: Text, front: &[u8]) {
     let mut bytes = [0; 60];
+    let room = front.len().min(60);
     let outcome = write(alloc, mib, text, &mut bytes[..room]);
     same!(rt; outcome, Err(TextFault::Write), "{room} bytes");
-    same!(rt; &bytes[..room], &front.as_bytes()[..room]);
+    same!(rt; &bytes[..room], front);
 }
 
 /// Tries each number of bytes that is too small.
 fn write_fronts(rt: &impl Abort, alloc: Global, mib: &Mib) {
     for room in 0..NO_INSTANCE.len() {
-        write_front(rt, alloc, mib, Text::Mib, NO_INSTANCE, room);
+        write_front(rt, alloc, mib, Text::Mib, &NO_INSTANCE.as_bytes()[..room]);
     }
     for room in 0..NO_RULES.len() {
-        write_front(rt, alloc, mib, Text::Rules, NO_RULES, room);
-        write_front(rt, alloc, mib, Text::Explanation, NO_RULES, room);
+        let front = &NO_RULES.as_bytes()[..room];
+        write_front(rt, alloc, mib, Text::Rules, front);
+        write_front(rt, alloc, mib, Text::Explanation, front);
     }
 }
 
@@ -90,19 +92,23 @@ fn a_reader_that_fails_ends_the_decoding_before_it_begins(rt: HostRuntime) {
     holds!(rt; written.is_empty());
 }
 
-/// Decodes a line for a writer that has room for so many bytes.
-fn decode_front(rt: &impl Abort, alloc: Global, room: usize) {
-    let mut bytes = [0; 17];
+/// What a line that says that no answer was wanted is decoded to.
+const NO_ANSWER: &str = "no answer wanted\n";
+
+/// Decodes the line for a writer that has room for a front of the text.
+fn decode_front(rt: &impl Abort, alloc: Global, front: &[u8]) {
+    let mut bytes = [0; 20];
+    let room = front.len().min(20);
     let mut writer = &mut bytes[..room];
     let mut reader = "-\n".as_bytes();
     let outcome = decode(alloc, &mut reader, &mut writer);
     same!(rt; outcome, Err(DecodeFault::Write), "{room} bytes");
-    same!(rt; &bytes[..room], &"no answer wanted\n".as_bytes()[..room]);
+    same!(rt; &bytes[..room], front);
 }
 
 #[test]
 fn a_writer_that_is_full_ends_the_decoding(rt: HostRuntime) {
-    for room in 0..17 {
-        decode_front(&rt, rt.alloc(), room);
+    for room in 0..NO_ANSWER.len() {
+        decode_front(&rt, rt.alloc(), &NO_ANSWER.as_bytes()[..room]);
     }
 }
