@@ -17,23 +17,14 @@ const SETTINGS: TableSettings = TableSettings {
     ]),
 };
 
-/// Frames with an IPv4 packet of DSCP 46: untagged, behind a tag with priority 3, DE 1 and VID 100,
-/// and behind another with priority 6, DE 0 and VID 200 inside that.
+/// Frames with an IPv4 packet of DSCP 46: untagged, and behind a tag with priority 3, DE 1 and VID 100 round one with priority 6, DE 0
+/// and VID 200.
 const UNTAGGED: &[u8] = &[2, 0, 0, 0, 0, 1, 2, 0, 0, 0, 0, 2, 0x08, 0x00, 0x45, 0xb8];
-
-const ONE_TAG: &[u8] = &[
-    2, 0, 0, 0, 0, 1, 2, 0, 0, 0, 0, 2, 0x88, 0xa8, 0x70, 0x64, 0x08, 0x00, 0x45, 0xb8,
-];
 
 const TWO_TAGS: &[u8] = &[
     2, 0, 0, 0, 0, 1, 2, 0, 0, 0, 0, 2, 0x88, 0xa8, 0x70, 0x64, 0x81, 0x00, 0xc0, 0xc8, 0x08, 0x00,
     0x45, 0xb8,
 ];
-
-/// The tags that these frames have.
-const OUTER: u32 = 0x88a87064;
-
-const INNER: u32 = 0x8100c0c8;
 
 /// The rule of an entry for all untagged frames, with these last eight bytes.
 fn rule(treatments: u64) -> Result<Rule, RuleFault> {
@@ -107,200 +98,18 @@ fn expect(
     Ok(())
 }
 
-/// The treatment by the inner tag that is added, and the word of that tag for a frame with no tag, with one and with two.
-const CODES: [(&str, u64, [u32; 3]); 16] = [
-    (
-        "priority 0",
-        0x00000964,
-        [0x8100012c, 0x8100012c, 0x8100012c],
-    ),
-    (
-        "priority 7",
-        0x00070964,
-        [0x8100e12c, 0x8100e12c, 0x8100e12c],
-    ),
-    (
-        "priority of the inner tag",
-        0x00080964,
-        [0x8100012c, 0x8100612c, 0x8100c12c],
-    ),
-    (
-        "priority of the outer tag",
-        0x00090964,
-        [0x8100012c, 0x8100612c, 0x8100612c],
-    ),
-    (
-        "priority of the DSCP",
-        0x000a0964,
-        [0x8100a12c, 0x8100a12c, 0x8100a12c],
-    ),
-    ("VID 0", 0x00010004, [0x81002000, 0x81002000, 0x81002000]),
-    ("VID 4094", 0x00017ff4, [0x81002ffe, 0x81002ffe, 0x81002ffe]),
-    (
-        "VID of the inner tag",
-        0x00018004,
-        [0x81002000, 0x81002064, 0x810020c8],
-    ),
-    (
-        "VID of the outer tag",
-        0x0001800c,
-        [0x81002000, 0x81002064, 0x81002064],
-    ),
-    (
-        "TPID and DE of the inner tag",
-        0x00010960,
-        [0x8100212c, 0x88a8312c, 0x8100212c],
-    ),
-    (
-        "TPID and DE of the outer tag",
-        0x00010961,
-        [0x8100212c, 0x88a8312c, 0x88a8312c],
-    ),
-    (
-        "output TPID, DE of the inner tag",
-        0x00010962,
-        [0x9100212c, 0x9100312c, 0x9100212c],
-    ),
-    (
-        "output TPID, DE of the outer tag",
-        0x00010963,
-        [0x9100212c, 0x9100312c, 0x9100312c],
-    ),
-    (
-        "TPID 0x8100",
-        0x00010964,
-        [0x8100212c, 0x8100212c, 0x8100212c],
-    ),
-    (
-        "output TPID, DE 0",
-        0x00010966,
-        [0x9100212c, 0x9100212c, 0x9100212c],
-    ),
-    (
-        "output TPID, DE 1",
-        0x00010967,
-        [0x9100312c, 0x9100312c, 0x9100312c],
-    ),
-];
-
-/// Looks at the tags that frames leave with where an inner tag is added.
-fn look_at_code(
-    rt: &impl Abort,
-    what: &str,
-    inner: u64,
-    [none, one, two]: [u32; 3],
-) -> Result<(), Fail> {
-    let treatments = 0x000f0000_00000000 | inner;
-    let one_left = [one, OUTER];
-    let two_left = [two, OUTER, INNER];
-    expect(rt, what, treatments, UNTAGGED, Some(&[none]))?;
-    expect(rt, what, treatments, ONE_TAG, Some(&one_left))?;
-    expect(rt, what, treatments, TWO_TAGS, Some(&two_left))
-}
-
-#[test]
-fn each_code_adds_its_tag_in_front_of_those_received(rt: HostRuntime) -> Result<(), Fail> {
-    for (what, inner, words) in &CODES {
-        look_at_code(&rt, what, *inner, *words)?;
-    }
-    Ok(())
-}
-
-/// The treatment, and the tags that frames with no tag, with one and with two leave with.
-const REMOVALS: [(&str, u64, [&[u32]; 3]); 3] = [
-    (
-        "none",
-        0x000f0000_000f0000,
-        [&[], &[OUTER], &[OUTER, INNER]],
-    ),
-    ("one", 0x400f0000_000f0000, [&[], &[], &[INNER]]),
-    ("two", 0x800f0000_000f0000, [&[], &[], &[]]),
-];
-
-/// Looks at the tags that frames leave with.
-fn look_at_removal(
-    rt: &impl Abort,
-    what: &str,
-    treatments: u64,
-    [none, one, two]: [&[u32]; 3],
-) -> Result<(), Fail> {
-    expect(rt, what, treatments, UNTAGGED, Some(none))?;
-    expect(rt, what, treatments, ONE_TAG, Some(one))?;
-    expect(rt, what, treatments, TWO_TAGS, Some(two))
-}
-
-/// Looks that a frame is dropped.
-fn expect_dropped(rt: &impl Abort, what: &str, frame: &[u8]) -> Result<(), Fail> {
-    expect(rt, what, 0xc00f0000_000f0000, frame, None)
-}
-
-#[test]
-fn tags_are_removed_from_the_outermost_on(rt: HostRuntime) -> Result<(), Fail> {
-    for (what, treatments, left) in &REMOVALS {
-        look_at_removal(&rt, what, *treatments, *left)?;
-    }
-    expect_dropped(&rt, "three are to be removed", UNTAGGED)?;
-    expect_dropped(&rt, "three are to be removed", ONE_TAG)?;
-    expect_dropped(&rt, "three are to be removed", TWO_TAGS)
-}
-
 /// A treatment, a frame, and the tags that it leaves with.
 type Leaving = (&'static str, u64, &'static [u8], &'static [u32]);
 
-/// The outer tag: priority 1, VID 300, output TPID. The inner one: that of the received inner tag.
-const TWO_ADDED: [Leaving; 4] = [
-    (
-        "none",
-        0x00010966_00088000,
-        UNTAGGED,
-        &[0x9100212c, 0x81000000],
-    ),
-    (
-        "two",
-        0x00010966_00088000,
-        TWO_TAGS,
-        &[0x9100212c, 0x8100c0c8, 0x88a87064, 0x8100c0c8],
-    ),
-    (
-        "two, which go",
-        0x80010966_00088000,
-        TWO_TAGS,
-        &[0x9100212c, 0x8100c0c8],
-    ),
-    (
-        "one, the outer tag added alone",
-        0x00010966_000f0000,
-        ONE_TAG,
-        &[0x9100212c, 0x88a87064],
-    ),
-];
-
-#[test]
-fn the_added_outer_tag_stands_before_the_added_inner_tag(rt: HostRuntime) -> Result<(), Fail> {
-    for (what, treatments, frame, want) in &TWO_ADDED {
-        expect(&rt, what, *treatments, frame, Some(want))?;
-    }
-    Ok(())
-}
-
-/// Frames without a DSCP or with another: untagged, of VLAN 100 with priority 5, of VLAN 100 round 200, with an IPv6 packet of
-/// DSCP 46, and of ARP.
+/// A frame without a tag, and one of VLAN 100 with priority 5.
 const PLAIN: &[u8] = &[2, 0, 0, 0, 0, 1, 2, 0, 0, 0, 0, 2, 0x08, 0x00, 0x45, 0x00];
 
 const VOICE: &[u8] = &[
     2, 0, 0, 0, 0, 1, 2, 0, 0, 0, 0, 2, 0x81, 0x00, 0xa0, 0x64, 0x08, 0x00, 0x45, 0x00,
 ];
 
-const DOUBLE: &[u8] = &[
-    2, 0, 0, 0, 0, 1, 2, 0, 0, 0, 0, 2, 0x88, 0xa8, 0x00, 0x64, 0x81, 0x00, 0x00, 0xc8, 0x08, 0x00,
-    0x45, 0x00,
-];
-
-const IPV6: &[u8] = &[2, 0, 0, 0, 0, 1, 2, 0, 0, 0, 0, 2, 0x86, 0xdd, 0x6b, 0x80];
-
-const ARP: &[u8] = &[2, 0, 0, 0, 0, 1, 2, 0, 0, 0, 0, 2, 0x08, 0x06, 0x00, 0x01];
-
-const WORKED: [Leaving; 8] = [
+/// One tag is added, one is exchanged, one has the priority of the DSCP, and two are added to two.
+const WORKED: [Leaving; 4] = [
     (
         "VLAN 100 is added",
         0x000f0000_00000324,
@@ -314,35 +123,16 @@ const WORKED: [Leaving; 8] = [
         &[0x8100a0c8],
     ),
     (
-        "copies of no tag",
-        0x000f0000_00088000,
-        PLAIN,
-        &[0x81000000],
-    ),
-    ("two of one tag go", 0x800f0000_000f0000, VOICE, &[]),
-    (
-        "the outer of two tags goes",
-        0x400f0000_000f0000,
-        DOUBLE,
-        &[0x810000c8],
-    ),
-    (
         "the priority of an IPv4 packet",
         0x000f0000_000a0324,
         UNTAGGED,
         &[0x8100a064],
     ),
     (
-        "the priority of an IPv6 packet",
-        0x000f0000_000a0324,
-        IPV6,
-        &[0x8100a064],
-    ),
-    (
-        "the priority without a DSCP",
-        0x000f0000_000a0324,
-        ARP,
-        &[0x81000064],
+        "four tags",
+        0x00010966_00088000,
+        TWO_TAGS,
+        &[0x9100212c, 0x8100c0c8, 0x88a87064, 0x8100c0c8],
     ),
 ];
 
@@ -351,8 +141,7 @@ fn worked_frames_leave_with_their_tags(rt: HostRuntime) -> Result<(), Fail> {
     for (what, treatments, frame, want) in &WORKED {
         expect(&rt, what, *treatments, frame, Some(want))?;
     }
-    expect_dropped(&rt, "dropped", VOICE)?;
-    expect_dropped(&rt, "dropped", DOUBLE)
+    expect(&rt, "dropped", 0xc00f0000_000f0000, VOICE, None)
 }
 
 /// Whether a treatment asks for the DSCP.
