@@ -1,5 +1,6 @@
 //! How far a run is, and a line that shows it.
 use frame_batch::Gate;
+use run_settings::RunSettings;
 use std::io::Write;
 use std::rt::Clock;
 use std::sync::atomic::{AtomicU64, Ordering};
@@ -66,27 +67,38 @@ impl Gate for Watched<'_> {
     }
 }
 
-/// Writes how many frames were given to lanes, which ask twice for a batch, and how many messages are published.
-fn write_line<E: Write>(progress: &Progress, size: u32, err: &mut E) {
+/// Writes how many frames were given to lanes, which ask twice for a batch. Where the trace is published first, the line says so
+/// until a lane asks; else it says how many messages are published beside the lanes.
+fn write_line<E: Write>(progress: &Progress, settings: &RunSettings, err: &mut E) {
+    let asked = progress.asked.load(Ordering::Relaxed);
+    if settings.after && asked == 0 {
+        let _ = err.write_all(b"\rpublishing\x1b[K");
+        return;
+    }
     let frames = progress.frames.load(Ordering::Relaxed);
-    let batches = progress.asked.load(Ordering::Relaxed) / 2;
-    let forwarded = batches.saturating_mul(u64::from(size)).min(frames);
-    let applied = progress.applied.load(Ordering::Relaxed);
-    let _ = write!(
-        err,
-        "\r{forwarded} of {frames} frames forwarded, {applied} messages applied\x1b[K"
-    );
+    let given = (asked / 2).saturating_mul(u64::from(settings.batch));
+    let _ = write!(err, "\r{} of {frames} frames forwarded", given.min(frames));
+    if !settings.after {
+        let applied = progress.applied.load(Ordering::Relaxed);
+        let _ = write!(err, ", {applied} messages applied");
+    }
+    let _ = err.write_all(b"\x1b[K");
 }
 
 /// Shows how far a run is, on one line that is written anew about twice a second, until the run has ended. Then the line is gone.
-pub(crate) fn show<R: Clock, E: Write>(rt: &R, progress: &Progress, size: u32, err: &mut E) {
+pub(crate) fn show<R: Clock, E: Write>(
+    rt: &R,
+    progress: &Progress,
+    settings: &RunSettings,
+    err: &mut E,
+) {
     let mut is_shown = false;
     for step in 1..u64::MAX {
         if progress.has_ended() {
             break;
         }
         if step % STEPS == 0 {
-            write_line(progress, size, err);
+            write_line(progress, settings, err);
             is_shown = true;
         }
         sleep(rt, Duration::from_millis(STEP));

@@ -97,9 +97,9 @@ pub fn run_over<R: Threads + Wait + Sync, W: Write>(
     write_lines(writer, &out)
 }
 
-/// The same as [`run_over`], and while the frames are forwarded a line on `err`, which is to be a terminal, says how many of them
-/// were, and how many messages are published. It is written anew about twice a second, and is gone before the lines are written. A
-/// write to `err` that fails is passed over.
+/// The same as [`run_over`], and meanwhile a line on `err`, which is to be a terminal, says how many frames were forwarded and how
+/// many messages are published, or with `after` that they are being published and then how many frames were forwarded. It is
+/// written anew about twice a second, and is gone before the lines are written. A write to `err` that fails is passed over.
 pub fn run_over_shown<R: Threads + Wait + Clock + Sync, W: Write, E: Write + Send>(
     rt: &R,
     alloc: Global,
@@ -114,7 +114,7 @@ pub fn run_over_shown<R: Threads + Wait + Clock + Sync, W: Write, E: Write + Sen
     let progress = Progress::new();
     let (_, made) = join(
         rt,
-        || show(rt, &progress, settings.batch, err),
+        || show(rt, &progress, settings, err),
         || -> Result<Vec<u8>, RunFault>
             ensures fits { IfOk result (λ out. input_fault trace.entry.now frames.entry.now settings.entry.now ≡ None) }
             ensures output { IfOk result (λ out. IsOutput trace.entry.now frames.entry.now settings.entry.now out.items) }

@@ -7,7 +7,7 @@ use Rattle.clap.specs.declared.builder.command.Command.{Command}
 use Rattle.clap.specs.declared.builder.command.Command.TheViews.{out-Command as fields_of}
 use Rattle.clap.specs.declared.builder.action.ArgAction.TheVariants.{Set, SetTrue}
 use Rattle.clap.specs.declared.builder.value_parser.ValueParser.{ValueParser}
-use Rattle.clap.specs.declared.builder.value_parser.ValueParser.TheVariants.{NonEmptyString, Signed}
+use Rattle.clap.specs.declared.builder.value_parser.ValueParser.TheVariants.{NonEmptyString, Signed, String as AnyString}
 
 -- a command that knows these words and no option that goes for its subcommands too, where there was memory to make it
 abbrev pub IsCommand : Result Command AllocError → App → Type 0
@@ -54,7 +54,7 @@ abbrev pub frame : Rule
 frame = record (new_rule (codes "frame")) {
   action = Some Set;
   value_names = 1;
-  parser = Some NonEmptyString;
+  parser = Some AnyString;
   required = true;
 }
 

@@ -174,7 +174,7 @@ fn frame<'a>(alloc: Global) -> Arg<'a>
         .value_name("HEX")
         .required(true)
         .action(ArgAction::Set)
-        .value_parser(ValueParser::NonEmptyString)
+        .value_parser(ValueParser::String)
         .help("Bytes of the frame, from the destination address on, in hexadecimal digits")
 }
 
