@@ -1,10 +1,6 @@
 -- Worked examples, computed.
 use Rattle.std.proofs.Common.{◌≡◌, ℕ, List, [], ◌∷◌, ◌++◌, take, Ok, Err, Some, None, refl}
-use Rattle.std.specs.Prelude.{codes}
-use Rattle.hex.specs.Hex.{decode_pairs}
 use Rattle.capture.specs.declared.fault.CaptureFault.TheVariants.{Magic, Header, Link, Torn, TooLong}
-use Rattle.capture.specs.Line.{Asked, asked_by}
-use Rattle.capture.specs.Line as asked
 use Rattle.capture.specs.Records.{capture_of, first_fault, frames_in}
 
 frame : List ℕ
@@ -50,11 +46,3 @@ cut_frame = refl
 too_long : capture_of (header 1 ++ front 0 0 0 ++ front 1 0 4) ≡ Err (TooLong 1)
 unfolding capture_of first_fault frames_in header front
 too_long = refl
-
-a_message : asked_by (codes "o 0aF0") ≡ Some (asked.Message (10 ∷ 240 ∷ []))
-unfolding asked_by decode_pairs
-a_message = refl
-
-a_bad_port : asked_by (codes "f 65536 00") ≡ None
-unfolding asked_by
-a_bad_port = refl

@@ -1,4 +1,3 @@
-pub mod Cutting
 pub mod Captures
 pub mod Examples
 mod Unlisted

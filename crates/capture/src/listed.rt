@@ -31,7 +31,8 @@ pub enum ListFault {
 /// [`Pcap::open`]: crate::Pcap::open
 #[tactic(auto, unfolding(crate::specs::Records::capture_of))]
 pub fn list_frames<'a>(alloc: Global, file: &'a [u8]) -> Result<Vec<&'a [u8]>, ListFault>
-    ensures frames { IfOk result (λ list. capture_of file.now ≡ Ok (map (λ frame. frame.now) list.items)) }
+    ensures frames { IfOk result (λ list.
+        capture_of file.now ≡ Ok (map (λ frame. frame.now) list.items)) }
     ensures few { IfOk result (λ list. vec_len list < 2 ^ 32) }
     ensures fault { IfErr result (IsWhyNoList file.now) }
 {
@@ -53,7 +54,8 @@ fn list_records<'a>(
     records: &'a [u8],
 ) -> Result<Vec<&'a [u8]>, ListFault>
     ensures whole { IfOk result (λ list. first_fault order records.now ≡ None) }
-    ensures frames { IfOk result (λ list. map (λ frame. frame.now) list.items ≡ frames_in order records.now) }
+    ensures frames { IfOk result (λ list.
+        map (λ frame. frame.now) list.items ≡ frames_in order records.now) }
     ensures few { IfOk result (λ list. vec_len list < 2 ^ 32) }
     ensures fault { IfErr result (IsWhyNoFrames order records.now) }
 {

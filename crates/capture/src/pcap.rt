@@ -26,7 +26,10 @@ impl<'a> Model for Pcap<'a> {
 
     ghost view = { λ p. frames_in p.order p.records.now };
 
-    ghost invariant = { λ p. (first_fault p.order p.records.now ≡ None) × (p.count ≡ length (frames_in p.order p.records.now)) × (length (frames_in p.order p.records.now) < 2 ^ 32) };
+    ghost invariant = { λ p.
+        (first_fault p.order p.records.now ≡ None)
+        × (p.count ≡ length (frames_in p.order p.records.now))
+        × (length (frames_in p.order p.records.now) < 2 ^ 32) };
 }
 
 /// How many records there are, or the first fault that they have.

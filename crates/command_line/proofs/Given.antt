@@ -8,6 +8,7 @@ use Rattle.clap.specs.declared.parser.matches.Found.{Found}
 use Rattle.clap.proofs.WalkLemmas.{first_value-rows, one_text-rows}
 use Rattle.command_line.specs.Asked.{IsExplain, IsMib, IsNumber, IsRules, IsRun}
 use Rattle.command_line.specs.Range.{AreInRange}
+use Rattle.run_settings.specs.Settings.{AreInLimits}
 use Rattle.command_line.specs.declared.words.RunWords.{RunWords}
 use Rattle.command_line.specs.declared.words.MibWords.{MibWords}
 use Rattle.command_line.specs.declared.words.RulesWords.{RulesWords}
@@ -59,10 +60,10 @@ module _ (f : Found) where
   port_unread value words is fits = number_unread 16 f (codes "port") words.settings.port value is.port (omega (arith, fits.port))
 
   pub lanes_unread : ((text : Text) → one_text f (codes "lanes") ≡ Some text → ReadsOne (Reads 16) text None) → AsksForNoRun (rows_of f)
-  lanes_unread value words is fits = number_unread 16 f (codes "lanes") words.settings.lanes value is.lanes (omega (arith, fits.few_lanes))
+  lanes_unread value words is fits = number_unread 16 f (codes "lanes") words.settings.lanes value is.lanes (omega (arith, fits.limits.1))
 
   pub batch_unread : ((text : Text) → one_text f (codes "batch") ≡ Some text → ReadsOne (Reads 32) text None) → AsksForNoRun (rows_of f)
-  batch_unread value words is fits = number_unread 32 f (codes "batch") words.settings.batch value is.batch (omega (arith, fits.few_frames))
+  batch_unread value words is fits = number_unread 32 f (codes "batch") words.settings.batch value is.batch (omega (arith, fits.limits.3))
 
   pub trace_missing : first_value f (codes "trace") ≡ None → AsksForNoRun (rows_of f)
   trace_missing none words is fits = missing f (codes "trace") words.trace.now none is.trace
@@ -70,17 +71,13 @@ module _ (f : Found) where
   pub frames_missing : first_value f (codes "frames") ≡ None → AsksForNoRun (rows_of f)
   frames_missing none words is fits = missing f (codes "frames") words.frames.now none is.frames
 
-  -- lanes that were read, and aren't 1 to 16
-  pub lanes_apart : (n : ℕ) → IsNumber (codes "lanes") (rows_of f) n → ((1 ≤ n) → (n ≤ 16) → ⊥) → AsksForNoRun (rows_of f)
-  lanes_apart n read out words is fits =
-      let same = number_same (codes "lanes") (rows_of f) words.settings.lanes n is.lanes read in
-      out (subst (λ m. 1 ≤ m) same fits.some_lanes) (subst (λ m. m ≤ 16) same fits.few_lanes)
-
-  -- and so of a batch
-  pub batch_apart : (n : ℕ) → IsNumber (codes "batch") (rows_of f) n → ((1 ≤ n) → (n ≤ 65536) → ⊥) → AsksForNoRun (rows_of f)
-  batch_apart n read out words is fits =
-      let same = number_same (codes "batch") (rows_of f) words.settings.batch n is.batch read in
-      out (subst (λ m. 1 ≤ m) same fits.some_frames) (subst (λ m. m ≤ 65536) same fits.few_frames)
+  -- lanes and a batch that were read, and that no run can have
+  pub limits_apart : (lanes batch : ℕ) → IsNumber (codes "lanes") (rows_of f) lanes → IsNumber (codes "batch") (rows_of f) batch
+      → (AreInLimits lanes batch → ⊥) → AsksForNoRun (rows_of f)
+  limits_apart lanes batch read_lanes read_batch out words is fits =
+      let few = number_same (codes "lanes") (rows_of f) words.settings.lanes lanes is.lanes read_lanes in
+      let short = number_same (codes "batch") (rows_of f) words.settings.batch batch is.batch read_batch in
+      out (subst (λ n. AreInLimits n batch) few (subst (λ n. AreInLimits words.settings.lanes n) short fits.limits))
 
   -- a mib without a trace
   pub mib_missing : first_value f (codes "trace") ≡ None → (words : MibWords) → IsMib (rows_of f) words → ⊥

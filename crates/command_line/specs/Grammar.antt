@@ -8,6 +8,7 @@ use Rattle.clap.specs.declared.builder.command.Command.TheViews.{out-Command as 
 use Rattle.clap.specs.declared.builder.action.ArgAction.TheVariants.{Set, SetTrue}
 use Rattle.clap.specs.declared.builder.value_parser.ValueParser.{ValueParser}
 use Rattle.clap.specs.declared.builder.value_parser.ValueParser.TheVariants.{NonEmptyString, Signed, String as AnyString}
+use Rattle.run_settings.specs.Settings.{batch_limit, lane_limit}
 
 -- a command that knows these words and no option that goes for its subcommands too, where there was memory to make it
 abbrev pub IsCommand : Result Command AllocError → App → Type 0
@@ -38,10 +39,10 @@ abbrev pub port : Rule
 port = valued (codes "port") (Signed (pos 0) (pos 65535))
 
 abbrev pub lanes : Rule
-lanes = valued (codes "lanes") (Signed (pos 1) (pos 16))
+lanes = valued (codes "lanes") (Signed (pos 1) (pos lane_limit))
 
 abbrev pub batch : Rule
-batch = valued (codes "batch") (Signed (pos 1) (pos 65536))
+batch = valued (codes "batch") (Signed (pos 1) (pos batch_limit))
 
 abbrev pub after : Rule
 after = flag (codes "after")

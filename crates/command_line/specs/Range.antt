@@ -1,16 +1,14 @@
 -- What the numbers of the words may be.
 use Rattle.std.specs.Prelude.{◌≤◌}
+use Rattle.run_settings.specs.Settings.{CanRun}
 use Rattle.run_settings.specs.declared.settings.RunSettings.{RunSettings}
 use Rattle.command_line.specs.declared.words.Words.{Words}
 use Rattle.command_line.specs.declared.words.Words.TheVariants.{Replay, Run, Decode, Mib, Rules, Explain}
 
--- a port of 16 bits, 1 to 16 lanes, and batches of 1 to 65,536 frames
+-- a port of 16 bits, and lanes and batches that a run can have
 pub record AreInRange (settings : RunSettings) : Type 0 where
   pub port : settings.port ≤ 65535
-  pub some_lanes : 1 ≤ settings.lanes
-  pub few_lanes : settings.lanes ≤ 16
-  pub some_frames : 1 ≤ settings.batch
-  pub few_frames : settings.batch ≤ 65536
+  pub limits : CanRun settings
 
 -- a port is one of 16 bits
 abbrev pub IsInRange : Words → Type 0

@@ -14,6 +14,9 @@ use std::alloc::{AllocError, Global};
 /// What `--version` shows.
 const VERSION: &str = "0.1.0";
 
+// The help says these limits in words.
+const _: () = prove!(LANE_LIMIT == 16 && BATCH_LIMIT == 65_536);
+
 /// The command with this argument too. Err where what came before had no memory, or this has none.
 fn with_arg<'a>(
     command: Result<Command<'a>, AllocError>,

@@ -16,29 +16,24 @@ use crate::grammar::onuctl;
 use crate::words::{ExplainWords, MibWords, RulesWords, RunWords, Words};
 use clap::error::ErrorKind;
 use clap::{ArgMatches, Command, Error};
-use run_settings::{BATCH_LIMIT, LANE_LIMIT, RunSettings};
+use run_settings::RunSettings;
 use std::alloc::Global;
 
 /// What the options behind `run` ask for; None where one is missing, or no number in its range.
 fn read_run<'a>(given: &ArgMatches<'a>) -> Option<RunWords<'a>>
     ensures asked { IfSome result (IsRun (rows_of (found_of given.now))) }
     ensures range { IfSome result (λ words. AreInRange words.settings) }
-    ensures none { IfNone result ((words : RunWords) → IsRun (rows_of (found_of given.now)) words → AreInRange words.settings → ⊥) }
+    ensures none { IfNone result ((words : RunWords)
+        → IsRun (rows_of (found_of given.now)) words → AreInRange words.settings → ⊥) }
 {
+    let port = given.get_one("port")?;
     let lanes = given.get_one("lanes")?;
     let batch = given.get_one("batch")?;
-    if !(1..=LANE_LIMIT).contains(&lanes) || !(1..=BATCH_LIMIT).contains(&batch) {
-        return None;
-    }
+    let after = given.get_flag("after");
     Some(RunWords {
         trace: given.get_str("trace")?,
         frames: given.get_str("frames")?,
-        settings: RunSettings {
-            port: given.get_one("port")?,
-            lanes,
-            batch,
-            after: given.get_flag("after"),
-        },
+        settings: RunSettings::new(port, lanes, batch, after)?,
     })
 }
 

@@ -18,7 +18,8 @@ pub fn shadow_of(table: &RuleTable, place: usize) -> Option<usize>
     ensures value { result ≡ shadow_of table.now place }
     ensures earlier { IfSome result (λ other. is_before table.now other place ≡ true) }
     ensures admits { IfSome result (λ other. (input : ℕ) (tags : List TagFields) (type : ℕ)
-        → matches input tags type (entry_at table.now place) ≡ true → matches input tags type (entry_at table.now other) ≡ true) }
+        → matches input tags type (entry_at table.now place) ≡ true
+        → matches input tags type (entry_at table.now other) ≡ true) }
     ensures unused { OnSome result ((input : ℕ) (tags : List TagFields) (type : ℕ)
         → choice (matches input tags type) table.now ≢ Some place) }
 {
@@ -48,7 +49,8 @@ fn is_shadowed(table: &RuleTable, place: usize, other: usize) -> bool
 
 /// Whether a rule admits every frame that another admits.
 fn covers(rule: &Rule, other: &Rule) -> bool
-    ensures { result ≡ covers_by rule.now.filter rule.now.ethertype other.now.filter other.now.ethertype }
+    ensures { result
+        ≡ covers_by rule.now.filter rule.now.ethertype other.now.filter other.now.ethertype }
 {
     tag_count(&rule.filter) == tag_count(&other.filter)
         && covers_tag(&outer_filter(&rule.filter), &outer_filter(&other.filter))

@@ -27,7 +27,8 @@ pub fn explain<'a>(
     bytes: &'a [u8],
 ) -> Result<Vec<Step<'a>>, AllocError>
     ensures steps { IfOk result (λ steps. steps.items ≡ explained mib.now.entities port bytes.now) }
-    ensures last { IfOk result (λ steps. EndsWith (meaning mib.now.entities port bytes.now) steps.items) }
+    ensures last { IfOk result (λ steps.
+        EndsWith (meaning mib.now.entities port bytes.now) steps.items) }
 {
     let mut steps = Vec::new(alloc);
     steps.push(Step::Table(table_in_force(mib, port)))?;
@@ -55,7 +56,8 @@ fn append_read<'a>(
     table: &Option<PortTable>,
     frame: FrameView<'a>,
 ) -> Result<(), AllocError>
-    ensures { OnOk result (steps.new.items ≡ steps.old.items ++ from_read mib.now.entities port table.now frame.entry) }
+    ensures { OnOk result (steps.new.items
+        ≡ steps.old.items ++ from_read mib.now.entities port table.now frame.entry) }
 {
     steps.push(Step::Read(frame.clone()?))?;
     match table {
@@ -72,7 +74,8 @@ fn append_table<'a>(
     table: &PortTable,
     frame: &FrameView<'a>,
 ) -> Result<(), AllocError>
-    ensures { OnOk result (steps.new.items ≡ steps.old.items ++ from_table mib.now.entities port table.now frame.now) }
+    ensures { OnOk result (steps.new.items
+        ≡ steps.old.items ++ from_table mib.now.entities port table.now frame.now) }
 {
     append_tries(steps, table, frame)?;
     let Some(rule) = table.rule_for(frame) else {
@@ -92,7 +95,8 @@ fn append_tags<'a>(
     frame: &FrameView<'a>,
     tags: ArrayVec<OutgoingTag, 4>,
 ) -> Result<(), AllocError>
-    ensures { OnOk result (steps.new.items ≡ steps.old.items ++ from_tags mib.now.entities port frame.now tags.items) }
+    ensures { OnOk result (steps.new.items
+        ≡ steps.old.items ++ from_tags mib.now.entities port frame.now tags.items) }
 {
     let leaving = OutFrame::new(frame, plain(&tags));
     steps.push(Step::Tags(tags))?;
@@ -116,7 +120,8 @@ fn plain(outgoing: &ArrayVec<OutgoingTag, 4>) -> ArrayVec<Tag, 4>
 /// The mapper of a port, with its number.
 #[tactic(auto, unfolding(frame_meaning::specs::Meaning::mapper_at))]
 fn mapper_at(mib: &Mib, port: u16) -> Option<(u16, &Mapper)>
-    ensures { option_map (λ (held : _). mapper_instance held.0 held.1.now) result ≡ mapper_at mib.now.entities port }
+    ensures { option_map (λ (held : _). mapper_instance held.0 held.1.now) result
+        ≡ mapper_at mib.now.entities port }
 {
     let number = mib.mapper_of_port(port)?;
     let mapper = mib.mapper(number)?;
@@ -134,7 +139,8 @@ fn append_mapper<'a>(
 ) -> Result<(), AllocError>
     requires { IfSome dscp (λ dscp. dscp < 64) }
     ensures { OnOk result (steps.new.items
-        ≡ steps.old.items ++ from_mapper mib.now.entities leaving.entry dscp (mapper_instance number mapper.now)) }
+        ≡ steps.old.items
+        ++ from_mapper mib.now.entities leaving.entry dscp (mapper_instance number mapper.now)) }
 {
     steps.push(Step::Mapper(number))?;
     let origin = priority_origin(mapper, leaving.tags(), dscp);
@@ -153,7 +159,8 @@ fn append_pointer<'a>(
     leaving: OutFrame<'a>,
     pointer: u16,
 ) -> Result<(), AllocError>
-    ensures { OnOk result (steps.new.items ≡ steps.old.items ++ from_pointer mib.now.entities leaving.entry pointer) }
+    ensures { OnOk result (steps.new.items
+        ≡ steps.old.items ++ from_pointer mib.now.entities leaving.entry pointer) }
 {
     steps.push(Step::Pointer(pointer))?;
     match mib.interwork(pointer) {
@@ -171,7 +178,8 @@ fn append_interwork<'a>(
     point: &Interwork,
 ) -> Result<(), AllocError>
     ensures { OnOk result (steps.new.items
-        ≡ steps.old.items ++ from_interwork mib.now.entities leaving.entry (interwork_instance instance point.now)) }
+        ≡ steps.old.items
+        ++ from_interwork mib.now.entities leaving.entry (interwork_instance instance point.now)) }
 {
     let gem_port_pointer = point.gem_port_pointer;
     steps.push(Step::Interwork {

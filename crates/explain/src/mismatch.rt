@@ -89,7 +89,8 @@ pub(crate) fn first_mismatch(
     ethertype: u16,
     input_tpid: u16,
 ) -> Option<Mismatch>
-    ensures value { result ≡ mismatch_by input_tpid tags.now ethertype rule.now.filter rule.now.ethertype }
+    ensures value { result
+        ≡ mismatch_by input_tpid tags.now ethertype rule.now.filter rule.now.ethertype }
 {
     if tags.len() != tag_count(&rule.filter) {
         return Some(Mismatch::TagCount);

@@ -1,6 +1,7 @@
 //! In which order the entries of a table are tried.
 ghost use Rattle.std.specs.Prelude.{◌≡◌, ◌==◌, ◌+◌, ◌<◌, ◌≤◌, ◌++◌, All, IsSome, length};
 ghost use Rattle.std.specs.List.{position};
+ghost use Rattle.vlan_rule.specs.Table.{table_max_size};
 ghost use Rattle.explain.specs.Order.{number_of, places_of, tried_order};
 
 use arrayvec::ArrayVec;
@@ -23,7 +24,7 @@ pub fn tried_order(table: &RuleTable) -> ArrayVec<usize, 128>
 /// Appends the places of the entries of a rank.
 fn append_places(table: &RuleTable, len: usize, rank: Rank, order: &mut ArrayVec<usize, 128>)
     requires len { len ≡ length table.now }
-    requires room { length order.old.items + length (places_of rank table.now) ≤ 128 }
+    requires room { length order.old.items + length (places_of rank table.now) ≤ table_max_size }
     ensures { order.new.items ≡ order.old.items ++ places_of rank table.now }
 {
     for place in 0..len {

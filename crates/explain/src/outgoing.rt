@@ -59,7 +59,8 @@ pub(crate) fn received(frame: &FrameView) -> ArrayVec<OutgoingTag, 4>
 
 fn retagged(retag: &Retag, settings: &TableSettings, frame: &FrameView) -> ArrayVec<OutgoingTag, 4>
     requires { IsTrue (treatment_fits (retag_by retag.now)) }
-    ensures { result.items ≡ retagged_by retag.now settings.now frame.now.tags (dscp_of frame.now.rest) }
+    ensures { result.items
+        ≡ retagged_by retag.now settings.now frame.now.tags (dscp_of frame.now.rest) }
 {
     let mut tags = ArrayVec::new();
     append_added(&mut tags, &retag.outer, settings, frame);
@@ -77,7 +78,9 @@ fn append_added(
 )
     requires fits { IsTrue (addition_fits added.now) }
     requires room { length tags.old.items ≤ 3 }
-    ensures { tags.new.items ≡ tags.old.items ++ added_by added.now settings.now frame.now.tags (dscp_of frame.now.rest) }
+    ensures { tags.new.items
+        ≡ tags.old.items
+        ++ added_by added.now settings.now frame.now.tags (dscp_of frame.now.rest) }
 {
     if let Some(added) = added {
         tags.push(OutgoingTag {

@@ -21,7 +21,7 @@ use Rattle.forward_plan.specs.declared.part.Part.{Part}
 use Rattle.forward_plan.specs.declared.plan.Plan.{Plan}
 use Rattle.forward_plan.specs.declared.ports.Ports.{Ports}
 use Rattle.forward_plan.specs.Attachment.{ArePorts, mapper_naming, place_or_none, table_naming}
-use Rattle.forward_plan.specs.Compiled.{IsCompiled}
+use Rattle.forward_plan.specs.Compiled.{IsBehind, IsCompiled}
 use Rattle.forward_plan.proofs.Attachments.{attached_same}
 use Rattle.forward_plan.specs.Parts.{AreFirstKept, AreForgotten, AreMoved, AreNone, AreParts, AreRight, IsMapper, IsPartOf, IsTable, NoneIsOf}
 
@@ -354,3 +354,24 @@ written (x ∷ xs) rest (suc n) same = ap (λ (l : List _). x ∷ l) (written xs
 
 pub written_whole : {T : Type 0} (new old : List T) (n room : ℕ) → n ≡ room → length new ≡ room → take n (new ++ drop (length new) old) ≡ new
 written_whole new old n room all same = written new (drop (length new) old) n (omega (arith, all, same))
+
+-- ---- a plan that lags behind
+
+-- routes that are right stay so, where nothing changed that any is read from
+pub mappers_right : (old new : Entities) (parts : List (Part Routes)) → new.mappers ≡ old.mappers → new.interworks ≡ old.interworks
+    → new.gem_ports ≡ old.gem_ports → AreRight (IsMapper old) old.mappers parts → AreRight (IsMapper new) new.mappers parts
+mappers_right old new parts mappers interworks gem_ports right k part held n i of found =
+    same_routes old new (Some i) part.compiled interworks gem_ports (right k part held n i of (ap (find n) (sym mappers) ∙ found))
+
+-- a plan of entities lags behind them no further than they are
+pub behind : (e : Entities) (plan : Plan) → IsCompiled e plan → IsBehind e plan
+behind e plan is = record { before = e; of_ports = is.of_ports; of_tables = is.of_tables.right; of_mappers = is.of_mappers.right }
+
+-- it lags behind others as it does behind these, where no instance changed
+pub behind_same : (old new : Entities) (plan : Plan) → AreSame old new → IsBehind old plan → IsBehind new plan
+behind_same old new plan same is = record {
+  before = is.before;
+  of_ports = is.of_ports;
+  of_tables = rw same.vlans is.of_tables;
+  of_mappers = mappers_right old new plan.mappers.items same.mappers same.interworks same.gem_ports is.of_mappers;
+}

@@ -11,7 +11,7 @@ use crate::plan::Plan;
 use crate::ports::Ports;
 use managed_entity::ManagedEntity;
 use managed_entity::class::{MAPPER, VLAN};
-use mib_state::{Mib, VlanConfig};
+use mib_state::{Mib, Touch, VlanConfig};
 use pmapper::Mapper;
 use port_plan::{CompiledTable, PortPlan, Routes};
 use std::alloc::{AllocError, Global};
@@ -19,12 +19,12 @@ use std::alloc::{AllocError, Global};
 impl Plan {
     ghost use Rattle.std.specs.Prelude.{◌≡◌, IfOk};
     ghost use Rattle.mib_state.specs.Entities.{Entities, nothing};
-    ghost use Rattle.mib_state.specs.Touch.{AreSameButOne};
+    ghost use Rattle.mib_state.specs.Touch.{AreSameButOne, IsTouch};
     ghost use Rattle.port_plan.specs.Leaving.{IsPlanOf};
-    ghost use Rattle.forward_plan.specs.Compiled.{IsCompiled};
+    ghost use Rattle.forward_plan.specs.Compiled.{IsBehind, IsCompiled};
 
     /// The plan of no entities, with room for all that there may be.
-    pub(crate) fn new(alloc: Global) -> Result<Self, AllocError>
+    pub fn new(alloc: Global) -> Result<Self, AllocError>
         ensures { IfOk result (IsCompiled nothing) }
     {
         Ok(Plan {
@@ -38,7 +38,7 @@ impl Plan {
 
     /// The plan of a port.
     #[inline(always)]
-    pub(crate) fn port(&self, port: u16) -> PortPlan<'_>
+    pub fn port(&self, port: u16) -> PortPlan<'_>
         ensures { (e : Entities) → IsCompiled e self.now → IsPlanOf e port result }
     {
         let attached = self.ports.at(port);
@@ -50,7 +50,7 @@ impl Plan {
 
     /// Becomes the plan of entities, every part of it compiled anew, and says how many tables and mappers those were. It takes no
     /// memory.
-    pub(crate) fn compile(&mut self, mib: &Mib) -> (u16, u16)
+    pub fn compile(&mut self, mib: &Mib) -> (u16, u16)
         ensures { IsCompiled mib.now.entities self.new }
     {
         forget_all(&mut self.tables);
@@ -61,9 +61,53 @@ impl Plan {
         (tables, mappers)
     }
 
+    /// Forgets what was compiled of what a step touched. The plan then lags behind the entities that the step left, until it is
+    /// refreshed. Any number of steps may be forgotten so. It takes no memory.
+    pub fn invalidate(&mut self, touch: Touch)
+        ensures { (old new : Entities) → IsTouch old new touch → IsBehind old self.old → IsBehind new self.new }
+    {
+        match touch {
+            Touch::Nothing => {}
+            Touch::One { class, instance } => self.forget_one(class, instance),
+            Touch::All => self.forget_parts(),
+        }
+    }
+
+    /// The same, where one instance was touched.
+    fn forget_one(&mut self, class: u16, instance: u16)
+        ensures { (old new : Entities) → AreSameButOne class instance old new → IsBehind old self.old
+            → IsBehind new self.new }
+    {
+        match class {
+            VLAN => forget(&mut self.tables, instance),
+            MAPPER => forget(&mut self.mappers, instance),
+            _ => forget_readers(&mut self.mappers, class, instance),
+        }
+    }
+
+    /// Forgets of which instance each part is.
+    fn forget_parts(&mut self)
+        ensures { (old new : Entities) → IsBehind old self.old → IsBehind new self.new }
+    {
+        forget_all(&mut self.tables);
+        forget_all(&mut self.mappers);
+    }
+
+    /// Becomes the plan of entities that it lags behind, and says how many tables and mappers were compiled: those whose parts were
+    /// forgotten, and no other. It takes no memory.
+    pub fn refresh(&mut self, mib: &Mib) -> (u16, u16)
+        requires { IsBehind mib.now.entities self.old }
+        ensures { IsCompiled mib.now.entities self.new }
+    {
+        self.ports.follow(mib);
+        let tables = follow_tables(&mut self.tables, mib);
+        let mappers = follow_mappers(&mut self.mappers, mib);
+        (tables, mappers)
+    }
+
     /// Becomes the plan of entities that have changed in one instance, and says how many tables and mappers were compiled. Only
     /// what read the instance is compiled again. It takes no memory.
-    pub(crate) fn follow(&mut self, mib: &Mib, class: u16, instance: u16) -> (u16, u16)
+    pub(crate) fn follow_one(&mut self, mib: &Mib, class: u16, instance: u16) -> (u16, u16)
         requires { (e : Entities) × AreSameButOne class instance e mib.now.entities × IsCompiled e self.old }
         ensures { IsCompiled mib.now.entities self.new }
     {

@@ -24,4 +24,5 @@ mod setting;
 
 pub use frame_meaning::{NoMemory, OutFrame, Reason, Verdict, plain_walk};
 pub use live::Live;
+pub use plan::Plan;
 pub use port_plan::PortPlan;

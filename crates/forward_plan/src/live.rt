@@ -56,13 +56,13 @@ impl Live {
     pub fn apply(&mut self, request: &Request)
         ensures { self.new ≡ left request.now.action self.old request.now }
     {
-        let (_, touch) = self.mib.step_touching(request);
+        let touch = self.mib.carry_out(request).touch;
         self.rebuilt = match touch {
             Touch::Nothing => (0, 0),
-            Touch::One(class, instance) if matches!(request.action, Action::Set) => {
+            Touch::One { class, instance } if matches!(request.action, Action::Set) => {
                 self.plan.set(&self.mib, class, instance)
             }
-            Touch::One(class, instance) => self.plan.follow(&self.mib, class, instance),
+            Touch::One { class, instance } => self.plan.follow_one(&self.mib, class, instance),
             Touch::All => self.plan.compile(&self.mib),
         };
     }

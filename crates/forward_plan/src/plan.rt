@@ -8,9 +8,9 @@ use crate::ports::Ports;
 use port_plan::{CompiledTable, Routes};
 
 /// What is compiled of the managed entities: for each table its index and treatments, for each mapper its routes, and for each
-/// port what is attached to it.
+/// port what is attached to it. It is seen only by what it says of entities: that it is compiled of them, or lags behind them.
 #[derive(Drop)]
-pub(crate) struct Plan {
+pub struct Plan {
     pub(crate) ports: Ports,
     // By the place of a table among the held ones; those behind them stand ready.
     pub(crate) tables: Vec<Part<CompiledTable>>,

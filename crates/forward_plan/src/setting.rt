@@ -27,7 +27,7 @@ impl Plan {
         match class {
             VLAN => self.set_table(mib, instance),
             MAPPER => self.set_mapper(mib, instance),
-            _ => self.follow(mib, class, instance),
+            _ => self.follow_one(mib, class, instance),
         }
     }
 
@@ -38,7 +38,7 @@ impl Plan {
     {
         // An accepted Set finds its instance, so this is always one.
         let Some((place, number, vlan)) = table_at(mib, instance) else {
-            return self.follow(mib, VLAN, instance);
+            return self.follow_one(mib, VLAN, instance);
         };
         forget(&mut self.tables, instance);
         self.tables[place].follow(number, vlan);
@@ -54,7 +54,7 @@ impl Plan {
     {
         // As above.
         let Some((place, number, mapper)) = mapper_at(mib, instance) else {
-            return self.follow(mib, MAPPER, instance);
+            return self.follow_one(mib, MAPPER, instance);
         };
         forget(&mut self.mappers, instance);
         self.mappers[place].compile(number, mib, mapper);

@@ -3,7 +3,7 @@
 use Rattle.std.specs.Prelude.{ℕ, Bool, ◌||◌, ◌==◌, if◌then◌else◌, List, [], ◌∷◌, map, Option, Some, None, Result, Ok, Err, ok_or}
 use Rattle.std.specs.Option.{option_and_then, option_map}
 use Rattle.std.specs.Result.{result_map_both}
-use Rattle.tag_view.specs.Tag.{TagFields}
+use Rattle.tag_view.specs.Tag.{TagFields, customer_tpid}
 use Rattle.tag_view.specs.Frame.{Reading, frame_of, type_at}
 use Rattle.tag_view.specs.Dscp.{dscp_of}
 use Rattle.vlan_rule.specs.declared.settings.TableSettings.{TableSettings}
@@ -48,9 +48,9 @@ table_of vlan =
 unfoldable pub table_at : Entities → ℕ → Option Table
 table_at e port = option_map table_of (option_and_then (λ n. find n e.vlans) (table_of_port e port))
 
--- the type that begins a tag, beside the two of IEEE 802.1Q: the table's input TPID, or 0x8100 without a table
+-- the type that begins a tag, beside the two of IEEE 802.1Q: the table's input TPID, or a customer's without a table
 unfoldable pub input_tpid_of : Option Table → ℕ
-input_tpid_of None = 0x8100
+input_tpid_of None = customer_tpid
 input_tpid_of (Some table) = table.settings.input_tpid
 
 -- the entry of a table that is used for a frame

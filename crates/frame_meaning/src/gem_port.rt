@@ -12,7 +12,10 @@ use tag_view::Tag;
 /// The mapper of a port.
 #[tactic(auto, unfolding(crate::specs::Meaning::mapper_at))]
 fn mapper_at(mib: &Mib, port: u16) -> Option<&Mapper>
-    ensures { MatchOption result (mapper_at mib.now.entities port ≡ None) (λ mapper. (n : ℕ) × (mapper_at mib.now.entities port ≡ Some (mapper_instance n mapper.now))) }
+    ensures { MatchOption result
+        (mapper_at mib.now.entities port ≡ None)
+        (λ mapper. (n : ℕ)
+        × (mapper_at mib.now.entities port ≡ Some (mapper_instance n mapper.now))) }
 {
     mib.mapper(mib.mapper_of_port(port)?)
 }
@@ -56,7 +59,8 @@ fn gem_port_behind(mib: &Mib, point: &Interwork) -> Result<u16, Reason>
 #[tactic(auto, unfolding(crate::specs::Meaning::gem_port_of))]
 pub fn gem_port_of(mib: &Mib, mapper: &Mapper, priority: u8) -> Result<u16, Reason>
     requires { priority < 8 }
-    ensures { (n : ℕ) → result ≡ gem_port_of mib.now.entities (mapper_instance n mapper.now) priority }
+    ensures { (n : ℕ)
+        → result ≡ gem_port_of mib.now.entities (mapper_instance n mapper.now) priority }
 {
     let pointer = pointer_of(mapper, priority).ok_or(Reason::NullPointer)?;
     let point = mib.interwork(pointer).ok_or(Reason::NoInterwork)?;

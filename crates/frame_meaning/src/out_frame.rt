@@ -24,14 +24,19 @@ impl<'a> Model for OutFrame<'a> {
 
     ghost Value = { Reading };
 
-    ghost view = { λ f. record { addresses = f.addresses.now; tags = take f.count f.tags; rest = f.rest.now } };
+    ghost view = { λ f. record {
+      addresses = f.addresses.now;
+      tags = take f.count f.tags;
+      rest = f.rest.now;
+    } };
 
     ghost invariant = { λ f. f.count ≤ 4 };
 }
 
 impl<'a> OutFrame<'a> {
-    ghost use Rattle.std.specs.Prelude.{◌≡◌, ◌≤◌, ◌+◌, ◌*◌, length, take, drop, map};
+    ghost use Rattle.std.specs.Prelude.{◌≡◌, ◌≤◌, ◌+◌, ◌*◌, length, take, map};
     ghost use Rattle.tag_view.specs.Word.{tag_of};
+    ghost use Rattle.tag_view.specs.Frame.{with_tags};
 
     /// A frame that was read, with other tags, outermost first.
     pub fn new(frame: &FrameView<'a>, tags: ArrayVec<Tag, 4>) -> Self
@@ -50,7 +55,7 @@ impl<'a> OutFrame<'a> {
     pub fn of_words(bytes: &'a [u8], received: usize, words: [u32; 4], count: usize) -> Self
         requires whole { 14 + 4 * received ≤ length bytes.now }
         requires four { count ≤ 4 }
-        ensures { result ≡ record { addresses = take 12 bytes.now; tags = map tag_of (take count words); rest = drop (12 + 4 * received) bytes.now } }
+        ensures { result ≡ with_tags bytes.now received (map tag_of (take count words)) }
     {
         OutFrame {
             addresses: &bytes[..12],
@@ -65,7 +70,7 @@ impl<'a> OutFrame<'a> {
     pub fn of_two_words(bytes: &'a [u8], received: usize, words: [u32; 4], count: usize) -> Self
         requires whole { 14 + 4 * received ≤ length bytes.now }
         requires two { count ≤ 2 }
-        ensures { result ≡ record { addresses = take 12 bytes.now; tags = map tag_of (take count words); rest = drop (12 + 4 * received) bytes.now } }
+        ensures { result ≡ with_tags bytes.now received (map tag_of (take count words)) }
     {
         OutFrame {
             addresses: &bytes[..12],

@@ -16,12 +16,12 @@ impl From<AllocError> for NoMemory {
 
 impl<'a> OutFrame<'a> {
     ghost use Rattle.std.specs.Prelude.{◌≡◌, ◌+◌, ◌<◌, ◌++◌, length, OnOk, OnErr, vec_len, vec_capacity};
-    ghost use Rattle.tag_view.specs.Frame.{spelled};
+    ghost use Rattle.tag_view.specs.Frame.{frame_bytes};
 
     /// The number of its bytes.
     #[tactic(auto, using(crate::proofs::Spellings::spelled_lengths))]
     pub fn len(&self) -> u128
-        ensures { result ≡ length (spelled self.now.addresses self.now.tags self.now.rest) }
+        ensures { result ≡ length (frame_bytes self.now) }
     {
         self.addresses().len() as u128 + 4 * self.tags().len() as u128 + self.rest().len() as u128
     }
@@ -29,9 +29,10 @@ impl<'a> OutFrame<'a> {
     /// Appends the bytes of the frame.
     #[tactic(auto, using(crate::proofs::Spellings::spelled_lengths))]
     pub fn append_to(&self, bytes: &mut Vec<u8>) -> Result<(), NoMemory>
-        ensures appended { OnOk result (bytes.new.items ≡ bytes.old.items ++ spelled self.now.addresses self.now.tags self.now.rest) }
+        ensures appended { OnOk result (bytes.new.items ≡ bytes.old.items ++ frame_bytes self.now) }
         ensures unchanged { OnErr result (bytes.new.items ≡ bytes.old.items) }
-        ensures full { OnErr result (vec_capacity bytes.old < vec_len bytes.old + length (spelled self.now.addresses self.now.tags self.now.rest)) }
+        ensures full { OnErr result
+            (vec_capacity bytes.old < vec_len bytes.old + length (frame_bytes self.now)) }
     {
         let len = usize::try_from(self.len()).map_err(|_| NoMemory)?;
         bytes.reserve(len)?;

@@ -6,12 +6,9 @@ use crate::reason::Reason;
 use arrayvec::ArrayVec;
 use mib_state::{Mib, VlanConfig};
 use std::marker::Model;
-use tag_view::{DscpMap, FrameView, Tag};
+use tag_view::{CUSTOMER_TPID, DscpMap, FrameView, Tag};
 use treatment::{Treated, treat};
 use vlan_rule::{Rule, RuleTable, TableSettings};
-
-/// The TPID of a customer's tag (IEEE 802.1Q, clause 9.6).
-const CUSTOMER_TPID: u16 = 0x8100;
 
 /// The table of a port: its rules, and what they are applied with.
 #[derive(Drop)]
@@ -60,7 +57,9 @@ impl<'m> PortTable<'m> {
     pub fn rule_for(&self, frame: &FrameView) -> Option<&'m Rule>
         ensures { MatchOption result
             (entry_for self.now frame.now ≡ None)
-            (λ rule. (entry : List ℕ) × (entry_for self.now frame.now ≡ Some entry) × IsRuleOf entry rule.now) }
+            (λ rule. (entry : List ℕ)
+            × (entry_for self.now frame.now ≡ Some entry)
+            × IsRuleOf entry rule.now) }
     {
         let place = self.rules.walk(frame, self.settings.input_tpid)?;
         self.rules.rule(place)
@@ -83,7 +82,11 @@ impl<'m> PortTable<'m> {
 
 /// What a table's rules are applied with.
 pub fn settings_of(input_tpid: u16, output_tpid: u16, dscp_map: DscpMap) -> TableSettings
-    ensures { result ≡ record { input_tpid = input_tpid; output_tpid = output_tpid; dscp_map = dscp_map } }
+    ensures { result ≡ record {
+      input_tpid = input_tpid;
+      output_tpid = output_tpid;
+      dscp_map = dscp_map;
+    } }
 {
     TableSettings {
         input_tpid,

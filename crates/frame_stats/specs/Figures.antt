@@ -1,9 +1,9 @@
 -- What is counted of the verdicts on frames.
-use Rattle.std.specs.Prelude.{◌≡◌, ◌≢◌, ◌<◌, ◌≤◌, ◌^◌, ℕ, ◌+◌, ◌-◌, ◌==◌, Bool, false, List, length, take, filter, slice_index, unwrap_or, Some}
+use Rattle.std.specs.Prelude.{◌≡◌, ◌≢◌, ◌<◌, ◌≤◌, ◌^◌, ℕ, ◌+◌, ◌-◌, ◌==◌, Bool, false, if◌then◌else◌, List, length, take, filter, slice_index, unwrap_or, Some}
 use Rattle.std.specs.List.{sum_by}
 use Rattle.std.specs.Ordering.{nat_cmp}
 use Rattle.std.specs.BTreeMap.{BTreeMap, get}
-use Rattle.tag_view.specs.Frame.{spelled}
+use Rattle.tag_view.specs.Frame.{frame_bytes}
 use Rattle.frame_meaning.specs.declared.reason.Reason.{Reason}
 use Rattle.frame_meaning.specs.declared.verdict.Verdict.{Verdict}
 use Rattle.frame_meaning.specs.declared.verdict.Verdict.TheVariants.{Forward, Drop}
@@ -21,7 +21,7 @@ pub data Figure : Type 0 where
 
 -- the bytes that leave with a verdict
 abbrev pub bytes_leaving : Verdict → ℕ
-bytes_leaving (Forward gem frame) = length (spelled frame.addresses frame.tags frame.rest)
+bytes_leaving (Forward gem frame) = length (frame_bytes frame)
 bytes_leaving (Drop reason) = 0
 
 abbrev pub is_drop_for : Reason → Verdict → Bool
@@ -51,6 +51,11 @@ counted c Frames = c.frames
 counted c Bytes = c.bytes
 counted c (DropsFor reason) = slice_index c.drops (number_of_reason reason - 1)
 counted c (FramesTo port) = at_port c.ports port
+
+-- a GEM port has more frames, and every other as many as before
+abbrev pub AddsFrames : ℕ → ℕ → BTreeMap ℕ ℕ → BTreeMap ℕ ℕ → Type 0
+AddsFrames gem frames old new =
+    (port : ℕ) → at_port new port ≡ at_port old port + (if gem == port then frames else 0)
 
 -- no entry is 0
 abbrev pub HasNoZeros : BTreeMap ℕ ℕ → Type 0

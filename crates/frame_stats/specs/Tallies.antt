@@ -1,6 +1,6 @@
 -- Counts on the way.
 use Rattle.std.specs.Prelude.{ℕ, ◌+◌, ◌==◌, length, if◌then◌else◌}
-use Rattle.tag_view.specs.Frame.{spelled}
+use Rattle.tag_view.specs.Frame.{frame_bytes}
 use Rattle.frame_meaning.specs.declared.reason.Reason.{Reason}
 use Rattle.frame_meaning.specs.declared.verdict.Verdict.{Verdict}
 use Rattle.frame_meaning.specs.declared.verdict.Verdict.TheVariants.{Forward, Drop}
@@ -27,7 +27,7 @@ dropping (FramesTo port) found = 0
 
 -- what a verdict adds
 abbrev pub weight : Figure → Verdict → ℕ
-weight f (Forward gem frame) = leaving f gem (length (spelled frame.addresses frame.tags frame.rest))
+weight f (Forward gem frame) = leaving f gem (length (frame_bytes frame))
 weight f (Drop found) = dropping f found
 
 -- ---- ports

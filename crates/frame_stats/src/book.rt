@@ -72,11 +72,14 @@ impl StatBook {
     /// then [`StatFault::NoMemory`].
     pub fn add(&mut self, lane: u16, counts: &Counts) -> Result<(), StatFault>
         ensures total { OnOk result (IsMore (total_of self.old) counts.now (total_of self.new)) }
-        ensures parts { OnOk result (AddsTo lane counts.now (parts_of self.old) (parts_of self.new)) }
+        ensures parts { OnOk result
+            (AddsTo lane counts.now (parts_of self.old) (parts_of self.new)) }
         ensures unchanged { OnErr result (self.new ≡ self.old) }
         ensures lane { IsErrOf result StatFault.Lane ↔ (lanes_of self.old ≤ lane) }
-        ensures full { IsErrOf result StatFault.CountFull ↔ ((lane < lanes_of self.old) × SomeSumPasses (total_of self.old) counts.now) }
-        ensures memory { IsErrOf result StatFault.NoMemory → (lane < lanes_of self.old) × AllSumsFit (total_of self.old) counts.now }
+        ensures full { IsErrOf result StatFault.CountFull
+            ↔ ((lane < lanes_of self.old) × SomeSumPasses (total_of self.old) counts.now) }
+        ensures memory { IsErrOf result StatFault.NoMemory
+            → (lane < lanes_of self.old) × AllSumsFit (total_of self.old) counts.now }
     {
         let at = usize::from(lane);
         if at >= self.parts.len() {

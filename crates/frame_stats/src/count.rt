@@ -1,6 +1,6 @@
 //! Counts of a list of verdicts.
 ghost use Rattle.std.specs.Prelude.{◌≡◌, ◌+◌, ◌-◌, ◌≤◌, ◌<◌, ◌^◌, ℕ, IfOk, OnOk, IsErrOf, MatchOption, length, slice_index};
-ghost use Rattle.tag_view.specs.Frame.{spelled};
+ghost use Rattle.tag_view.specs.Frame.{frame_bytes};
 ghost use Rattle.frame_meaning.specs.Reason.{number_of_reason};
 ghost use Rattle.frame_meaning.specs.declared.reason.Reason.{Reason};
 ghost use Rattle.frame_stats.specs.Figures.{AreCountsOf, Bytes, DropsFor, FramesTo, NamesPort, SomePasses};
@@ -20,7 +20,8 @@ use std::alloc::Global;
 pub fn count_of(alloc: Global, verdicts: &[Verdict<'_>]) -> Result<Counts, CountFault>
     ensures counts { IfOk result (λ c. AreCountsOf verdicts.now c) }
     ensures full { IsErrOf result CountFault.CountFull → SomePasses verdicts.now }
-    ensures memory { IsErrOf result CountFault.NoMemory → (place : ℕ) × NamesPort verdicts.now place }
+    ensures memory { IsErrOf result CountFault.NoMemory
+        → (place : ℕ) × NamesPort verdicts.now place }
 {
     let frames = verdicts.len() as u64;
     let mut bytes = 0;
@@ -52,15 +53,22 @@ fn note(
     drops: &mut [u64; 9],
     ports: &mut PortTally,
 ) -> Result<(), CountFault>
-    requires few_drops { (reason : Reason) → slice_index drops.old (number_of_reason reason - 1) + 1 < 2 ^ 64 }
+    requires few_drops { (reason : Reason)
+        → slice_index drops.old (number_of_reason reason - 1) + 1 < 2 ^ 64 }
     requires few_frames { (port : ℕ) → frames_of ports.old port + 1 < 2 ^ 64 }
     ensures bytes { OnOk result (bytes.new ≡ bytes.old + weight Bytes verdict.now) }
     ensures fits { OnOk result (bytes.new < 2 ^ 64) }
-    ensures drops { OnOk result ((reason : Reason) →
-        slice_index drops.new (number_of_reason reason - 1) ≡ slice_index drops.old (number_of_reason reason - 1) + weight (DropsFor reason) verdict.now) }
-    ensures ports { OnOk result ((port : ℕ) → frames_of ports.new port ≡ frames_of ports.old port + weight (FramesTo port) verdict.now) }
-    ensures full { IsErrOf result CountFault.CountFull → (2 ^ 64 ≤ bytes.old + weight Bytes verdict.now) × (ports.new ≡ ports.old) }
-    ensures memory { IsErrOf result CountFault.NoMemory → (port : ℕ) × (0 < frames_of ports.old port) }
+    ensures drops { OnOk result ((reason : Reason)
+        → slice_index drops.new (number_of_reason reason - 1)
+        ≡ slice_index drops.old (number_of_reason reason - 1)
+        + weight (DropsFor reason) verdict.now) }
+    ensures ports { OnOk result ((port : ℕ)
+        → frames_of ports.new port
+        ≡ frames_of ports.old port + weight (FramesTo port) verdict.now) }
+    ensures full { IsErrOf result CountFault.CountFull
+        → (2 ^ 64 ≤ bytes.old + weight Bytes verdict.now) × (ports.new ≡ ports.old) }
+    ensures memory { IsErrOf result CountFault.NoMemory
+        → (port : ℕ) × (0 < frames_of ports.old port) }
 {
     let so_far = *bytes;
     match verdict {
@@ -85,8 +93,9 @@ fn note(
 #[inline(always)]
 #[tactic(auto, using(frame_meaning::proofs::Spellings::spelled_lengths))]
 fn with_frame(bytes: u64, frame: &OutFrame<'_>) -> Option<u64>
-    ensures { MatchOption result (2 ^ 64 ≤ bytes + length (spelled frame.now.addresses frame.now.tags frame.now.rest))
-        (λ sum. sum ≡ bytes + length (spelled frame.now.addresses frame.now.tags frame.now.rest)) }
+    ensures { MatchOption result
+        (2 ^ 64 ≤ bytes + length (frame_bytes frame.now))
+        (λ sum. sum ≡ bytes + length (frame_bytes frame.now)) }
 {
     let before_rest = frame.addresses().len() + 4 * frame.tags().len();
     let len = before_rest.checked_add(frame.rest().len())?;

@@ -34,7 +34,9 @@ impl PortTally {
     #[inline(always)]
     pub(crate) fn note(&mut self, gem: u16) -> Result<(), AllocError>
         requires { (port : ℕ) → frames_of self.old port + 1 < 2 ^ 64 }
-        ensures counted { OnOk result ((port : ℕ) → frames_of self.new port ≡ frames_of self.old port + (if gem == port then 1 else 0)) }
+        ensures counted { OnOk result ((port : ℕ)
+            → frames_of self.new port
+            ≡ frames_of self.old port + (if gem == port then 1 else 0)) }
         ensures memory { OnErr result ((port : ℕ) × (0 < frames_of self.old port)) }
     {
         let place = place_of(gem);
@@ -56,7 +58,9 @@ impl PortTally {
     #[inline(never)]
     fn begin_run(&mut self, gem: u16) -> Result<(), AllocError>
         requires { (port : ℕ) → frames_of self.old port + 1 < 2 ^ 64 }
-        ensures counted { OnOk result ((port : ℕ) → frames_of self.new port ≡ frames_of self.old port + (if gem == port then 1 else 0)) }
+        ensures counted { OnOk result ((port : ℕ)
+            → frames_of self.new port
+            ≡ frames_of self.old port + (if gem == port then 1 else 0)) }
         ensures memory { OnErr result ((port : ℕ) × (0 < frames_of self.old port)) }
     {
         let place = place_of(gem);
@@ -75,7 +79,8 @@ impl PortTally {
     #[inline(always)]
     pub(crate) fn finish(self) -> Result<BTreeMap<u16, u64>, AllocError>
         requires { (port : ℕ) → frames_of self port < 2 ^ 64 }
-        ensures counted { IfOk result (λ ports. (port : ℕ) → at_port ports port ≡ frames_of self port) }
+        ensures counted { IfOk result (λ ports.
+            (port : ℕ) → at_port ports port ≡ frames_of self port) }
         ensures no_zeros { IfOk result (λ ports. HasNoZeros ports) }
         ensures memory { OnErr result ((port : ℕ) × (0 < frames_of self port)) }
     {
@@ -91,7 +96,8 @@ impl PortTally {
 #[inline(never)]
 fn end_runs(ports: &mut BTreeMap<u16, u64>, runs: &[Run]) -> Result<(), AllocError>
     requires { (port : ℕ) → at_port ports.old port + in_runs port runs.now < 2 ^ 64 }
-    ensures added { OnOk result ((port : ℕ) → at_port ports.new port ≡ at_port ports.old port + in_runs port runs.now) }
+    ensures added { OnOk result ((port : ℕ)
+        → at_port ports.new port ≡ at_port ports.old port + in_runs port runs.now) }
     ensures no_zeros { HasNoZeros ports.old → HasNoZeros ports.new }
     ensures memory { OnErr result ((port : ℕ) × (0 < in_runs port runs.now)) }
 {

@@ -1,8 +1,8 @@
 //! Frames of GEM ports, in a map.
-ghost use Rattle.std.specs.Prelude.{◌≡◌, ◌+◌, ◌≤◌, ◌<◌, ◌^◌, ◌==◌, ℕ, OnOk, IsErrOf, IsSome, MatchBool, if◌then◌else◌};
+ghost use Rattle.std.specs.Prelude.{◌≡◌, ◌+◌, ◌≤◌, ◌<◌, ◌^◌, ℕ, OnOk, IsErrOf, IsSome, MatchBool};
 ghost use Rattle.std.specs.Ordering.{nat_cmp};
 ghost use Rattle.std.specs.BTreeMap.{get};
-ghost use Rattle.frame_stats.specs.Figures.{at_port, HasNoZeros};
+ghost use Rattle.frame_stats.specs.Figures.{AddsFrames, at_port, HasNoZeros};
 
 use crate::fault::CountFault;
 use std::collections::BTreeMap;
@@ -14,9 +14,10 @@ pub(crate) fn add_frames(
     gem: u16,
     frames: u64,
 ) -> Result<(), CountFault>
-    ensures added { OnOk result ((port : ℕ) → at_port ports.new port ≡ at_port ports.old port + (if gem == port then frames else 0)) }
+    ensures added { OnOk result (AddsFrames gem frames ports.old ports.new) }
     ensures full { IsErrOf result CountFault.CountFull → 2 ^ 64 ≤ at_port ports.old gem + frames }
-    ensures absent { IsErrOf result CountFault.NoMemory → (0 < frames) × (get nat_cmp ports.old gem ≡ None) }
+    ensures absent { IsErrOf result CountFault.NoMemory
+        → (0 < frames) × (get nat_cmp ports.old gem ≡ None) }
     ensures no_zeros { HasNoZeros ports.old → HasNoZeros ports.new }
 {
     if frames == 0 {
@@ -29,7 +30,7 @@ pub(crate) fn add_frames(
 #[inline(never)]
 fn add_some(ports: &mut BTreeMap<u16, u64>, gem: u16, frames: u64) -> Result<(), CountFault>
     requires { 0 < frames }
-    ensures added { OnOk result ((port : ℕ) → at_port ports.new port ≡ at_port ports.old port + (if gem == port then frames else 0)) }
+    ensures added { OnOk result (AddsFrames gem frames ports.old ports.new) }
     ensures full { IsErrOf result CountFault.CountFull → 2 ^ 64 ≤ at_port ports.old gem + frames }
     ensures absent { IsErrOf result CountFault.NoMemory → get nat_cmp ports.old gem ≡ None }
     ensures no_zeros { HasNoZeros ports.old → HasNoZeros ports.new }
@@ -46,7 +47,7 @@ fn add_some(ports: &mut BTreeMap<u16, u64>, gem: u16, frames: u64) -> Result<(),
 #[inline(never)]
 fn add_before(ports: &mut BTreeMap<u16, u64>, gem: u16, before: u64) -> Result<(), CountFault>
     requires { IsSome (get nat_cmp ports.old gem) }
-    ensures added { OnOk result ((port : ℕ) → at_port ports.new port ≡ at_port ports.old port + (if gem == port then before else 0)) }
+    ensures added { OnOk result (AddsFrames gem before ports.old ports.new) }
     ensures full { IsErrOf result CountFault.CountFull → 2 ^ 64 ≤ at_port ports.old gem + before }
     ensures no_memory { ¬ (IsErrOf result CountFault.NoMemory) }
     ensures no_zeros { HasNoZeros ports.old → HasNoZeros ports.new }
@@ -64,7 +65,8 @@ pub(crate) fn add_all(
     ports: &mut BTreeMap<u16, u64>,
     others: &BTreeMap<u16, u64>,
 ) -> Result<(), CountFault>
-    ensures added { OnOk result ((port : ℕ) → at_port ports.new port ≡ at_port ports.old port + at_port others.now port) }
+    ensures added { OnOk result ((port : ℕ)
+        → at_port ports.new port ≡ at_port ports.old port + at_port others.now port) }
     ensures full { IsErrOf result CountFault.CountFull →
         (port : ℕ) × (2 ^ 64 ≤ at_port ports.old port + at_port others.now port) }
     ensures no_zeros { HasNoZeros ports.old → HasNoZeros ports.new }
@@ -79,7 +81,9 @@ pub(crate) fn add_all(
 
 /// Whether the sums of both have 64 bits.
 pub(crate) fn ports_fit(ports: &BTreeMap<u16, u64>, others: &BTreeMap<u16, u64>) -> bool
-    ensures { MatchBool result ((port : ℕ) → 0 < at_port others.now port → at_port ports.now port + at_port others.now port < 2 ^ 64)
+    ensures { MatchBool result
+        ((port : ℕ) → 0 < at_port others.now port
+        → at_port ports.now port + at_port others.now port < 2 ^ 64)
         ((port : ℕ) × (2 ^ 64 ≤ at_port ports.now port + at_port others.now port)) }
 {
     for (gem, frames) in others {

@@ -47,7 +47,8 @@ pub fn counts_sum(alloc: Global, a: &Counts, b: &Counts) -> Result<Counts, Count
 
 /// The sums place by place.
 fn drops_sum(a: &[u64; 9], b: &[u64; 9]) -> Option<[u64; 9]>
-    ensures { MatchOption result ((k : ℕ) × (k < 9) × (2 ^ 64 ≤ slice_index a.now k + slice_index b.now k))
+    ensures { MatchOption result
+        ((k : ℕ) × (k < 9) × (2 ^ 64 ≤ slice_index a.now k + slice_index b.now k))
         (λ s. (k : ℕ) → k < 9 → (slice_index s k ≡ slice_index a.now k + slice_index b.now k)
         × (slice_index a.now k + slice_index b.now k < 2 ^ 64)) }
 {

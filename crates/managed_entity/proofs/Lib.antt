@@ -6,3 +6,4 @@ pub mod Gathered
 pub mod Returned
 pub mod Entry
 pub mod SetInstance
+pub mod Unknown

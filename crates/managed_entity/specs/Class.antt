@@ -6,6 +6,8 @@ use Rattle.vlan_rule.specs.Table.{predefined, table_max_size}
 use Rattle.managed_entity.specs.declared.attribute.Access.{Access}
 use Rattle.managed_entity.specs.declared.attribute.Access.TheVariants.{SetByCreate, Writable, ReadOnly, Table}
 use Rattle.managed_entity.specs.declared.attribute.Attribute.{Attribute}
+use Rattle.managed_entity.specs.declared.class.Class.{Class}
+use Rattle.managed_entity.specs.declared.class.Class.TheVariants.{OnuData, Mapper, Vlan, Interwork, GemPort}
 
 -- ---- who may write an attribute
 
@@ -137,6 +139,25 @@ room_of class =
     else (if class == 171 then 16
     else (if class == 266 then 256
     else (if class == 268 then 256 else 0))))
+
+-- ---- the classes by name
+
+-- the number of a class
+abbrev pub class_number : Class → ℕ
+class_number OnuData = 2
+class_number Mapper = 130
+class_number Vlan = 171
+class_number Interwork = 266
+class_number GemPort = 268
+
+-- the class of a number, if it is known
+abbrev pub class_of : ℕ → Option Class
+class_of number =
+    if number == 2 then Some OnuData
+    else (if number == 130 then Some Mapper
+    else (if number == 171 then Some Vlan
+    else (if number == 266 then Some Interwork
+    else (if number == 268 then Some GemPort else None))))
 
 -- ---- what Create isn't given
 

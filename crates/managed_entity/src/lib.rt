@@ -29,6 +29,7 @@ mod write;
 
 pub use attribute::{Access, Attribute};
 pub use bytes::{Bytes, byte, one};
+pub use class::Class;
 pub use description::{AttributeKind, Description};
 pub use entity::ManagedEntity;
 pub use get::get_contents;

@@ -1,12 +1,13 @@
 -- A request that isn't accepted leaves the entities, and the latched table has no part in it.
-use Rattle.std.proofs.Common.{◌≡◌, [], ◌∷◌, List, refl, true, false, cond, ap, sym, ◌∙◌, nat_eq, Result, Ok, Err}
+use Rattle.std.proofs.Common.{◌≡◌, [], ◌∷◌, List, refl, true, false, cond, ap, sym, ◌∙◌, nat_eq, Result, Ok, Err, is_ok}
 use Rattle.std.specs.Prelude.{◌&&◌, slice_index}
 use mathlib.Core.Bool.{false≢true}
 use Rattle.omci_msg.specs.declared.Request.{Request}
 use Rattle.omci_msg.specs.declared.Action.{Action}
 use Rattle.omci_msg.specs.declared.Action.TheVariants.{Create, Delete, Set, Get, GetNext, MibUpload, MibUploadNext, MibReset, Other}
 use Rattle.managed_entity.specs.declared.refusal.Refusal.{Refusal}
-use Rattle.managed_entity.specs.Answer.{left_by, told}
+use Rattle.managed_entity.specs.declared.refusal.Refusal.TheVariants.{ProcessingError, NotSupported, ParameterError, UnknownEntity, UnknownInstance, InstanceExists, AttributesFailed}
+use Rattle.managed_entity.specs.Answer.{left_by, told, refused}
 use Rattle.mib_state.specs.Entities.{Entities, State, nothing, unlatched}
 use Rattle.mib_state.specs.Step.{create, delete, set, done, answered, left, step}
 use Rattle.mib_state.specs.After.{may_change, is_accepted, after_from, accepted_from, state_from, AcceptedSuffice, LatchIsNoEntity}
@@ -29,6 +30,68 @@ action_refused (Other code) e q h = refl
 
 pub left_by_refused : (e : Entities) (q : Request) → is_accepted e q ≡ false → left q.action e q ≡ e
 left_by_refused e q h = action_refused q.action e q h
+
+-- ---- what the decision says
+
+-- no refusal has the result of success
+not_success : (refusal : Refusal) → nat_eq (slice_index (refused refusal) 0) 0 ≡ false
+not_success ProcessingError = refl
+not_success NotSupported = refl
+not_success ParameterError = refl
+not_success UnknownEntity = refl
+not_success UnknownInstance = refl
+not_success InstanceExists = refl
+not_success (AttributesFailed optional execution) = refl
+
+done_succeeds : {A : Type 0} (r : Result A Refusal) → nat_eq (slice_index (told (done r)) 0) 0 ≡ is_ok (done r)
+done_succeeds (Ok new) = refl
+done_succeeds (Err refusal) = not_success refusal
+
+-- an action that isn't refused is accepted where it may change the entities
+ok_accepted : (a : Action) (s : State) (q : Request) → is_ok (answered a s q) ≡ true
+    → may_change a ≡ (may_change a && nat_eq (slice_index (told (answered a (unlatched s.entities) q)) 0) 0)
+ok_accepted Create s q ok = sym (done_succeeds (create s.entities q) ∙ ok)
+ok_accepted Delete s q ok = sym (done_succeeds (delete s.entities q) ∙ ok)
+ok_accepted Set s q ok = sym (done_succeeds (set s.entities q) ∙ ok)
+ok_accepted Get s q ok = refl
+ok_accepted GetNext s q ok = refl
+ok_accepted MibUpload s q ok = refl
+ok_accepted MibUploadNext s q ok = refl
+ok_accepted MibReset s q ok = refl
+ok_accepted (Other code) s q ok = refl
+
+-- one that is refused isn't
+err_accepted : (a : Action) (s : State) (q : Request) → is_ok (answered a s q) ≡ false
+    → false ≡ (may_change a && nat_eq (slice_index (told (answered a (unlatched s.entities) q)) 0) 0)
+err_accepted Create s q isnt = sym (done_succeeds (create s.entities q) ∙ isnt)
+err_accepted Delete s q isnt = sym (done_succeeds (delete s.entities q) ∙ isnt)
+err_accepted Set s q isnt = sym (done_succeeds (set s.entities q) ∙ isnt)
+err_accepted Get s q isnt = refl
+err_accepted GetNext s q isnt = refl
+err_accepted MibUpload s q isnt = refl
+err_accepted MibUploadNext s q isnt = refl
+err_accepted MibReset s q isnt = absurd (false≢true (sym isnt))
+err_accepted (Other code) s q isnt = refl
+
+pub accepted_by_ok : (s : State) (q : Request) → is_ok (answered q.action s q) ≡ true → may_change q.action ≡ is_accepted s.entities q
+accepted_by_ok s q ok = ok_accepted q.action s q ok
+
+pub accepted_by_err : (s : State) (q : Request) → is_ok (answered q.action s q) ≡ false → false ≡ is_accepted s.entities q
+accepted_by_err s q isnt = err_accepted q.action s q isnt
+
+-- an action that may not change the entities leaves them
+pub unchanging : (a : Action) (e : Entities) (q : Request) → may_change a ≡ false → left a e q ≡ e
+unchanging Create e q isnt = absurd (false≢true (sym isnt))
+unchanging Delete e q isnt = absurd (false≢true (sym isnt))
+unchanging Set e q isnt = absurd (false≢true (sym isnt))
+unchanging Get e q isnt = refl
+unchanging GetNext e q isnt = refl
+unchanging MibUpload e q isnt = refl
+unchanging MibUploadNext e q isnt = refl
+unchanging MibReset e q isnt = absurd (false≢true (sym isnt))
+unchanging (Other code) e q isnt = refl
+
+-- ---- accepted requests alone
 
 -- a request that isn't accepted can be left out anywhere
 suffices : (e : Entities) (qs : List Request) → after_from e (accepted_from e qs) ≡ after_from e qs

@@ -7,6 +7,7 @@ pub mod Counted
 pub mod Sync
 pub mod Answered
 pub mod Attached
+pub mod Standing
 pub mod Accepted
 pub mod Touched
 mod Examples

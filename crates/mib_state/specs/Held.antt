@@ -1,9 +1,9 @@
 -- One instance that a MIB holds, with its class.
-use Rattle.std.specs.Prelude.{ℕ, [], ◌∷◌}
+use Rattle.std.specs.Prelude.{ℕ, ◌≡◌, Some, slice_get, slice_index_or}
+use Rattle.managed_entity.specs.declared.class.Class.{Class}
+use Rattle.managed_entity.specs.Class.{class_number}
 use Rattle.managed_entity.specs.Instance.{Instance}
-use Rattle.managed_entity.specs.Shown.{mapper_instance, vlan_instance, interwork_instance, gem_port_instance}
-use Rattle.mib_state.specs.declared.held.HeldEntity.{HeldEntity}
-use Rattle.mib_state.specs.declared.held.HeldEntity.TheVariants.{OnuData, Mapper, Vlan, Interwork, GemPort}
+use Rattle.mib_state.specs.Entities.{Entities, blank, instances_of, number_at}
 
 -- an instance with its class
 pub record Entity : Type 0 where
@@ -13,10 +13,11 @@ pub record Entity : Type 0 where
 abbrev pub of_class : ℕ → Instance → Entity
 of_class class i = record { class = class; instance = i }
 
--- the managed entity of a number
-abbrev pub held_as : ℕ → HeldEntity → Entity
-held_as n (OnuData onu) = of_class 2 (record { number = n; values = (onu.now.sync ∷ []) ∷ []; entries = [] })
-held_as n (Mapper mapper) = of_class 130 (mapper_instance n mapper.now)
-held_as n (Vlan vlan) = of_class 171 (vlan_instance n vlan.now)
-held_as n (Interwork point) = of_class 266 (interwork_instance n point.now)
-held_as n (GemPort port) = of_class 268 (gem_port_instance n port.now)
+-- the instance that stands at a place of a class
+abbrev pub held_at : Entities → Class → ℕ → Entity
+held_at e class place = of_class (class_number class) (slice_index_or (instances_of e (class_number class)) place blank)
+
+-- an instance stands there, and has the number
+pub record IsHeld (e : Entities) (class : Class) (place n : ℕ) : Type 0 where
+  pub there : slice_get (instances_of e (class_number class)) place ≡ Some (slice_index_or (instances_of e (class_number class)) place blank)
+  pub has_number : n ≡ number_at (instances_of e (class_number class)) place

@@ -1,12 +1,14 @@
 //! Whether a request is refused, and what it is answered.
-ghost use Rattle.std.specs.Prelude.{◌≡◌};
+ghost use Rattle.std.specs.Prelude.{◌≡◌, IfErr, IfOk, is_ok};
+ghost use Rattle.managed_entity.specs.declared.refusal.Refusal.TheVariants.{UnknownEntity};
 ghost use Rattle.managed_entity.specs.Answer.{outcome_of, told};
+ghost use Rattle.managed_entity.specs.Class.{class_number, is_known};
 ghost use Rattle.mib_state.specs.Step.{answered, create, delete, done, get, get_next, held, result_of, set, step};
 
 use crate::latch::{TABLE_MASK, sequence_of};
 use crate::mib::Mib;
-use managed_entity::class::{GEM_PORT, INTERWORK, MAPPER, ONU_DATA, VLAN};
-use managed_entity::{Refusal, mask_of};
+use crate::store::of_store;
+use managed_entity::{Class, Refusal, mask_of};
 use omci_msg::{Action, Request};
 
 impl Mib {
@@ -14,74 +16,38 @@ impl Mib {
     fn check_create(&self, request: &Request) -> Result<(), Refusal>
         ensures { result ≡ outcome_of (create self.now.entities request.now) }
     {
-        match request.class {
-            ONU_DATA => Err(Refusal::NotSupported),
-            MAPPER => self.mappers.check_create(request),
-            VLAN => self.vlans.check_create(request),
-            INTERWORK => self.interworks.check_create(request),
-            GEM_PORT => self.gem_ports.check_create(request),
-            _ => Err(Refusal::UnknownEntity),
-        }
+        of_store!(self, known(request.class)?, check_create(request))
     }
 
     #[tactic(auto, using(crate::proofs::Counted::outcome_of_counted), unfolding(crate::specs::Step::delete))]
     fn check_delete(&self, request: &Request) -> Result<(), Refusal>
         ensures { result ≡ outcome_of (delete self.now.entities request.now) }
     {
-        match request.class {
-            ONU_DATA => Err(Refusal::NotSupported),
-            MAPPER => self.mappers.check_delete(request),
-            VLAN => self.vlans.check_delete(request),
-            INTERWORK => self.interworks.check_delete(request),
-            GEM_PORT => self.gem_ports.check_delete(request),
-            _ => Err(Refusal::UnknownEntity),
-        }
+        of_store!(self, known(request.class)?, check_delete(request))
     }
 
     #[tactic(auto, using(crate::proofs::Counted::outcome_of_counted), unfolding(crate::specs::Step::set))]
     fn check_set(&self, request: &Request) -> Result<(), Refusal>
         ensures { result ≡ outcome_of (set self.now.entities request.now) }
     {
-        match request.class {
-            ONU_DATA => self.onu_data.check_set(request),
-            MAPPER => self.mappers.check_set(request),
-            VLAN => self.vlans.check_set(request),
-            INTERWORK => self.interworks.check_set(request),
-            GEM_PORT => self.gem_ports.check_set(request),
-            _ => Err(Refusal::UnknownEntity),
-        }
+        of_store!(self, known(request.class)?, check_set(request))
     }
 
     #[tactic(auto, unfolding(crate::specs::Step::get))]
     fn get(&self, request: &Request) -> Result<[u8; 32], Refusal>
         ensures { result ≡ get self.now.entities request.now }
     {
-        match request.class {
-            ONU_DATA => self.onu_data.read(request),
-            MAPPER => self.mappers.read(request),
-            VLAN => self.vlans.read(request),
-            INTERWORK => self.interworks.read(request),
-            GEM_PORT => self.gem_ports.read(request),
-            _ => Err(Refusal::UnknownEntity),
-        }
+        of_store!(self, known(request.class)?, read(request))
     }
 
     /// Whether there is an instance of a class, or why there is none.
     fn check_held(&self, class: u16, instance: u16) -> Result<(), Refusal>
         ensures { result ≡ held self.now.entities class instance }
     {
-        let is_held = match class {
-            ONU_DATA => instance == 0,
-            MAPPER => self.mappers.get(instance).is_some(),
-            VLAN => self.vlans.get(instance).is_some(),
-            INTERWORK => self.interworks.get(instance).is_some(),
-            GEM_PORT => self.gem_ports.get(instance).is_some(),
-            _ => return Err(Refusal::UnknownEntity),
-        };
-        if is_held {
-            Ok(())
-        } else {
-            Err(Refusal::UnknownInstance)
+        known(class)?;
+        match self.place_of(class, instance) {
+            Some(_) => Ok(()),
+            None => Err(Refusal::UnknownInstance),
         }
     }
 
@@ -91,7 +57,7 @@ impl Mib {
         ensures { result ≡ get_next self.now request.now }
     {
         self.check_held(request.class, request.instance)?;
-        if request.class != VLAN || mask_of(&request.contents) != TABLE_MASK {
+        if request.class != Class::Vlan.number() || mask_of(&request.contents) != TABLE_MASK {
             return Err(Refusal::ParameterError);
         }
         self.latch
@@ -120,6 +86,15 @@ impl Mib {
     {
         told(self.decide(request))[0]
     }
+}
+
+/// The class of a number, or the refusal of one that isn't known.
+fn known(class: u16) -> Result<Class, Refusal>
+    ensures number { IfOk result (λ known. class ≡ class_number known) }
+    ensures known { is_ok result ≡ is_known class }
+    ensures refusal { IfErr result (λ refusal. refusal ≡ UnknownEntity) }
+{
+    Class::of(class).ok_or(Refusal::UnknownEntity)
 }
 
 /// The answer to a change, or why it is refused.

@@ -1,53 +1,54 @@
 //! An instance that a MIB holds, lent to be read.
-ghost use Rattle.std.specs.Prelude.{◌≡◌, ◌-◌, IfSome, Some, length, option_map};
-ghost use Rattle.managed_entity.specs.Class.{attributes_of, width_at};
+ghost use Rattle.std.specs.Prelude.{◌≡◌, ◌-◌, IfSome, Some, length, option_map, slice_get};
+ghost use Rattle.managed_entity.specs.Class.{attributes_of, class_number, width_at};
 ghost use Rattle.managed_entity.specs.Instance.{attribute_of};
+ghost use Rattle.mib_state.specs.Entities.{instances_of};
+ghost use Rattle.mib_state.specs.Held.{IsHeld, held_at};
 
-use crate::instances::attribute;
-use crate::onu_data::OnuData;
+use crate::mib::Mib;
 use arrayvec::ArrayVec;
-use managed_entity::VlanConfig;
-use managed_entity::class::{GEM_PORT, INTERWORK, MAPPER, ONU_DATA, VLAN};
-use pmapper::{GemPort, Interwork, Mapper};
+use managed_entity::Class;
 use std::marker::Model;
-
-/// A managed entity of each class.
-#[derive(Drop)]
-pub(crate) enum HeldEntity<'a> {
-    OnuData(&'a OnuData),
-    Mapper(&'a Mapper),
-    Vlan(&'a VlanConfig),
-    Interwork(&'a Interwork),
-    GemPort(&'a GemPort),
-}
 
 /// An instance that a MIB holds, lent to be read.
 #[derive(Drop)]
 pub struct HeldInstance<'a> {
-    pub(crate) number: u16,
-    pub(crate) entity: HeldEntity<'a>,
+    mib: &'a Mib,
+    class: Class,
+    /// Its place among the instances of its class.
+    place: usize,
+    number: u16,
 }
 
 impl<'a> Model for HeldInstance<'a> {
-    ghost use Rattle.mib_state.specs.Held.{Entity, held_as};
+    ghost use Rattle.mib_state.specs.Held.{Entity, IsHeld, held_at};
 
     ghost Value = { Entity };
 
-    ghost view = { λ h. held_as h.number h.entity };
+    ghost view = { λ h. held_at h.mib.now.entities h.class h.place };
+
+    ghost invariant = { λ h. IsHeld h.mib.now.entities h.class h.place h.number };
 }
 
-impl HeldInstance<'_> {
+impl<'a> HeldInstance<'a> {
+    /// The instance at a place of a class, which has this number.
+    pub(crate) fn new(mib: &'a Mib, class: Class, place: usize, number: u16) -> Self
+        requires { IsHeld mib.now.entities class place number }
+        ensures { result ≡ held_at mib.now.entities class place }
+    {
+        HeldInstance {
+            mib,
+            class,
+            place,
+            number,
+        }
+    }
+
     /// The number of its class.
     pub fn class(&self) -> u16
         ensures { result ≡ self.now.class }
     {
-        match &self.entity {
-            HeldEntity::OnuData(_) => ONU_DATA,
-            HeldEntity::Mapper(_) => MAPPER,
-            HeldEntity::Vlan(_) => VLAN,
-            HeldEntity::Interwork(_) => INTERWORK,
-            HeldEntity::GemPort(_) => GEM_PORT,
-        }
+        self.class.number()
     }
 
     /// Its number in the class.
@@ -63,12 +64,6 @@ impl HeldInstance<'_> {
         ensures width { IfSome result (λ bytes. length bytes.items ≡ width_at (attributes_of self.now.class) (n - 1)) }
     {
         let place = (n as usize).checked_sub(1)?;
-        match &self.entity {
-            HeldEntity::OnuData(data) => attribute(*data, place),
-            HeldEntity::Mapper(mapper) => attribute(*mapper, place),
-            HeldEntity::Vlan(vlan) => attribute(*vlan, place),
-            HeldEntity::Interwork(point) => attribute(*point, place),
-            HeldEntity::GemPort(port) => attribute(*port, place),
-        }
+        self.mib.attribute_at(self.class, self.place, place)
     }
 }

@@ -88,6 +88,25 @@ impl<E: ManagedEntity> Instances<E> {
         Some((row.number, &row.entity))
     }
 
+    /// The number of the instance at a place.
+    pub(crate) fn number_at(&self, place: usize) -> Option<u16>
+        ensures number { result ≡ option_map (λ (i : _). i.number) (slice_get self.now place) }
+        ensures room { IfSome result (λ number. place < E.ROOM) }
+    {
+        let (number, _) = self.at(place)?;
+        Some(number)
+    }
+
+    /// The attribute at a place of the instance at another; None for the table.
+    pub(crate) fn attribute_at(&self, at: usize, place: usize) -> Option<Bytes>
+        ensures value { option_map (λ (bytes : _). bytes.items) result
+            ≡ value_at E.layout place (slice_get self.now at) }
+        ensures width { IfSome result (λ bytes. length bytes.items ≡ width_at E.layout place) }
+    {
+        let (_, entity) = self.at(at)?;
+        attribute(entity, place)
+    }
+
     /// The place of the instance of a number.
     pub(crate) fn place_of(&self, number: u16) -> Option<usize>
         ensures place { result ≡ place_in number self.now }

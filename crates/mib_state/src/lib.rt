@@ -7,8 +7,8 @@
 //! The definition `step` over that value says what every request is answered and leaves.
 //!
 //! **A check, then a change.** `Mib::decide` says what a request is answered, and whether it is refused; nothing changes.
-//! `result_of` asks it alone; `step` asks it and then makes the change, which can't be refused. `step_touching` is that step,
-//! and says beside the reply which instance it touched ([`Touch`]).
+//! `result_of` asks it alone; `carry_out` asks it and then makes the change, which can't be refused. It says beside the reply
+//! which instance it touched and whether the request was accepted ([`Carried`]); `step` gives its reply alone.
 //!
 //! **The latched table.** A Get that names the table of an instance also latches it: the bytes of its entries are copied
 //! aside, and Get next reads them part by part, whatever happens to the instance. The latch is no entity.
@@ -20,6 +20,7 @@
 ghost use Rattle.mib_state.specs.After.{AcceptedSuffice, LatchIsNoEntity};
 
 mod attachment;
+mod carried;
 mod check;
 mod held;
 mod instances;
@@ -27,8 +28,10 @@ mod latch;
 mod mib;
 mod onu_data;
 mod step;
+mod store;
 mod touch;
 
+pub use carried::Carried;
 pub use held::HeldInstance;
 pub use managed_entity::VlanConfig;
 pub use mib::Mib;

@@ -1,19 +1,19 @@
 //! The management information base, and what it shows.
 ghost use Rattle.std.specs.Prelude.{◌≡◌, ◌<◌, ◌-◌, IfOk, IfSome, is_some, option_map, length, slice_get};
 ghost use Rattle.std.specs.Option.{option_and_then};
-ghost use Rattle.managed_entity.specs.Class.{attributes_of, room_of, width_at};
+ghost use Rattle.managed_entity.specs.Class.{attributes_of, class_number, room_of, width_at};
 ghost use Rattle.mib_state.specs.Entities.{nothing, unlatched, instances_of, find, next, place_in};
-ghost use Rattle.managed_entity.specs.Instance.{attribute_of};
+ghost use Rattle.managed_entity.specs.Instance.{attribute_of, value_at};
 ghost use Rattle.mib_state.specs.Attached.{is_table_of, least_instance, mapper_of_port, table_of_port};
 ghost use Rattle.managed_entity.specs.Shown.{mapper_instance, vlan_instance, interwork_instance, gem_port_instance};
 
-use crate::held::{HeldEntity, HeldInstance};
+use crate::held::HeldInstance;
 use crate::instances::Instances;
 use crate::latch::Latch;
 use crate::onu_data::OnuData;
+use crate::store::of_store;
 use arrayvec::ArrayVec;
-use managed_entity::class::{GEM_PORT, INTERWORK, MAPPER, ONU_DATA, VLAN};
-use managed_entity::{ManagedEntity, VlanConfig};
+use managed_entity::{Bytes, Class, VlanConfig};
 use pmapper::{GemPort, Interwork, Mapper};
 use std::alloc::{AllocError, Global};
 use std::marker::Model;
@@ -79,14 +79,7 @@ impl Mib {
     pub fn next_instance(&self, class: u16, from: u16) -> Option<u16>
         ensures value { result ≡ next from (instances_of self.now.entities class) }
     {
-        match class {
-            ONU_DATA if from == 0 => Some(0),
-            MAPPER => self.mappers.next(from),
-            VLAN => self.vlans.next(from),
-            INTERWORK => self.interworks.next(from),
-            GEM_PORT => self.gem_ports.next(from),
-            _ => None,
-        }
+        of_store!(self, Class::of(class)?, next(from))
     }
 
     /// The instance at a place of a class, lent to be read. Places count from 0, and instances stand there by ascending number;
@@ -96,27 +89,9 @@ impl Mib {
         ensures class { IfSome result (λ held. held.class ≡ class) }
         ensures room { IfSome result (λ held. place < room_of class) }
     {
-        let (number, entity) = match class {
-            ONU_DATA if place == 0 => (0, HeldEntity::OnuData(&self.onu_data)),
-            MAPPER => {
-                let (number, mapper) = self.mappers.at(place)?;
-                (number, HeldEntity::Mapper(mapper))
-            }
-            VLAN => {
-                let (number, vlan) = self.vlans.at(place)?;
-                (number, HeldEntity::Vlan(vlan))
-            }
-            INTERWORK => {
-                let (number, point) = self.interworks.at(place)?;
-                (number, HeldEntity::Interwork(point))
-            }
-            GEM_PORT => {
-                let (number, port) = self.gem_ports.at(place)?;
-                (number, HeldEntity::GemPort(port))
-            }
-            _ => return None,
-        };
-        Some(HeldInstance { number, entity })
+        let class = Class::of(class)?;
+        let number = self.number_at(class, place)?;
+        Some(HeldInstance::new(self, class, place, number))
     }
 
     /// The bytes of attribute `n` of an instance, attributes numbered from 1: None for what isn't there and for a table.
@@ -126,14 +101,7 @@ impl Mib {
         ensures width { IfSome result (λ bytes. length bytes.items ≡ width_at (attributes_of class) (n - 1)) }
     {
         let place = (n as usize).checked_sub(1)?;
-        match class {
-            ONU_DATA if instance == 0 => self.onu_data.returned(place),
-            MAPPER => self.mappers.attribute(instance, place),
-            VLAN => self.vlans.attribute(instance, place),
-            INTERWORK => self.interworks.attribute(instance, place),
-            GEM_PORT => self.gem_ports.attribute(instance, place),
-            _ => None,
-        }
+        of_store!(self, Class::of(class)?, attribute(instance, place))
     }
 
     /// The place of an instance among those of its class: the one at which `instance_at` lends it.
@@ -143,14 +111,27 @@ impl Mib {
         ensures held { is_some result ≡ is_some (find instance (instances_of self.now.entities class)) }
         ensures room { IfSome result (λ place. place < room_of class) }
     {
-        match class {
-            ONU_DATA if instance == 0 => Some(0),
-            MAPPER => self.mappers.place_of(instance),
-            VLAN => self.vlans.place_of(instance),
-            INTERWORK => self.interworks.place_of(instance),
-            GEM_PORT => self.gem_ports.place_of(instance),
-            _ => None,
-        }
+        of_store!(self, Class::of(class)?, place_of(instance))
+    }
+
+    /// The number of the instance at a place of a class; places as in `instance_at`.
+    fn number_at(&self, class: Class, place: usize) -> Option<u16>
+        ensures number { result ≡ option_map (λ (i : _). i.number)
+            (slice_get (instances_of self.now.entities (class_number class)) place) }
+        ensures room { IfSome result (λ number. place < room_of (class_number class)) }
+    {
+        of_store!(self, class, number_at(place))
+    }
+
+    /// The bytes of the attribute at a place of the instance at a place of a class; None for the table.
+    pub(crate) fn attribute_at(&self, class: Class, at: usize, place: usize) -> Option<Bytes>
+        ensures value { option_map (λ (bytes : _). bytes.items) result
+            ≡ value_at (attributes_of (class_number class)) place
+            (slice_get (instances_of self.now.entities (class_number class)) at) }
+        ensures width { IfSome result (λ bytes. length bytes.items
+            ≡ width_at (attributes_of (class_number class)) place) }
+    {
+        of_store!(self, class, attribute_at(at, place))
     }
 
     /// The number of the 802.1p mapper service profile at a place, and the mapper; places as in `instance_at`.

@@ -2,10 +2,10 @@
 ghost use Rattle.std.specs.Prelude.{◌∷◌, [], refl};
 ghost use Rattle.std.proofs.Common.{rules};
 
-use managed_entity::class::ONU_DATA;
+use crate::instances::attribute;
 use managed_entity::{
-    Attribute, Bytes, ManagedEntity, Refusal, byte, check_set, get_contents, layout_of, mask_of,
-    one, set, set_values,
+    Attribute, Bytes, Class, ManagedEntity, Refusal, byte, check_set, get_contents, mask_of, one,
+    set, set_values,
 };
 use omci_msg::Request;
 use std::alloc::{AllocError, Global};
@@ -18,10 +18,13 @@ pub(crate) struct OnuData {
 }
 
 impl OnuData {
-    ghost use Rattle.std.specs.Prelude.{◌≡◌, drop, is_ok, true};
+    ghost use Rattle.std.specs.Option.{option_and_then};
+    ghost use Rattle.std.specs.Prelude.{◌≡◌, ◌<◌, Err, IfSome, drop, is_ok, is_some, length, option_map, slice_get, true};
+    ghost use Rattle.managed_entity.specs.declared.refusal.Refusal.TheVariants.{NotSupported};
     ghost use Rattle.managed_entity.specs.Answer.{outcome_of, left_by};
-    ghost use Rattle.managed_entity.specs.Class.{onu_data_layout};
-    ghost use Rattle.mib_state.specs.Entities.{find, onu_data, sync_of};
+    ghost use Rattle.managed_entity.specs.Class.{onu_data_layout, width_at};
+    ghost use Rattle.managed_entity.specs.Instance.{value_at};
+    ghost use Rattle.mib_state.specs.Entities.{find, next, onu_data, place_in, sync_of};
     ghost use Rattle.mib_state.specs.Step.{next_sync, get_found, set_in};
     ghost use Rattle.managed_entity.specs.Mask.{mask_of};
 
@@ -31,6 +34,86 @@ impl OnuData {
     {
         self.sync = self.sync.checked_add(1).unwrap_or(1);
     }
+
+    /// The least number that isn't under another; there is instance 0 alone.
+    pub(crate) fn next(&self, from: u16) -> Option<u16>
+        ensures { result ≡ next from (onu_data self.now.sync ∷ []) }
+    {
+        if from == 0 { Some(0) } else { None }
+    }
+
+    /// The number of the instance at a place; there is instance 0 alone.
+    pub(crate) fn number_at(&self, place: usize) -> Option<u16>
+        ensures number { result ≡ option_map (λ (i : _). i.number)
+            (slice_get (onu_data self.now.sync ∷ []) place) }
+        ensures room { IfSome result (λ number. place < 1) }
+    {
+        if place == 0 { Some(0) } else { None }
+    }
+
+    /// The attribute at a place of the instance at another.
+    pub(crate) fn attribute_at(&self, at: usize, place: usize) -> Option<Bytes>
+        ensures value { option_map (λ (bytes : _). bytes.items) result
+            ≡ value_at onu_data_layout place (slice_get (onu_data self.now.sync ∷ []) at) }
+        ensures width { IfSome result (λ bytes. length bytes.items
+            ≡ width_at onu_data_layout place) }
+    {
+        if at == 0 {
+            attribute(self, place)
+        } else {
+            None
+        }
+    }
+
+    /// The attribute at a place of the instance of a number.
+    pub(crate) fn attribute(&self, number: u16, place: usize) -> Option<Bytes>
+        ensures value { option_map (λ (bytes : _). bytes.items) result
+            ≡ value_at onu_data_layout place (find number (onu_data self.now.sync ∷ [])) }
+        ensures width { IfSome result (λ bytes. length bytes.items
+            ≡ width_at onu_data_layout place) }
+    {
+        if number == 0 {
+            attribute(self, place)
+        } else {
+            None
+        }
+    }
+
+    /// The place of the instance of a number; there is instance 0 alone.
+    pub(crate) fn place_of(&self, number: u16) -> Option<usize>
+        ensures place { result ≡ place_in number (onu_data self.now.sync ∷ []) }
+        ensures instance { option_and_then
+            (λ (place : _). slice_get (onu_data self.now.sync ∷ []) place) result
+            ≡ find number (onu_data self.now.sync ∷ []) }
+        ensures held { is_some result ≡ is_some (find number (onu_data self.now.sync ∷ [])) }
+        ensures room { IfSome result (λ place. place < 1) }
+    {
+        if number == 0 { Some(0) } else { None }
+    }
+
+    /// Whether a Create is refused, which it always is.
+    pub(crate) fn check_create(&self, _request: &Request) -> Result<(), Refusal>
+        ensures { result ≡ Err NotSupported }
+    {
+        Err(Refusal::NotSupported)
+    }
+
+    /// No Create is accepted.
+    pub(crate) fn create(&mut self, _request: &Request)
+        ensures { self.new ≡ self.old }
+    {}
+
+    /// Whether a Delete is refused, which it always is.
+    pub(crate) fn check_delete(&self, _request: &Request) -> Result<(), Refusal>
+        ensures { result ≡ Err NotSupported }
+    {
+        Err(Refusal::NotSupported)
+    }
+
+    /// No Delete is accepted.
+    pub(crate) fn delete(&mut self, _request: &Request)
+        ensures { self.new ≡ self.old }
+    {}
 
     /// The answer to a Get; there is instance 0 alone.
     pub(crate) fn read(&self, request: &Request) -> Result<[u8; 32], Refusal>
@@ -109,7 +192,7 @@ impl ManagedEntity for OnuData {
     ghost given_fits = { Prim.search rules };
 
     fn layout() -> &'static [Attribute] {
-        layout_of(ONU_DATA)
+        Class::OnuData.layout()
     }
 
     fn new(_alloc: Global) -> Result<Self, AllocError> {

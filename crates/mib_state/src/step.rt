@@ -1,16 +1,18 @@
 //! One step of the management information base.
-ghost use Rattle.std.specs.Prelude.{◌≡◌, is_ok, true};
+ghost use Rattle.std.specs.Prelude.{◌≡◌, is_ok, true, false};
 ghost use Rattle.managed_entity.specs.Answer.{left_by};
+ghost use Rattle.mib_state.specs.After.{is_accepted, may_change};
 ghost use Rattle.mib_state.specs.Entities.{nothing};
 ghost use Rattle.mib_state.specs.Step.{answered, create, delete, latched, set, state_left, step};
 ghost use Rattle.mib_state.specs.Touch.{touched, touched_by, IsTouch};
 
+use crate::carried::Carried;
 use crate::check::told;
 use crate::latch::TABLE_PLACE;
 use crate::mib::Mib;
+use crate::store::of_store;
 use crate::touch::Touch;
-use managed_entity::class::{GEM_PORT, INTERWORK, MAPPER, ONU_DATA, VLAN};
-use managed_entity::{mask_of, names};
+use managed_entity::{Class, mask_of, names};
 use omci_msg::{Action, Reply, Request};
 
 impl Mib {
@@ -20,12 +22,8 @@ impl Mib {
         ensures { self.new ≡ record self.old { entities = left_by self.old.entities (create self.old.entities request.now) } }
     {
         self.onu_data.count();
-        match request.class {
-            MAPPER => self.mappers.create(request),
-            VLAN => self.vlans.create(request),
-            INTERWORK => self.interworks.create(request),
-            GEM_PORT => self.gem_ports.create(request),
-            _ => {}
+        if let Some(class) = Class::of(request.class) {
+            of_store!(self, class, create(request));
         }
     }
 
@@ -35,12 +33,8 @@ impl Mib {
         ensures { self.new ≡ record self.old { entities = left_by self.old.entities (delete self.old.entities request.now) } }
     {
         self.onu_data.count();
-        match request.class {
-            MAPPER => self.mappers.delete(request),
-            VLAN => self.vlans.delete(request),
-            INTERWORK => self.interworks.delete(request),
-            GEM_PORT => self.gem_ports.delete(request),
-            _ => {}
+        if let Some(class) = Class::of(request.class) {
+            of_store!(self, class, delete(request));
         }
     }
 
@@ -50,16 +44,12 @@ impl Mib {
         requires { is_ok (set self.old.entities request.now) ≡ true }
         ensures { self.new ≡ record self.old { entities = left_by self.old.entities (set self.old.entities request.now) } }
     {
-        if request.class == ONU_DATA {
+        if request.class == Class::OnuData.number() {
             return self.onu_data.set(request);
         }
         self.onu_data.count();
-        match request.class {
-            MAPPER => self.mappers.set(request),
-            VLAN => self.vlans.set(request),
-            INTERWORK => self.interworks.set(request),
-            GEM_PORT => self.gem_ports.set(request),
-            _ => {}
+        if let Some(class) = Class::of(request.class) {
+            of_store!(self, class, set(request));
         }
     }
 
@@ -78,7 +68,9 @@ impl Mib {
     fn latch(&mut self, request: &Request)
         ensures { self.new ≡ record self.old { latch = latched self.old request.now } }
     {
-        if request.class != VLAN || !names(mask_of(&request.contents), TABLE_PLACE) {
+        if request.class != Class::Vlan.number()
+            || !names(mask_of(&request.contents), TABLE_PLACE)
+        {
             return;
         }
         if let Some(vlan) = self.vlans.get(request.instance) {
@@ -108,24 +100,50 @@ impl Mib {
         ensures reply { result ≡ (step self.old request.now).0 }
         ensures after { self.new ≡ (step self.old request.now).1 }
     {
-        self.step_touching(request).0
+        self.carry_out(request).reply
+    }
+
+    /// Whether a request would be accepted: its action may change the entities, and it isn't refused.
+    pub fn accepts(&self, request: &Request) -> bool
+        ensures { result ≡ is_accepted self.now.entities request.now }
+    {
+        match self.decide(request) {
+            Ok(_) => may_change(request.action),
+            Err(_) => false,
+        }
     }
 
     /// The same step, and beside its reply what it touched of the classes 130, 171, 266 and 268: one instance where a Create, a
     /// Delete or a Set of another class than ONU data is accepted, all of them at MIB reset, and nothing otherwise. The definition
     /// `IsTouch` says what each leaves as it was.
-    #[tactic(auto, using(crate::proofs::Answered::left_refused))]
     pub fn step_touching(&mut self, request: &Request) -> (Reply, Touch)
         ensures reply { result.0 ≡ (step self.old request.now).0 }
         ensures after { self.new ≡ (step self.old request.now).1 }
         ensures touch { result.1 ≡ touched self.old request.now }
         ensures changes { IsTouch self.old.entities self.new.entities result.1 }
     {
+        let carried = self.carry_out(request);
+        (carried.reply, carried.touch)
+    }
+
+    /// The same step, and beside its reply and what it touched whether the request was accepted: its action may change the
+    /// entities, and it isn't refused.
+    #[tactic(auto, using(crate::proofs::Answered::left_refused))]
+    pub fn carry_out(&mut self, request: &Request) -> Carried
+        ensures reply { result.reply ≡ (step self.old request.now).0 }
+        ensures after { self.new ≡ (step self.old request.now).1 }
+        ensures touch { result.touch ≡ touched self.old request.now }
+        ensures changes { IsTouch self.old.entities self.new.entities result.touch }
+        ensures accepted { result.accepted ≡ is_accepted self.old.entities request.now }
+        ensures refused { result.accepted ≡ false → self.new.entities ≡ self.old.entities }
+    {
         let outcome = self.decide(request);
         let mut touch = Touch::Nothing;
+        let mut accepted = false;
         if outcome.is_ok() {
             self.change(request);
             touch = touched_by(request);
+            accepted = may_change(request.action);
         }
         let reply = Reply {
             tci: request.tci,
@@ -134,7 +152,11 @@ impl Mib {
             instance: request.instance,
             contents: told(outcome),
         };
-        (reply, touch)
+        Carried {
+            reply,
+            touch,
+            accepted,
+        }
     }
 }
 
@@ -143,11 +165,22 @@ fn touched_by(request: &Request) -> Touch
     ensures { result ≡ touched_by request.now.action request.now }
 {
     match request.action {
-        Action::Set if request.class == ONU_DATA => Touch::Nothing,
-        Action::Create | Action::Delete | Action::Set => {
-            Touch::One(request.class, request.instance)
-        }
+        Action::Set if request.class == Class::OnuData.number() => Touch::Nothing,
+        Action::Create | Action::Delete | Action::Set => Touch::One {
+            class: request.class,
+            instance: request.instance,
+        },
         Action::MibReset => Touch::All,
         _ => Touch::Nothing,
+    }
+}
+
+/// Whether an action may change the entities.
+fn may_change(action: Action) -> bool
+    ensures { result ≡ may_change action }
+{
+    match action {
+        Action::Create | Action::Delete | Action::Set | Action::MibReset => true,
+        _ => false,
     }
 }

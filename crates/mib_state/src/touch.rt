@@ -5,8 +5,13 @@
 pub enum Touch {
     /// No instance of them.
     Nothing,
-    /// No other instance of them than the one of this class and number, which was created, deleted or set.
-    One(u16, u16),
+    /// No other instance of them than this one, which was created, deleted or set.
+    One {
+        /// The number of its class.
+        class: u16,
+        /// Its number in the class.
+        instance: u16,
+    },
     /// All of them went: a MIB reset.
     All,
 }

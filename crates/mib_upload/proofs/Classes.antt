@@ -1,14 +1,26 @@
 -- The classes, one after another.
-use Rattle.std.proofs.Common.{◌≡◌, ℕ, ◌+◌, ◌<◌, ◌≤◌, List, [], ◌++◌, length, get_or, drop, refl, arith}
+use Rattle.std.proofs.Common.{◌≡◌, ℕ, zero, suc, ◌+◌, ◌<◌, ◌≤◌, List, [], ◌∷◌, ◌++◌, length, get_or, drop, refl, arith}
 use Rattle.std.specs.Prelude.{All}
 use Rattle.std.specs.List.{sum_by}
 use Rattle.std.proofs.lemmas.List.{drop_more, drop_all}
 use Rattle.std.proofs.lemmas.List.Sums.{sum_by-drop_more}
+use Rattle.managed_entity.specs.declared.class.Class.{Class}
+use Rattle.managed_entity.specs.declared.class.Class.TheVariants.{OnuData, Mapper, Vlan, Interwork, GemPort}
+use Rattle.managed_entity.specs.Class.{class_number}
 use Rattle.mib_state.specs.Entities.{Entities, instances_of}
 use Rattle.mib_upload.specs.Rows.{RowFields, classes, class_rows, AreRows, AllFit, rows_of}
 use Rattle.mib_upload.specs.Room.{instance_room, class_room, shelf_room}
 use Rattle.mib_upload.proofs.Joined.{Joins, joins_first, joins_next, joined, each_joined}
 use Rattle.mib_upload.proofs.Once.{are_rows}
+
+-- the numbers of the classes that the code lists are those of an upload
+pub number_at : (index : ℕ) → index < 5 → class_number (get_or (OnuData ∷ Mapper ∷ Vlan ∷ Interwork ∷ GemPort ∷ []) index OnuData) ≡ get_or classes index 0
+number_at zero h = refl
+number_at (suc zero) h = refl
+number_at (suc (suc zero)) h = refl
+number_at (suc (suc (suc zero))) h = refl
+number_at (suc (suc (suc (suc zero)))) h = refl
+number_at (suc (suc (suc (suc (suc index))))) h = absurd (omega arith)
 
 -- all classes have room
 all_have_room : sum_by class_room classes ≡ shelf_room

@@ -1,10 +1,12 @@
 //! The reply to every action.
-ghost use Rattle.std.specs.Prelude.{◌≡◌, IfOk, slice_get};
+ghost use Rattle.std.specs.Prelude.{◌≡◌, IfOk, false, slice_get};
+ghost use Rattle.mib_state.specs.After.{is_accepted};
+ghost use Rattle.mib_state.specs.Touch.{touched, IsTouch};
 ghost use Rattle.mib_upload.specs.Upload.{start, answered, upload_contents, row_contents, sequence_number};
 
 use crate::shelf::Shelf;
 use byteorder::{BigEndian, ByteOrder};
-use mib_state::Mib;
+use mib_state::{Carried, Mib, Touch};
 use omci_msg::{Action, Reply, Request};
 use std::alloc::{AllocError, Global};
 use std::marker::Model;
@@ -51,17 +53,36 @@ impl Desk {
         ensures reply { result ≡ (answered self.old request.now).0 }
         ensures after { self.new ≡ (answered self.old request.now).1 }
     {
+        self.carry_out(request).reply
+    }
+
+    /// Does as [`answer`](Desk::answer) does, and says beside the reply what the request touched of the classes 130, 171, 266 and
+    /// 268, and whether it was accepted. A MIB upload and a MIB upload next touch nothing and aren't accepted: they change no
+    /// entity.
+    pub fn carry_out(&mut self, request: &Request) -> Carried
+        ensures reply { result.reply ≡ (answered self.old request.now).0 }
+        ensures after { self.new ≡ (answered self.old request.now).1 }
+        ensures touch { result.touch ≡ touched self.old.mib request.now }
+        ensures changes { IsTouch self.old.mib.entities self.new.mib.entities result.touch }
+        ensures accepted { result.accepted ≡ is_accepted self.old.mib.entities request.now }
+        ensures refused { result.accepted ≡ false → self.new.mib.entities ≡ self.old.mib.entities }
+    {
         let contents = match request.action {
             Action::MibUpload => upload_contents(self.shelf.fill(&self.mib)),
             Action::MibUploadNext => self.row_contents(sequence_number(&request.contents)),
-            _ => return self.mib.step(request),
+            _ => return self.mib.carry_out(request),
         };
-        Reply {
+        let reply = Reply {
             tci: request.tci,
             action: request.action,
             class: request.class,
             instance: request.instance,
             contents,
+        };
+        Carried {
+            reply,
+            touch: Touch::Nothing,
+            accepted: false,
         }
     }
 

@@ -9,7 +9,8 @@
 //! happens to the entities.
 //!
 //! **The desk.** A [`Desk`] is a MIB with a shelf. `answer` gives the reply to every action: a MIB upload and a MIB upload next
-//! by the shelf, every other one, Get next among them, by a step of the MIB.
+//! by the shelf, every other one, Get next among them, by a step of the MIB. `carry_out` says beside the reply what the request
+//! touched and whether it was accepted ([`Carried`]).
 //!
 //! **Memory.** A shelf has room for the rows of all instances that there may be: 609, by the attributes' numbers of bytes and
 //! the instances that each class has room for. That it suffices is proved, so an answer takes no memory.
@@ -22,8 +23,9 @@ mod row;
 mod shelf;
 
 pub use desk::Desk;
+pub use mib_state::Carried;
 pub use row::Row;
-pub use shelf::{CLASSES, Shelf};
+pub use shelf::Shelf;
 
 /// Entities whose attributes each fit a row have one list of rows, and it is the computed one.
 pub fn law_of_rows()

@@ -5,14 +5,11 @@ ghost use Rattle.mib_upload.specs.Rows.{Numbered, filled_from, instance_rows, cl
 ghost use Rattle.mib_upload.specs.Room.{rows_by, instance_room, class_room, shelf_room};
 
 use crate::row::Row;
+use managed_entity::Class;
 use mib_state::{HeldInstance, Mib};
 use std::alloc::{AllocError, Global};
 use std::marker::Model;
 use std::mem::replace;
-
-/// The classes, by number: ONU data, 802.1p mapper service profile, extended VLAN tagging operation configuration data,
-/// GEM interworking termination point, GEM port network CTP.
-pub const CLASSES: [u16; 5] = [2, 130, 171, 266, 268];
 
 /// The most rows that there may be: one of ONU data, two each of 32 mappers and of 16 tables, and one each of 256 points
 /// and of 256 GEM ports.
@@ -53,8 +50,8 @@ impl Shelf {
         ensures count { result ≡ length self.new }
     {
         self.rows.clear();
-        for class in CLASSES {
-            self.add_class(mib, class);
+        for class in Class::ALL {
+            self.add_class(mib, class.number());
         }
         self.rows.len() as u16
     }

@@ -1,17 +1,17 @@
 //! What looks inside: the managed entities after a trace, a table, and what becomes of one frame.
 use crate::files::{read_whole, report_unread};
-use capture_run::{RunFault, report_run};
 use command_line::{ExplainWords, MibWords, RulesWords};
-use entity_text::{write_mib, write_mib_json};
-use explain_text::{write_explanation, write_explanation_json, write_rules, write_rules_json};
-use message_text::decode;
 use mib_state::Mib;
-use mib_trace::apply_trace;
+use run_capture::{RunFault, report_run};
+use run_trace::{TraceFault, apply_requests, read_requests};
 use script_replay::{ReplayFault, report_replay};
 use std::alloc::Global;
 use std::io::{Read, Write};
 use std::rt::Files;
-use writing::{DecodeFault, TextFault};
+use text_entities::{write_mib, write_mib_json};
+use text_explanations::{write_explanation, write_explanation_json, write_rules, write_rules_json};
+use text_messages::decode;
+use text_writing::{DecodeFault, TextFault};
 
 /// Why a text isn't written, as a run says it.
 fn run_fault(fault: TextFault) -> RunFault {
@@ -36,6 +36,27 @@ fn report_text<E: Write>(outcome: Result<(), TextFault>, err: &mut E) -> u8 {
     report_run(&outcome.map_err(run_fault), err)
 }
 
+/// Why a trace isn't read, as a run says it.
+fn trace_fault(fault: TraceFault) -> RunFault {
+    match fault {
+        TraceFault::BadLine(line) => RunFault::BadTrace(line),
+        TraceFault::NoMemory => RunFault::NoMemory,
+    }
+}
+
+/// The managed entities after a trace.
+fn mib_after(alloc: Global, trace: &[u8]) -> Result<Mib, RunFault> {
+    let requests = match read_requests(alloc, trace) {
+        Ok(requests) => requests,
+        Err(fault) => return Err(trace_fault(fault)),
+    };
+    let Ok(mut mib) = Mib::new(alloc) else {
+        return Err(RunFault::NoMemory);
+    };
+    apply_requests(&mut mib, &requests);
+    Ok(mib)
+}
+
 /// The managed entities after the trace in a file, or the status where there are none; why is written to `err`.
 fn entities_after<R: Files + Alloc<A = Global>, E: Write>(
     rt: &R,
@@ -46,12 +67,9 @@ fn entities_after<R: Files + Alloc<A = Global>, E: Write>(
         Ok(trace) => trace,
         Err(error) => return Err(report_unread(&error, b"cannot read trace\n", err)),
     };
-    let Ok(mut mib) = Mib::new(rt.alloc()) else {
-        return Err(report_run(&Err(RunFault::NoMemory), err));
-    };
-    match apply_trace(&mut mib, &trace) {
-        Ok(()) => Ok(mib),
-        Err(line) => Err(report_run(&Err(RunFault::BadTrace(line)), err)),
+    match mib_after(rt.alloc(), &trace) {
+        Ok(mib) => Ok(mib),
+        Err(fault) => Err(report_run(&Err(fault), err)),
     }
 }
 

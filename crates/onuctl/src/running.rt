@@ -1,7 +1,7 @@
 //! A run over two files.
 use crate::files::{read_whole, report_unread};
-use capture_run::{report_run, run_over, run_over_shown};
 use command_line::RunWords;
+use run_capture::{report_run, run_over, run_over_shown};
 use std::alloc::Global;
 use std::io::{IsTerminal, Write};
 use std::rt::{Clock, Files};

@@ -4,6 +4,7 @@ ghost use Rattle.omci_msg.specs.Message.{request_of};
 ghost use Rattle.omci_msg.specs.declared.Request.{Request};
 ghost use Rattle.omci_msg.specs.declared.fault.MsgFault.{MsgFault};
 ghost use Rattle.mib_state.specs.After.{after, is_accepted};
+ghost use Rattle.mib_state.specs.Touch.{touched};
 ghost use Rattle.mib_upload.specs.Upload.{answered, start};
 ghost use Rattle.plan_publish.specs.Control.{accepted_of, answer_to, carried_out, takes};
 ghost use Rattle.plan_publish.specs.Requests.{version_of};
@@ -12,15 +13,12 @@ ghost use Rattle.plan_publish.specs.Told.{told_home, told_list};
 use crate::fault::ControlFault;
 use crate::publisher::Publisher;
 use crate::told::Told;
-use mib_state::Mib;
+use mib_state::{Carried, Mib};
 use mib_upload::Desk;
-use omci_msg::{Action, Reply, Request, read, write};
+use omci_msg::{Request, read, write};
 use std::alloc::AllocError;
 use std::marker::Model;
 use std::sync::Wait;
-
-/// The result of a request that is carried out.
-const SUCCESS: u8 = 0;
 
 /// It answers messages by its desk, and has the writer of the two copies. Its entities are always those after the accepted
 /// requests, by its type. It is not `Drop`: end it by [`close`](Control::close).
@@ -67,19 +65,21 @@ impl Control {
             Ok(request) => request,
             Err(fault) => return Err(ControlFault::Msg(fault)),
         };
-        let Ok(reply) = self.carry_out(&request) else {
+        let Ok(carried) = self.carry_out(&request) else {
             return Err(ControlFault::NoMemory);
         };
         if request.wants_answer {
-            return Ok(Some(write(&reply)));
+            return Ok(Some(write(&carried.reply)));
         }
         Ok(None)
     }
 
-    /// Carries a request out, and answers it. An accepted one is kept for the copies first; where there is no memory for that,
-    /// nothing has changed.
-    fn carry_out(&mut self, request: &Request) -> Result<Reply, AllocError>
-        ensures reply { IfOk result (λ reply. reply ≡ (answered self.old.desk request.now).0) }
+    /// Carries a request out: its reply, what it touched, and whether it is accepted. An accepted one will be in the next version
+    /// that is published; it is kept for the copies first, and where there is no memory for that, nothing has changed.
+    pub fn carry_out(&mut self, request: &Request) -> Result<Carried, AllocError>
+        ensures reply { IfOk result (λ carried. carried.reply ≡ (answered self.old.desk request.now).0) }
+        ensures touch { IfOk result (λ carried. carried.touch ≡ touched self.old.desk.mib request.now) }
+        ensures accepted { IfOk result (λ carried. carried.accepted ≡ takes self.old request.now) }
         ensures after { OnOk result (self.new ≡ carried_out self.old request.now) }
         ensures entities { OnOk result (self.new.desk.mib.entities ≡ after (accepted_of self.new)) }
         ensures err { OnErr result (self.new ≡ self.old) }
@@ -90,7 +90,7 @@ impl Control {
                 return Err(AllocError);
             };
         }
-        Ok(self.desk.answer(request))
+        Ok(self.desk.carry_out(request))
     }
 
     /// How many requests are accepted, published or not, or 2^64 - 1 where there are more. It tells whether a message was accepted.
@@ -122,14 +122,9 @@ impl Control {
     }
 }
 
-/// Whether a request is accepted: its action may change the entities, and it has success.
+/// Whether a request is accepted.
 fn is_accepted(mib: &Mib, request: &Request) -> bool
     ensures { result ≡ is_accepted mib.now.entities request.now }
 {
-    match request.action {
-        Action::Create | Action::Delete | Action::Set | Action::MibReset => {
-            mib.result_of(request) == SUCCESS
-        }
-        _ => false,
-    }
+    mib.accepts(request)
 }

@@ -66,7 +66,7 @@ pub treats_none : (settings : TableSettings) (entries : List (List ℕ)) (treats
 treats_none settings entries treats number place before = absurd (omega arith)
 
 -- what a rule is compiled to is what its entry is
-of_rule : (settings : TableSettings) (entry : List ℕ) (rule : Rule) (treat : Option Compiled) → IsRuleOf entry rule
+pub of_rule : (settings : TableSettings) (entry : List ℕ) (rule : Rule) (treat : Option Compiled) → IsRuleOf entry rule
     → Treats rule.treatment settings (tags_in rule.filter) treat → Treats (treatment_of entry) settings (tags_in (filter_of entry)) treat
 of_rule settings entry rule treat is right =
     subst (λ (f : Filter). Treats (treatment_of entry) settings (tags_in f) treat) is.filter

@@ -5,3 +5,4 @@ pub mod Reading
 pub mod Places
 pub mod Planned
 pub mod Meant
+pub mod MovedTreats

@@ -4,12 +4,11 @@ use Rattle.std.specs.Prelude.{slice_index_or}
 use Rattle.std.proofs.lemmas.Bool.{true≢false}
 use Rattle.std.specs.Option.{unwrap_or}
 use Rattle.port_plan.specs.declared.port_plan.PortPlan.{PortPlan}
-use Rattle.tag_view.specs.Tag.{TagFields, IsInRange}
+use Rattle.tag_view.specs.Tag.{TagFields, IsInRange, missing_tag}
 use Rattle.tag_view.specs.Word.{tag_of, word_of}
 use Rattle.tag_view.proofs.Words.{tag_back}
 use Rattle.vlan_rule.specs.declared.settings.TableSettings.{TableSettings}
 use Rattle.vlan_rule.specs.Meaning.{treatment_of}
-use Rattle.rule_index.specs.Head.{no_tag}
 use Rattle.treatment.specs.Compiled.{AreSources, Compiled, Treats, asks_dscp, words_by}
 use Rattle.treatment.proofs.Sources.{words-treat_entry}
 use Rattle.port_plan.proofs.Transparent.{transparent_tags}
@@ -33,11 +32,11 @@ unfolding tags_by
 by_entry table frame entry tags used is = rw (used, sym is) refl
 
 -- the first and the last tag, by what stands for one that isn't there
-outer_first : (tags : List TagFields) → outer_of tags ≡ slice_index_or tags 0 no_tag
+outer_first : (tags : List TagFields) → outer_of tags ≡ slice_index_or tags 0 missing_tag
 outer_first [] = refl
 outer_first (tag ∷ rest) = refl
 
-inner_last : (tags : List TagFields) → length tags ≤ 2 → inner_of tags ≡ slice_index_or tags (length tags - 1) no_tag
+inner_last : (tags : List TagFields) → length tags ≤ 2 → inner_of tags ≡ slice_index_or tags (length tags - 1) missing_tag
 inner_last [] two = refl
 inner_last (tag ∷ []) two = refl
 inner_last (tag ∷ next ∷ []) two = refl
@@ -45,7 +44,7 @@ inner_last (tag ∷ next ∷ third ∷ rest) two = absurd (omega (arith, two))
 
 -- the words of a head are sources of its tags' treatment
 pub sources : (compiled : Compiled) (settings : TableSettings) (tags : List TagFields) (dscp : Option ℕ) (first last marking : ℕ)
-    → length tags ≤ 2 → All IsInRange tags → tag_of first ≡ slice_index_or tags 0 no_tag → tag_of last ≡ slice_index_or tags (length tags - 1) no_tag
+    → length tags ≤ 2 → All IsInRange tags → tag_of first ≡ slice_index_or tags 0 missing_tag → tag_of last ≡ slice_index_or tags (length tags - 1) missing_tag
     → (asks_dscp compiled ≡ true → marking ≡ dscp_priority settings.dscp_map.0 dscp) → AreSources compiled settings tags dscp first last marking
 sources compiled settings tags dscp first last marking two range is_first is_last marks =
     record {

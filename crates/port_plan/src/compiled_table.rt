@@ -1,9 +1,10 @@
 //! The table of a port (ITU-T G.988, clause 9.3.13), compiled.
-ghost use Rattle.std.specs.Prelude.{◌≡◌, ◌≤◌, ◌↔◌, ℕ, List, IsTrue, true, false, vec_capacity};
+ghost use Rattle.std.specs.Prelude.{◌≡◌, ◌≤◌, ◌<◌, ◌↔◌, ℕ, List, IsTrue, true, false, length, vec_capacity};
 ghost use Rattle.std.specs.Option.{option_map_or};
 ghost use Rattle.vlan_rule.specs.Table.{table_max_size};
 ghost use Rattle.rule_index.specs.Filters.{tags_in};
-ghost use Rattle.rule_index.specs.Followed.{IsTreated};
+ghost use Rattle.rule_index.specs.Followed.{IsOneMore, IsTreated};
+ghost use Rattle.vlan_rule.specs.declared.settings.TableSettings.{TableSettings};
 ghost use Rattle.treatment.specs.Compiled.{asks_dscp};
 ghost use Rattle.managed_entity.specs.Shown.{vlan_instance};
 ghost use Rattle.frame_meaning.specs.Meaning.{Table, table_of};
@@ -94,8 +95,8 @@ impl CompiledTable {
     }
 
     /// Becomes the table of an extended VLAN tagging operation configuration data, as [`compile`](CompiledTable::compile) does, and
-    /// compiles what changed. It takes no memory. What was the same before is gone over and not compiled again: where the keys and
-    /// the settings stayed and one treatment was set, that treatment alone is compiled.
+    /// compiles what changed. It takes no memory. What was the same before is gone over and not compiled again. Where the settings
+    /// stayed, a treatment that was set is compiled alone, and where one key was added or deleted the treatments behind it move.
     pub fn follow(&mut self, vlan: &VlanConfig)
         ensures { (n : ℕ) → self.new.table ≡ table_of (vlan_instance n vlan.now) }
     {
@@ -130,12 +131,22 @@ impl CompiledTable {
                     rules,
                 );
             }
-            _ => {
-                follow_map(
-                    &mut self.markings,
-                    &self.settings.dscp_map,
-                    &settings.dscp_map,
+            Followed::Added(number) if same && self.treats.len() < TABLE_MAX_SIZE as usize => {
+                self.uses_dscp = insert_treat(
+                    &mut self.treats,
+                    self.uses_dscp,
+                    number,
+                    &self.index,
+                    &settings,
+                    rules,
                 );
+            }
+            Followed::Deleted(number) if same => {
+                self.uses_dscp = remove_treat(&mut self.treats, self.uses_dscp, number);
+            }
+            _ => {
+                let map = &settings.dscp_map;
+                follow_map(&mut self.markings, &self.settings.dscp_map, map);
                 self.settings = settings;
                 compile_treats(&mut self.treats, &self.index, &settings, rules);
                 self.uses_dscp = any_asks(&self.treats);
@@ -253,6 +264,60 @@ fn compile_treat(
     };
     *kept = treat;
     still_asks(asks, asked, treats)
+}
+
+/// Compiles the treatment of an entry that was added, and moves those of the entries behind it by one place. It says whether a
+/// treatment asks for the DSCP of a frame, if it is told so of those before.
+fn insert_treat(
+    treats: &mut Vec<Option<Treat>>,
+    asked: bool,
+    number: u8,
+    index: &Index,
+    settings: &TableSettings,
+    rules: &RuleTable,
+) -> bool
+    requires index { index.now ≡ rules.now }
+    requires room { table_max_size ≤ vec_capacity treats.old }
+    requires space { length treats.old.items < table_max_size }
+    ensures treats { (entries : List (List ℕ)) (place : ℕ)
+        → IsOneMore entries rules.now place number → AreTreats settings.now entries treats.old.items
+        → AreTreats settings.now rules.now treats.new.items }
+    ensures room { table_max_size ≤ vec_capacity treats.new }
+    ensures none { (asked ≡ false → NoneAsks treats.old.items) → result ≡ false → NoneAsks treats.new.items }
+    ensures some { (asked ≡ true → SomeAsks treats.old.items) → result ≡ true → SomeAsks treats.new.items }
+{
+    let at = usize::from(number);
+    if treats.len() < at {
+        return asked;
+    }
+    let Some(place) = index.order(number) else {
+        return asked;
+    };
+    let Some(rule) = rules.rule(place) else {
+        return asked;
+    };
+    let treat = Treat::of(&rule.treatment, settings, tags_in(&rule.filter));
+    let asks = asks(&treat);
+    let _ = treats.insert(at, treat);
+    asked || asks
+}
+
+/// Lets the treatment of an entry go that was deleted, and moves those of the entries behind it by one place. It says whether a
+/// treatment asks for the DSCP of a frame, if it is told so of those before.
+fn remove_treat(treats: &mut Vec<Option<Treat>>, asked: bool, number: u8) -> bool
+    ensures treats { (settings : TableSettings) (old new : List (List ℕ)) (place : ℕ)
+        → IsOneMore new old place number → AreTreats settings old treats.old.items
+        → AreTreats settings new treats.new.items }
+    ensures room { vec_capacity treats.new ≡ vec_capacity treats.old }
+    ensures none { (asked ≡ false → NoneAsks treats.old.items) → result ≡ false → NoneAsks treats.new.items }
+    ensures some { (asked ≡ true → SomeAsks treats.old.items) → result ≡ true → SomeAsks treats.new.items }
+{
+    let at = usize::from(number);
+    if treats.len() <= at {
+        return asked;
+    }
+    let _ = treats.remove(at);
+    still_asks(false, asked, treats)
 }
 
 /// Whether some treatment asks for the DSCP of a frame, where one that was compiled again does or doesn't, and some treatment did

@@ -60,7 +60,8 @@ fn ctp_behind(mib: &Mib, interwork: u16) -> u16
 /// The route of the frames of a priority.
 fn compiled_route(mib: &Mib, mapper: &Mapper, priority: u8) -> Route
     requires { priority < 8 }
-    ensures { (n : ℕ) → result ≡ compiled_route mib.now.entities (Some (mapper_instance n mapper.now)) priority }
+    ensures { (n : ℕ) → result
+        ≡ compiled_route mib.now.entities (Some (mapper_instance n mapper.now)) priority }
 {
     let interwork = pointer(mapper, priority);
     Route {
@@ -73,7 +74,8 @@ fn compiled_route(mib: &Mib, mapper: &Mapper, priority: u8) -> Route
 /// The route of each priority.
 pub(crate) fn by_priority(mib: &Mib, mapper: &Mapper) -> [Route; 8]
     ensures { (n priority : ℕ) → priority < 8
-        → slice_get result priority ≡ Some (compiled_route mib.now.entities (Some (mapper_instance n mapper.now)) priority) }
+        → slice_get result priority
+        ≡ Some (compiled_route mib.now.entities (Some (mapper_instance n mapper.now)) priority) }
 {
     [
         compiled_route(mib, mapper, 0),
@@ -89,7 +91,9 @@ pub(crate) fn by_priority(mib: &Mib, mapper: &Mapper) -> [Route; 8]
 
 /// The priority of frames without a tag for each DSCP, and behind them that of frames without a DSCP.
 pub(crate) fn untagged(mapper: &Mapper) -> [u8; 65]
-    ensures value { (dscp : Option ℕ) → IsDscp dscp → slice_index result (dscp_place dscp) ≡ unmarked_priority_of (unmarked_of mapper.now) dscp }
+    ensures value { (dscp : Option ℕ) → IsDscp dscp
+        → slice_index result (dscp_place dscp)
+        ≡ unmarked_priority_of (unmarked_of mapper.now) dscp }
     ensures bound { (place : ℕ) → slice_index result place < 8 }
 {
     let mut untagged = [mapper.default_p_bit_assumption % 8; 65];

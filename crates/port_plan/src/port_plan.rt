@@ -2,7 +2,7 @@
 ghost use Rattle.std.specs.Prelude.{◌≡◌, ◌<◌, ◌≤◌, ◌+◌, ◌*◌, [], ◌∷◌, ◌++◌, ℕ, List, Option, map, take, drop, IfOk, IfErr, Ok, Err, length, vec_len, vec_capacity};
 ghost use Rattle.tag_view.specs.Tag.{TagFields};
 ghost use Rattle.tag_view.specs.Word.{tag_of};
-ghost use Rattle.tag_view.specs.Frame.{Reading, type_at};
+ghost use Rattle.tag_view.specs.Frame.{Reading, type_at, with_tags};
 ghost use Rattle.tag_view.specs.Dscp.{dscp_of};
 ghost use Rattle.rule_index.specs.Head.{head_of};
 ghost use Rattle.frame_meaning.specs.declared.verdict.Verdict.TheVariants.{Drop, Forward};
@@ -88,9 +88,12 @@ impl<'p> PortPlan<'p> {
     #[inline(always)]
     fn tagging(&self, head: &Head, place: usize) -> Result<Tagging<'p>, Reason>
         requires { place < 65 }
-        ensures tags { IfOk result (λ tagging. (e : Entities) (port : ℕ) (frame : Reading) → IsPlanOf e port self.now → HasHead head.now frame
-            → IsPlaceFor self.now (dscp_of frame.rest) place → tags_at (table_at e port) frame ≡ Ok (tags_made tagging)) }
-        ensures reason { IfErr result (λ reason. (e : Entities) (port : ℕ) (frame : Reading) → IsPlanOf e port self.now → HasHead head.now frame
+        ensures tags { IfOk result (λ tagging. (e : Entities) (port : ℕ) (frame : Reading)
+            → IsPlanOf e port self.now → HasHead head.now frame
+            → IsPlaceFor self.now (dscp_of frame.rest) place
+            → tags_at (table_at e port) frame ≡ Ok (tags_made tagging)) }
+        ensures reason { IfErr result (λ reason. (e : Entities) (port : ℕ) (frame : Reading)
+            → IsPlanOf e port self.now → HasHead head.now frame
             → tags_at (table_at e port) frame ≡ Err reason) }
     {
         match self.table.treat(head) {
@@ -108,8 +111,11 @@ impl<'p> PortPlan<'p> {
     #[inline(always)]
     fn priority(&self, tagging: &Tagging, place: usize) -> u8
         requires { place < 65 }
-        ensures value { (e : Entities) (port : ℕ) (dscp : Option ℕ) → IsPlanOf e port self.now → IsPlaceFor self.now dscp place
-            → result ≡ priority_made (mapper_at e port) dscp tagging.now.treat.now.count (words_made tagging.now) }
+        ensures value { (e : Entities) (port : ℕ) (dscp : Option ℕ)
+            → IsPlanOf e port self.now → IsPlaceFor self.now dscp place
+            → result
+            ≡ priority_made (mapper_at e port) dscp tagging.now.treat.now.count
+            (words_made tagging.now) }
         ensures bound { result < 8 }
         ensures four { length (words_made tagging.now) ≡ 4 }
     {
@@ -126,7 +132,8 @@ impl<'p> PortPlan<'p> {
     #[inline(always)]
     fn route(&self, tagging: &Tagging, place: usize) -> Result<u16, Reason>
         requires { place < 65 }
-        ensures { (e : Entities) (port : ℕ) (dscp : Option ℕ) → IsPlanOf e port self.now → IsPlaceFor self.now dscp place
+        ensures { (e : Entities) (port : ℕ) (dscp : Option ℕ)
+            → IsPlanOf e port self.now → IsPlaceFor self.now dscp place
             → result ≡ gem_port_at e port (tags_made tagging.now) dscp }
     {
         self.routes.route(self.priority(tagging, place))
@@ -137,9 +144,11 @@ impl<'p> PortPlan<'p> {
     fn decide(&self, head: &Head, rest: &[u8]) -> Result<(u16, Tagging<'p>), Reason>
         requires ethertype { head.now.type ≡ type_at 0 rest.now }
         requires whole { 2 ≤ length rest.now }
-        ensures leaves { IfOk result (λ decided. (e : Entities) (port : ℕ) (frame : Reading) → IsPlanOf e port self.now → IsFrameOf head.now rest.now frame
+        ensures leaves { IfOk result (λ decided. (e : Entities) (port : ℕ) (frame : Reading)
+            → IsPlanOf e port self.now → IsFrameOf head.now rest.now frame
             → leaves_by e port frame ≡ Ok (decided.0, tags_made decided.1)) }
-        ensures dropped { IfErr result (λ reason. (e : Entities) (port : ℕ) (frame : Reading) → IsPlanOf e port self.now → IsFrameOf head.now rest.now frame
+        ensures dropped { IfErr result (λ reason. (e : Entities) (port : ℕ) (frame : Reading)
+            → IsPlanOf e port self.now → IsFrameOf head.now rest.now frame
             → leaves_by e port frame ≡ Err reason) }
     {
         let place = self.dscp_place(head, rest);
@@ -156,7 +165,8 @@ impl<'p> PortPlan<'p> {
     #[inline(always)]
     fn read(&self, bytes: &[u8]) -> Result<Head, Reason>
         ensures head { IfOk result (λ head. IsHeadOf self.now bytes.now head) }
-        ensures dropped { IfErr result (λ reason. (e : Entities) (port : ℕ) → IsPlanOf e port self.now → Drop reason ≡ meaning e port bytes.now) }
+        ensures dropped { IfErr result (λ reason. (e : Entities) (port : ℕ)
+            → IsPlanOf e port self.now → Drop reason ≡ meaning e port bytes.now) }
     {
         match Head::read(bytes, self.table.input_tpid()) {
             Ok(head) => Ok(head),
@@ -176,7 +186,8 @@ impl<'p> PortPlan<'p> {
         requires head { IsHeadOf self.now bytes.now head.now }
         requires received { received ≡ length head.now.tags }
         requires free { vec_len verdicts.old < vec_capacity verdicts.old }
-        ensures verdict { (e : Entities) (port : ℕ) → IsPlanOf e port self.now → verdicts.new.items ≡ verdicts.old.items ++ meaning e port bytes.now ∷ [] }
+        ensures verdict { (e : Entities) (port : ℕ) → IsPlanOf e port self.now
+            → verdicts.new.items ≡ verdicts.old.items ++ meaning e port bytes.now ∷ [] }
         ensures one { vec_len verdicts.new ≡ vec_len verdicts.old + 1 }
         ensures room { vec_capacity verdicts.new ≡ vec_capacity verdicts.old }
     {
@@ -197,7 +208,8 @@ impl<'p> PortPlan<'p> {
     fn verdict<'a>(&self, head: &Head, received: usize, bytes: &'a [u8]) -> Verdict<'a>
         requires head { IsHeadOf self.now bytes.now head.now }
         requires received { received ≡ length head.now.tags }
-        ensures verdict { (e : Entities) (port : ℕ) → IsPlanOf e port self.now → result ≡ meaning e port bytes.now }
+        ensures verdict { (e : Entities) (port : ℕ) → IsPlanOf e port self.now
+            → result ≡ meaning e port bytes.now }
         ensures size { LeavesLittleMore bytes.now result }
     {
         match self.decide(head, behind_tags(bytes, received)) {
@@ -212,7 +224,8 @@ impl<'p> PortPlan<'p> {
     /// What becomes of a frame. It takes no memory, and the verdict borrows the frame alone.
     #[inline(always)]
     pub fn forward<'a>(&self, bytes: &'a [u8]) -> Verdict<'a>
-        ensures verdict { (e : Entities) (port : ℕ) → IsPlanOf e port self.now → result ≡ meaning e port bytes.now }
+        ensures verdict { (e : Entities) (port : ℕ) → IsPlanOf e port self.now
+            → result ≡ meaning e port bytes.now }
         ensures size { LeavesLittleMore bytes.now result }
     {
         match self.read(bytes) {
@@ -232,7 +245,8 @@ impl<'p> PortPlan<'p> {
     pub fn push_all<'a>(&self, frames: &[&'a [u8]], verdicts: &mut Vec<Verdict<'a>>)
         requires { vec_len verdicts.old + length frames.now ≤ vec_capacity verdicts.old }
         ensures verdicts { (e : Entities) (port : ℕ) → IsPlanOf e port self.now
-            → verdicts.new.items ≡ verdicts.old.items ++ map (λ frame. meaning e port frame.now) frames.now }
+            → verdicts.new.items
+            ≡ verdicts.old.items ++ map (λ frame. meaning e port frame.now) frames.now }
         ensures room { vec_capacity verdicts.new ≡ vec_capacity verdicts.old }
     {
         for frame in frames {
@@ -245,7 +259,8 @@ impl<'p> PortPlan<'p> {
     #[inline(always)]
     pub fn push<'a>(&self, bytes: &'a [u8], verdicts: &mut Vec<Verdict<'a>>)
         requires { vec_len verdicts.old < vec_capacity verdicts.old }
-        ensures verdict { (e : Entities) (port : ℕ) → IsPlanOf e port self.now → verdicts.new.items ≡ verdicts.old.items ++ meaning e port bytes.now ∷ [] }
+        ensures verdict { (e : Entities) (port : ℕ) → IsPlanOf e port self.now
+            → verdicts.new.items ≡ verdicts.old.items ++ meaning e port bytes.now ∷ [] }
         ensures one { vec_len verdicts.new ≡ vec_len verdicts.old + 1 }
         ensures room { vec_capacity verdicts.new ≡ vec_capacity verdicts.old }
     {
@@ -284,7 +299,7 @@ fn push_many_tags<'a>(
     requires whole { 14 + 4 * received ≤ length bytes.now }
     requires free { vec_len verdicts.old < vec_capacity verdicts.old }
     ensures verdict { verdicts.new.items ≡ verdicts.old.items
-        ++ Forward gem (record { addresses = take 12 bytes.now; tags = tags_made tagging.now; rest = drop (12 + 4 * received) bytes.now }) ∷ [] }
+        ++ Forward gem (with_tags bytes.now received (tags_made tagging.now)) ∷ [] }
     ensures one { vec_len verdicts.new ≡ vec_len verdicts.old + 1 }
     ensures room { vec_capacity verdicts.new ≡ vec_capacity verdicts.old }
 {

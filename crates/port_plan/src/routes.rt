@@ -40,7 +40,8 @@ impl Routes {
 
     /// The routes of a mapper among the entities. This takes no memory.
     pub fn of(mib: &Mib, mapper: &Mapper) -> Self
-        ensures { (n : ℕ) → AreRoutes mib.now.entities (Some (mapper_instance n mapper.now)) result }
+        ensures { (n : ℕ)
+            → AreRoutes mib.now.entities (Some (mapper_instance n mapper.now)) result }
     {
         Routes {
             by_priority: by_priority(mib, mapper),
@@ -52,7 +53,8 @@ impl Routes {
     /// Compiles the routes of the same mapper again, of which it takes what isn't read from other instances as it is. This takes
     /// no memory.
     pub fn route_again(&mut self, mib: &Mib, mapper: &Mapper)
-        ensures { (e : Entities) (n : ℕ) → AreRoutes e (Some (mapper_instance n mapper.now)) self.old
+        ensures { (e : Entities) (n : ℕ)
+            → AreRoutes e (Some (mapper_instance n mapper.now)) self.old
             → AreRoutes mib.now.entities (Some (mapper_instance n mapper.now)) self.new }
     {
         self.by_priority = by_priority(mib, mapper);
@@ -84,7 +86,9 @@ impl Routes {
     #[inline(always)]
     pub(crate) fn untagged(&self, place: usize) -> u8
         requires { place < 65 }
-        ensures value { (e : Entities) (mapper : Option Instance) (dscp : Option ℕ) → AreRoutes e mapper self.now → IsDscp dscp → place ≡ dscp_place dscp → result ≡ untagged_priority mapper dscp }
+        ensures value { (e : Entities) (mapper : Option Instance) (dscp : Option ℕ)
+            → AreRoutes e mapper self.now → IsDscp dscp → place ≡ dscp_place dscp
+            → result ≡ untagged_priority mapper dscp }
         ensures bound { result < 8 }
     {
         self.untagged[place]
@@ -94,7 +98,8 @@ impl Routes {
     #[inline(always)]
     pub(crate) fn route(&self, priority: u8) -> Result<u16, Reason>
         requires { priority < 8 }
-        ensures { (e : Entities) (mapper : Option Instance) → AreRoutes e mapper self.now → result ≡ route_of e mapper priority }
+        ensures { (e : Entities) (mapper : Option Instance) → AreRoutes e mapper self.now
+            → result ≡ route_of e mapper priority }
     {
         self.by_priority[usize::from(priority)].to
     }

@@ -77,7 +77,7 @@ not-before entries j k place at_j at_k less =
     ap (λ n. is_before entries n place) (sym e_j) ∙ ap (λ n. is_before entries (get_or order j 0) n) (sym e_k) ∙ before in
     let none : false ≡ true = sym (itself (rank_at entries place) place) ∙ same in cc
 
-once : (entries : List (List ℕ)) (j k place : ℕ) → slice_get (order_of entries) j ≡ Some place → slice_get (order_of entries) k ≡ Some place → j ≢ k → ⊥
+pub once : (entries : List (List ℕ)) (j k place : ℕ) → slice_get (order_of entries) j ≡ Some place → slice_get (order_of entries) k ≡ Some place → j ≢ k → ⊥
 once entries j k place at_j at_k differ = side (leb_tells j k)
   where
     side : ((leb j k ≡ true) × (j ≤ k)) ⊎ ((leb j k ≡ false) × (k < j)) → ⊥

@@ -1,5 +1,5 @@
 -- The head of a frame by the words that stand in its bytes.
-use Rattle.std.proofs.Common.{◌≡◌, ◌<◌, ◌≤◌, ℕ, ◌+◌, ◌*◌, ◌/◌, ◌%◌, ◌^◌, ◌==◌, Bool, true, false, List, [], ◌∷◌, length, take, drop, Some, None, Ok, Err, arith, refl, ap, ◌∙◌, sym}
+use Rattle.std.proofs.Common.{◌≡◌, ◌<◌, ◌≤◌, ℕ, ◌+◌, ◌/◌, ◌%◌, ◌^◌, ◌==◌, Bool, true, false, List, [], ◌∷◌, length, take, drop, Some, None, Ok, Err, arith, refl, ap, ap₂, ◌∙◌, sym}
 use Rattle.std.specs.Prelude.{nat_lt}
 use Rattle.std.proofs.lemmas.Bool.{le-ltb, lt-ltb}
 use Rattle.std.proofs.lemmas.List.{drop-drop}
@@ -7,34 +7,20 @@ use Rattle.byteorder.specs.Endian.{big_number}
 use Rattle.tag_view.specs.declared.fault.FrameFault.TheVariants.{Runt, CutTag}
 use Rattle.tag_view.specs.Tag.{TagFields, is_tag_type}
 use Rattle.tag_view.specs.Frame.{Reading, type_at, tag_at, reading_of, fault_of}
-use Rattle.tag_view.proofs.Tags.{same_fields}
 use Rattle.tag_view.proofs.Readings.{frame_read, frame_refused, runt_frame}
 use Rattle.tag_view.specs.Word.{tag_of}
 use Rattle.rule_index.specs.Head.{head_in, head_of, head_read}
-
--- ---- words
-
--- the tag at a place by its type and its control information
-word_at : (place : ℕ) (bytes : List ℕ) (tpid control : ℕ) → control < 2 ^ 16 → tpid ≡ type_at place bytes → control ≡ type_at (place + 2) bytes
-    → tag_of (tpid * 2 ^ 16 + control) ≡ tag_at place bytes
-word_at place bytes tpid control small is_tpid is_control = parts (type_at place bytes) (type_at (place + 2) bytes) is_tpid is_control
-  where
-    parts : (t c : ℕ) → tpid ≡ t → control ≡ c
-        → let tag : TagFields = record { tpid = t; pcp = c / 2 ^ 13; dei = c / 2 ^ 12 % 2 == 1; vid = c % 2 ^ 12 } in tag_of (tpid * 2 ^ 16 + control) ≡ tag
-    parts t c e f = same_fields _ _ _ _ _ _ _ _ (omega (arith, e, small)) (omega (arith, f, small)) (ap (λ n. n == 1) (bit e f)) (omega (arith, f, small))
-      where
-        bit : tpid ≡ t → control ≡ c → (tpid * 2 ^ 16 + control) / 2 ^ 12 % 2 ≡ c / 2 ^ 12 % 2
-        bit e f = omega (arith, f, small)
 
 -- ---- behind the addresses
 
 past : (k : ℕ) (bytes : List ℕ) → type_at k (drop 12 bytes) ≡ type_at (12 + k) bytes
 past k bytes = ap (λ (xs : List ℕ). big_number 2 xs) (drop-drop k 12 bytes)
 
-tag_past : (k : ℕ) (bytes : List ℕ) (tpid control : ℕ) → control < 2 ^ 16 → tpid ≡ type_at (12 + k) bytes → control ≡ type_at (12 + (k + 2)) bytes
-    → tag_at k (drop 12 bytes) ≡ tag_of (tpid * 2 ^ 16 + control)
-tag_past k bytes tpid control small is_tpid is_control =
-    sym (word_at k (drop 12 bytes) tpid control small (is_tpid ∙ sym (past k bytes)) (is_control ∙ sym (past (k + 2) bytes)))
+tag_past : (k word : ℕ) (bytes : List ℕ) → tag_of word ≡ tag_at (12 + k) bytes → tag_at k (drop 12 bytes) ≡ tag_of word
+tag_past k word bytes is =
+    let by : ℕ → ℕ → TagFields = λ t c. record { tpid = t; pcp = c / 2 ^ 13; dei = c / 2 ^ 12 % 2 == 1; vid = c % 2 ^ 12 } in
+    let place : 12 + (k + 2) ≡ 12 + k + 2 = omega arith in
+    ap₂ by (past k bytes) (past (k + 2) bytes ∙ ap (λ (n : ℕ). type_at n bytes) place) ∙ sym is
 
 is_tag_past : (input k n : ℕ) (b : Bool) (bytes : List ℕ) → n ≡ type_at (12 + k) bytes → is_tag_type input n ≡ b → is_tag_type input (type_at k (drop 12 bytes)) ≡ b
 is_tag_past input k n b bytes is tag = ap (is_tag_type input) (past k bytes ∙ sym is) ∙ tag
@@ -76,18 +62,18 @@ cut_one input first bytes h is tag few = ap head_in (frame_refused input bytes C
     cut : fault_of input bytes ≡ Some CutTag
     cut = rw (long bytes 14 h, is_tag_at input 12 first true bytes is tag, short bytes 18 few) refl
 
-pub one_tag : (input first second control : ℕ) (bytes : List ℕ) → 18 ≤ length bytes → first ≡ type_at 12 bytes → is_tag_type input first ≡ true
-    → control < 2 ^ 16 → control ≡ type_at 14 bytes → second ≡ type_at 16 bytes → is_tag_type input second ≡ false
-    → head_read input bytes ≡ Ok (record { tags = tag_of (first * 2 ^ 16 + control) ∷ []; type = second })
+pub one_tag : (input first second outer : ℕ) (bytes : List ℕ) → 18 ≤ length bytes → first ≡ type_at 12 bytes → is_tag_type input first ≡ true
+    → tag_of outer ≡ tag_at 12 bytes → second ≡ type_at 16 bytes → is_tag_type input second ≡ false
+    → head_read input bytes ≡ Ok (record { tags = tag_of outer ∷ []; type = second })
 unfolding fault_of
-one_tag input first second control bytes h is tag small is_control is_next other =
-    read input bytes _ whole parts ∙ ap (λ (n : ℕ). Ok (record { tags = tag_of (first * 2 ^ 16 + control) ∷ []; type = n })) (sym is_next)
+one_tag input first second outer bytes h is tag is_outer is_next other =
+    read input bytes _ whole parts ∙ ap (λ (n : ℕ). Ok (record { tags = tag_of outer ∷ []; type = n })) (sym is_next)
   where
     whole : fault_of input bytes ≡ None
     whole = rw (long bytes 14 (omega (arith, h)), is_tag_at input 12 first true bytes is tag, long bytes 18 h, is_tag_at input 16 second false bytes is_next other) refl
 
-    parts : reading_of input bytes ≡ record { addresses = take 12 bytes; tags = tag_of (first * 2 ^ 16 + control) ∷ []; rest = drop 16 bytes }
-    parts = rw (is_tag_past input 0 first true bytes is tag, is_tag_past input 4 second false bytes is_next other, tag_past 0 bytes first control small is is_control) refl
+    parts : reading_of input bytes ≡ record { addresses = take 12 bytes; tags = tag_of outer ∷ []; rest = drop 16 bytes }
+    parts = rw (is_tag_past input 0 first true bytes is tag, is_tag_past input 4 second false bytes is_next other, tag_past 0 outer bytes is_outer) refl
 
 pub cut_two : (input first second : ℕ) (bytes : List ℕ) → 18 ≤ length bytes → first ≡ type_at 12 bytes → is_tag_type input first ≡ true
     → second ≡ type_at 16 bytes → is_tag_type input second ≡ true → length bytes < 22 → head_read input bytes ≡ Err CutTag
@@ -97,16 +83,16 @@ cut_two input first second bytes h is tag is_next next few = ap head_in (frame_r
     cut : fault_of input bytes ≡ Some CutTag
     cut = rw (long bytes 14 (omega (arith, h)), is_tag_at input 12 first true bytes is tag, long bytes 18 h, is_tag_at input 16 second true bytes is_next next, short bytes 22 few) refl
 
-pub two_tags : (input first second control last type : ℕ) (bytes : List ℕ) → 22 ≤ length bytes → first ≡ type_at 12 bytes → is_tag_type input first ≡ true
-    → control < 2 ^ 16 → control ≡ type_at 14 bytes → second ≡ type_at 16 bytes → is_tag_type input second ≡ true
-    → last < 2 ^ 16 → last ≡ type_at 18 bytes → type ≡ type_at 20 bytes
-    → head_read input bytes ≡ Ok (record { tags = tag_of (first * 2 ^ 16 + control) ∷ tag_of (second * 2 ^ 16 + last) ∷ []; type = type })
+pub two_tags : (input first second outer inner type : ℕ) (bytes : List ℕ) → 22 ≤ length bytes → first ≡ type_at 12 bytes → is_tag_type input first ≡ true
+    → tag_of outer ≡ tag_at 12 bytes → second ≡ type_at 16 bytes → is_tag_type input second ≡ true
+    → tag_of inner ≡ tag_at 16 bytes → type ≡ type_at 20 bytes
+    → head_read input bytes ≡ Ok (record { tags = tag_of outer ∷ tag_of inner ∷ []; type = type })
 unfolding fault_of
-two_tags input first second control last type bytes h is tag small is_control is_next next low is_last is_type =
-    read input bytes _ whole parts ∙ ap (λ (n : ℕ). Ok (record { tags = tag_of (first * 2 ^ 16 + control) ∷ tag_of (second * 2 ^ 16 + last) ∷ []; type = n })) (sym is_type)
+two_tags input first second outer inner type bytes h is tag is_outer is_next next is_inner is_type =
+    read input bytes _ whole parts ∙ ap (λ (n : ℕ). Ok (record { tags = tag_of outer ∷ tag_of inner ∷ []; type = n })) (sym is_type)
   where
     whole : fault_of input bytes ≡ None
     whole = rw (long bytes 14 (omega (arith, h)), is_tag_at input 12 first true bytes is tag, long bytes 18 (omega (arith, h)), is_tag_at input 16 second true bytes is_next next, long bytes 22 h) refl
 
-    parts : reading_of input bytes ≡ record { addresses = take 12 bytes; tags = tag_of (first * 2 ^ 16 + control) ∷ tag_of (second * 2 ^ 16 + last) ∷ []; rest = drop 20 bytes }
-    parts = rw (is_tag_past input 0 first true bytes is tag, is_tag_past input 4 second true bytes is_next next, tag_past 0 bytes first control small is is_control, tag_past 4 bytes second last low is_next is_last) refl
+    parts : reading_of input bytes ≡ record { addresses = take 12 bytes; tags = tag_of outer ∷ tag_of inner ∷ []; rest = drop 20 bytes }
+    parts = rw (is_tag_past input 0 first true bytes is tag, is_tag_past input 4 second true bytes is_next next, tag_past 0 outer bytes is_outer, tag_past 4 inner bytes is_inner) refl

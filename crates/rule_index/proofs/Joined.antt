@@ -40,7 +40,7 @@ tag-mask codes class masks filters input tag small low of_codes of_vids =
     ap₂ bit_and
     (of_codes (code_of input tag) (code-below input tag small)
     ∙ mask-same (λ f. admits_code (code_of input tag) f) (λ f. has_priority f.priority tag && has_tpid input f.tpid tag) filters (λ f. code-admits input tag f small))
-    (of_vids.admits tag.vid low ∙ mask-map (λ f. admits_vid tag.vid f) (λ (f : TagFilter). f.vid) filters
+    (of_vids.admits.each tag.vid low ∙ mask-map (λ f. admits_vid tag.vid f) (λ (f : TagFilter). f.vid) filters
     ∙ mask-same (λ (f : TagFilter). admits_vid tag.vid f.vid) (λ f. has_vid f.vid tag) filters (λ f. vid-admits f.vid tag))
     ∙ mask-and (λ f. has_priority f.priority tag && has_tpid input f.tpid tag) (λ f. has_vid f.vid tag) filters
     ∙ mask-same (λ f. (has_priority f.priority tag && has_tpid input f.tpid tag) && has_vid f.vid tag) (λ f. is_tag input f tag) filters

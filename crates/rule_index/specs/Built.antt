@@ -18,6 +18,7 @@ pub record IsGrouping (masks : Masks) (rows : List Row) : Type 0 where
 -- and then
 pub record IsBuilt (masks : Masks) (rows : List Row) : Type 0 where
   pub tags : AreTags masks.kinds.tags rows
+  pub types : AreTypes masks.kinds.types rows
   pub kinds : AreKinds masks.kinds.joined rows
   pub outer : IsTagIndex masks.outer (map (λ (row : Row). outer_in row.filter) rows)
   pub inner : IsTagIndex masks.inner (map (λ (row : Row). inner_in row.filter) rows)

@@ -1,6 +1,6 @@
 -- The head of a frame: the tags that are read, and the type behind them. A tag is kept as the word of its
 -- four bytes (IEEE 802.1Q, 9.6).
-use Rattle.std.specs.Prelude.{ℕ, List, [], ◌∷◌, Result, Ok, Err, false, zero, suc}
+use Rattle.std.specs.Prelude.{ℕ, List, [], ◌∷◌, Result, Ok, Err, zero, suc}
 use Rattle.tag_view.specs.Tag.{TagFields}
 use Rattle.tag_view.specs.Frame.{Reading, frame_of, type_at}
 use Rattle.tag_view.specs.declared.fault.FrameFault.{FrameFault}
@@ -25,10 +25,6 @@ abbrev pub head_read : ℕ → List ℕ → Result FrameHead FrameFault
 head_read input bytes = head_in (frame_of input bytes)
 
 -- ---- tags that are kept as words
-
--- what stands for a tag that isn't there
-abbrev pub no_tag : TagFields
-no_tag = record { tpid = 0x8100; pcp = 0; dei = false; vid = 0 }
 
 -- none, the second or both of two tags: of a frame with one tag this is the outer and the inner one
 abbrev pub last_tags : ℕ → TagFields → TagFields → List TagFields

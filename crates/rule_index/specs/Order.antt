@@ -1,5 +1,5 @@
 -- The order of a table's entries by rank and place.
-use Rattle.std.specs.Prelude.{◌≡◌, ◌<◌, ℕ, ◌+◌, Bool, true, ◌&&◌, List, [], ◌∷◌, ◌++◌, if◌then◌else◌, ◌==◌, length, map, slice_index_or}
+use Rattle.std.specs.Prelude.{◌≡◌, ◌<◌, ℕ, ◌+◌, Bool, true, ◌&&◌, List, [], ◌∷◌, ◌++◌, if◌then◌else◌, ◌==◌, nat_le, nat_lt, ◌-◌, length, map, slice_index_or}
 use Rattle.tag_view.specs.Tag.{TagFields}
 use Rattle.vlan_rule.specs.Choice.{are_tags, has_type, is_before}
 use Rattle.vlan_rule.specs.Meaning.{ethertype_of, filter_of, rank_number, rank_of}
@@ -39,3 +39,16 @@ pub record IsAlike (a b : List ℕ) : Type 0 where
   pub filter : filter_of a ≡ filter_of b
   pub ethertype : ethertype_of a ≡ ethertype_of b
   pub rank : rank_of a ≡ rank_of b
+
+-- how many entries are of a rank or of a smaller one
+unfoldable pub up_to_rank : ℕ → List (List ℕ) → ℕ
+up_to_rank rank [] = 0
+up_to_rank rank (e ∷ rest) = if nat_le (rank_number (rank_of e)) rank then up_to_rank rank rest + 1 else up_to_rank rank rest
+
+-- a row in a table that has one entry more, at a place: the places from there on are one higher
+abbrev pub raised : ℕ → Row → Row
+raised place row = record { place = if nat_lt row.place place then row.place else row.place + 1; filter = row.filter; ethertype = row.ethertype }
+
+-- a row in a table that has one entry less: the places behind the one that it had are one lower
+abbrev pub lowered : ℕ → Row → Row
+lowered place row = record { place = if nat_lt place row.place then row.place - 1 else row.place; filter = row.filter; ethertype = row.ethertype }

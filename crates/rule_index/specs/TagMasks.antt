@@ -13,5 +13,6 @@ pub record IsTagGrouping (masks : TagMasks) (filters : List TagFilter) : Type 0 
 
 -- and then
 pub record IsTagIndex (masks : TagMasks) (filters : List TagFilter) : Type 0 where
+  pub keys : IsCodeGrouping masks.codes filters
   pub codes : AreCodes masks.codes.codes filters
   pub vids : AreVids masks.vids.class.items masks.vids.masks.items (map (λ f. f.vid) filters)

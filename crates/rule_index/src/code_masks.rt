@@ -2,11 +2,11 @@
 ghost use Rattle.std.specs.Prelude.{◌≡◌, ◌<◌, ◌≤◌, ◌+◌, ◌/◌, ◌%◌, ◌==◌, ◌^◌, ◌++◌, ◌∷◌, [], ℕ, List, length, slice_index_or};
 ghost use Rattle.tag_view.specs.Word.{tag_of};
 ghost use Rattle.vlan_rule.specs.declared.filter.TagFilter.{TagFilter};
-ghost use Rattle.rule_index.specs.Masks.{AreGroups};
+ghost use Rattle.rule_index.specs.Masks.{AreGroups, IsBetween};
 ghost use Rattle.rule_index.specs.Filters.{code_of, priority_key, tpid_key};
 ghost use Rattle.rule_index.specs.Codes.{joined_code, joined_priority, joined_tpid, only_if, AreCodes};
 
-use crate::bit::set_bit;
+use crate::bit::{insert_bits, remove_bits, set_bit};
 use vlan_rule::{PriorityFilter, TagFilter, TpidFilter};
 
 // The key of a filter for a priority.
@@ -112,9 +112,35 @@ impl CodeMasks {
         set_bit(&mut self.tpids, tpid_key(filter.tpid), place);
     }
 
+    // A filter that comes to a place in the order, before those from there on.
+    pub(crate) fn insert(&mut self, filter: TagFilter, place: usize)
+        requires place { place < 128 }
+        ensures { (before after : List TagFilter) → IsBetween before after place
+            → IsCodeGrouping self.old (before ++ after)
+            → IsCodeGrouping self.new (before ++ filter ∷ after) }
+    {
+        let priority = priority_key(filter.priority);
+        insert_bits(&mut self.priorities, 10, place, false, priority);
+        insert_bits(&mut self.tpids, 5, place, false, tpid_key(filter.tpid));
+    }
+
+    // The filter at a place in the order goes.
+    pub(crate) fn remove(&mut self, place: usize)
+        requires place { place < 128 }
+        ensures { (before after : List TagFilter) (filter : TagFilter) → length before ≡ place
+            → IsCodeGrouping self.old (before ++ filter ∷ after)
+            → IsCodeGrouping self.new (before ++ after) }
+    {
+        remove_bits(&mut self.priorities, 10, place);
+        remove_bits(&mut self.tpids, 5, place);
+    }
+
     // All filters are added.
     pub(crate) fn finish(&mut self)
-        ensures { (filters : List TagFilter) → IsCodeGrouping self.old filters → AreCodes self.new.codes filters }
+        ensures keys { (filters : List TagFilter)
+            → IsCodeGrouping self.old filters → IsCodeGrouping self.new filters }
+        ensures codes { (filters : List TagFilter)
+            → IsCodeGrouping self.old filters → AreCodes self.new.codes filters }
     {
         let tpids = joined_tpids(&self.tpids);
         for low in 0..16 {

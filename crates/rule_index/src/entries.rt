@@ -2,6 +2,7 @@
 ghost use Rattle.std.specs.Prelude.{◌≡◌, ◌≤◌, ◌<◌, ◌+◌, ℕ, IfSome, IsTrue, length, map, slice_set, vec_capacity};
 ghost use Rattle.vlan_rule.specs.Choice.{entry_at};
 ghost use Rattle.vlan_rule.specs.Table.{table_max_size};
+ghost use Rattle.std.specs.List.{remove};
 ghost use Rattle.rule_index.specs.Order.{IsAlike};
 
 use byteorder::{BigEndian, ByteOrder};
@@ -61,6 +62,20 @@ pub(crate) fn other_treatment(entries: &[Entry], table: &RuleTable, place: usize
         return None;
     }
     Some(entry)
+}
+
+// Whether a table has all of these entries but that at a place, before which they are the same.
+pub(crate) fn is_without(entries: &[Entry], table: &RuleTable, place: usize) -> bool
+    requires within { place ≤ length table.now }
+    requires same { (k : ℕ) → k < place
+        → entry_at (map (λ entry. entry.0) entries.now) k ≡ entry_at table.now k }
+    ensures { IsTrue result → (place < length entries.now)
+        × (table.now ≡ remove (map (λ entry. entry.0) entries.now) place) }
+{
+    if entries.len() != table.len() + 1 {
+        return false;
+    }
+    first_other(&entries[1..], table, place) == table.len()
 }
 
 // Whether the bytes of two entries begin with one key.

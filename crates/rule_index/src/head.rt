@@ -1,41 +1,44 @@
 //! The head of a frame: what the filters of an entry look at.
-ghost use Rattle.std.specs.Prelude.{◌≡◌, ◌≤◌, ◌+◌, ◌-◌, ◌*◌, ◌^◌, [], ◌∷◌, length, slice_index_or};
-ghost use Rattle.tag_view.specs.Tag.{is_tag_type};
-ghost use Rattle.tag_view.specs.Frame.{type_at};
+ghost use Rattle.std.specs.Prelude.{◌≡◌, ◌≤◌, ◌+◌, ◌-◌, [], ◌∷◌, length, slice_index_or};
+ghost use Rattle.tag_view.specs.Tag.{missing_tag};
+ghost use Rattle.tag_view.specs.Frame.{tag_at, type_at};
 ghost use Rattle.tag_view.specs.Word.{tag_of};
-ghost use Rattle.rule_index.specs.Head.{head_of, head_read, no_tag};
+ghost use Rattle.rule_index.specs.Head.{head_of, head_read};
 
 use byteorder::{BigEndian, ByteOrder};
 use std::marker::Model;
-use tag_view::{FrameFault, FrameView, Tag};
+use tag_view::{FrameFault, FrameView, MISSING_WORD, is_tag_type};
 
-// The word that stands for a tag that isn't there.
-const NO_TAG: u32 = 0x8100_0000;
-
-/// The tags of a frame and the type behind them. A tag is held as one word, the number in its four
-/// bytes (IEEE 802.1Q, 9.6): the tag protocol identifier, then from the highest bit priority, DEI and
-/// VLAN identifier.
+/// The tags of a frame and the type behind them. A tag is held as its word, the number in its four
+/// bytes (IEEE 802.1Q, 9.6).
 #[derive(Debug, Drop)]
 pub struct Head {
     // The number of tags.
     pub(crate) tags: u8,
-    // The first tag, or that which stands for none.
+    // The first tag, or the missing tag.
     pub(crate) outer: u32,
-    // The last tag, which of one tag is that tag.
+    // The last tag, which of one tag is that tag, or the missing tag.
     pub(crate) inner: u32,
     pub(crate) ethertype: u16,
 }
 
 impl Model for Head {
     ghost use Rattle.std.specs.Prelude.{◌≡◌, ◌<◌, ◌≤◌};
-    ghost use Rattle.tag_view.specs.Word.{tag_of};
+    ghost use Rattle.tag_view.specs.Tag.{missing_tag};
+    ghost use Rattle.tag_view.specs.Word.{tag_of, word_of};
     ghost use Rattle.rule_index.specs.Head.{FrameHead, last_tags};
 
     ghost Value = { FrameHead };
 
-    ghost view = { λ h. record { tags = last_tags h.tags (tag_of h.outer) (tag_of h.inner); type = h.ethertype } };
+    ghost view = { λ h. record {
+      tags = last_tags h.tags (tag_of h.outer) (tag_of h.inner);
+      type = h.ethertype;
+    } };
 
-    ghost invariant = { λ h. (h.tags ≤ 2) × (h.tags < 2 → h.outer ≡ h.inner) × (h.tags < 1 → h.inner ≡ 0x81000000) };
+    ghost invariant = { λ h.
+        (h.tags ≤ 2)
+        × (h.tags < 2 → h.outer ≡ h.inner)
+        × (h.tags < 1 → h.inner ≡ word_of missing_tag) };
 }
 
 impl Head {
@@ -47,8 +50,8 @@ impl Head {
         let tags = frame.tags();
         let ethertype = frame.ethertype();
         match tags {
-            [outer, inner, ..] => two_tags(word(outer), word(inner), ethertype),
-            [tag] => one_tag(word(tag), ethertype),
+            [outer, inner, ..] => two_tags(outer.word(), inner.word(), ethertype),
+            [tag] => one_tag(tag.word(), ethertype),
             [] => untagged(ethertype),
         }
     }
@@ -69,7 +72,7 @@ impl Head {
         if bytes.len() < 18 {
             return Err(FrameFault::CutTag);
         }
-        let outer = joined(first, type_at(bytes, 14));
+        let outer = word_at(bytes, 12);
         let second = type_at(bytes, 16);
         if !is_tag_type(second, input_tpid) {
             return Ok(one_tag(outer, second));
@@ -77,7 +80,7 @@ impl Head {
         if bytes.len() < 22 {
             return Err(FrameFault::CutTag);
         }
-        let inner = joined(second, type_at(bytes, 18));
+        let inner = word_at(bytes, 16);
         Ok(two_tags(outer, inner, type_at(bytes, 20)))
     }
 
@@ -90,20 +93,19 @@ impl Head {
         usize::from(self.tags)
     }
 
-    /// The word of the first tag. Where there is none it is that of a tag of type 0x8100 that is zero
-    /// otherwise.
+    /// The word of the first tag, or of the missing tag where there is none.
     #[inline(always)]
     pub fn outer(&self) -> u32
-        ensures { tag_of result ≡ slice_index_or self.now.tags 0 no_tag }
+        ensures { tag_of result ≡ slice_index_or self.now.tags 0 missing_tag }
     {
         self.outer
     }
 
-    /// The word of the last tag, which of one tag is that tag. Where there is none it is that of a tag of
-    /// type 0x8100 that is zero otherwise.
+    /// The word of the last tag, which of one tag is that tag, or of the missing tag where there is none.
     #[inline(always)]
     pub fn inner(&self) -> u32
-        ensures { tag_of result ≡ slice_index_or self.now.tags (length self.now.tags - 1) no_tag }
+        ensures { tag_of result
+            ≡ slice_index_or self.now.tags (length self.now.tags - 1) missing_tag }
     {
         self.inner
     }
@@ -123,8 +125,8 @@ fn untagged(ethertype: u16) -> Head
 {
     Head {
         tags: 0,
-        outer: NO_TAG,
-        inner: NO_TAG,
+        outer: MISSING_WORD,
+        inner: MISSING_WORD,
         ethertype,
     }
 }
@@ -153,37 +155,20 @@ fn two_tags(outer: u32, inner: u32, ethertype: u16) -> Head
     }
 }
 
-// The word of a tag.
+/// The word of the tag at a place.
 #[inline(always)]
-fn word(tag: &Tag) -> u32
-    ensures { tag_of result ≡ tag.now }
+fn word_at(bytes: &[u8], place: usize) -> u32
+    requires { place + 4 ≤ length bytes.now }
+    ensures { tag_of result ≡ tag_at place bytes.now }
 {
-    let control = u32::from(tag.pcp) * 8192 + u32::from(tag.dei) * 4096 + u32::from(tag.vid);
-    u32::from(tag.tpid) * 65536 + control
+    BigEndian::read_u32(&bytes[place..])
 }
 
-// The word of a tag by its type and its control information.
-#[inline(always)]
-fn joined(tpid: u16, control: u16) -> u32
-    ensures { result ≡ tpid * 2 ^ 16 + control }
-{
-    u32::from(tpid) << 16 | u32::from(control)
-}
-
-// The type in the two bytes from a place.
+/// The type in the two bytes from a place.
 #[inline(always)]
 fn type_at(bytes: &[u8], place: usize) -> u16
     requires { place + 2 ≤ length bytes.now }
     ensures { result ≡ type_at place bytes.now }
 {
     BigEndian::read_u16(&bytes[place..])
-}
-
-// Whether a type begins a tag: one of IEEE 802.1Q, 9.5, or the one that the port is set to.
-#[inline(always)]
-fn is_tag_type(tpid: u16, input_tpid: u16) -> bool
-    ensures { result ≡ is_tag_type input_tpid tpid }
-{
-    // Without a branch on each: of frames with tags nobody foresees the type.
-    (tpid == 0x8100) | (tpid == 0x88a8) | (tpid == input_tpid)
 }

@@ -1,13 +1,13 @@
 //! The index of a table.
-ghost use Rattle.std.specs.Prelude.{◌≡◌, ◌<◌, ◌≤◌, [], ℕ, None, IfOk, List, length, slice_get};
+ghost use Rattle.std.specs.Prelude.{◌≡◌, ◌<◌, ◌≤◌, [], ℕ, None, IfOk, List, MatchOption, length, slice_get};
 ghost use Rattle.rule_index.specs.Order.{order_of};
 ghost use Rattle.rule_index.specs.Readers.{has_inner_vid, has_tags, mask_in_order, IsMaskInOrder};
 
-use crate::entries::{copy_entries, first_other, other_treatment};
+use crate::entries::{copy_entries, first_other, is_without, other_treatment};
 use crate::followed::Followed;
 use crate::head::Head;
 use crate::masks::Masks;
-use crate::ranking::{number_at, number_places, place_at, rank_entries};
+use crate::ranking::{close_gap, count_up_to, number_at, number_places, place_at, rank_entries};
 use crate::row::Row;
 use std::alloc::{AllocError, Global};
 use std::marker::Model;
@@ -43,7 +43,7 @@ impl Model for Index {
 impl Index {
     ghost use Rattle.tag_view.specs.Frame.{type_at};
     ghost use Rattle.vlan_rule.specs.Choice.{choice, entry_at, matches, IsChoice};
-    ghost use Rattle.rule_index.specs.Followed.{IsFollowed};
+    ghost use Rattle.rule_index.specs.Followed.{IsFollowed, IsOneMore};
 
     /// An index of no entries, with room for those of any table.
     pub fn new(alloc: Global) -> Result<Self, AllocError>
@@ -68,8 +68,9 @@ impl Index {
     }
 
     /// Becomes the index of a table, and says what it found: that nothing changed, that one treatment may
-    /// have, or anything else. It takes no memory. Where one treatment was set, order and masks stay, and the
-    /// entries are gone over once.
+    /// have, that one entry was added or deleted, or anything else. It takes no memory, and the entries are
+    /// gone over once. Where one treatment was set, order and masks stay. Where one entry was added or deleted,
+    /// each mask is moved by one bit.
     pub fn follow(&mut self, table: &RuleTable) -> Followed
         ensures index { self.new ≡ table.now }
         ensures followed { IsFollowed self.old self.new result }
@@ -85,8 +86,63 @@ impl Index {
                 None => Followed::Rebuilt,
             };
         }
+        if place == self.entries.len()
+            && let Some(number) = self.follow_added(table)
+        {
+            return Followed::Added(number);
+        }
+        if let Some(number) = self.follow_deleted(table, place) {
+            return Followed::Deleted(number);
+        }
         self.compile_from(table, place);
         Followed::Rebuilt
+    }
+
+    // Takes the entry that a table has behind all of the index, where there is one alone and a class for its
+    // VIDs, and gives its number.
+    fn follow_added(&mut self, table: &RuleTable) -> Option<u8>
+        requires { (k : ℕ) → k < length self.old → entry_at self.old k ≡ entry_at table.now k }
+        ensures { MatchOption result (self.new ≡ self.old)
+            (λ number. (self.new ≡ table.now)
+            × IsOneMore self.old self.new (length self.old) number) }
+    {
+        let place = self.entries.len();
+        if table.len() != place + 1 || !self.masks.has_room() {
+            return None;
+        }
+        let entry = table.entry(place)?;
+        let rule = table.rule(place)?;
+        let row = Row {
+            place,
+            filter: rule.filter,
+            ethertype: rule.ethertype,
+        };
+        let number = count_up_to(table, rule.rank.number(), place);
+        self.entries.push_reserved(entry);
+        let _ = self.rows.insert(number, row);
+        number_places(&mut self.numbers, &self.rows, number);
+        self.masks.insert(&row, number);
+        Some(number as u8)
+    }
+
+    // Lets the entry at a place go, where a table has all of the index but this, and gives the number that it
+    // had.
+    fn follow_deleted(&mut self, table: &RuleTable, place: usize) -> Option<u8>
+        requires within { place ≤ length table.now }
+        requires same { (k : ℕ) → k < place → entry_at self.old k ≡ entry_at table.now k }
+        ensures { MatchOption result (self.new ≡ self.old)
+            (λ number. (self.new ≡ table.now) × IsOneMore self.new self.old place number) }
+    {
+        if !is_without(&self.entries, table, place) {
+            return None;
+        }
+        let number = number_at(&self.numbers, &self.rows, place)?;
+        self.entries.remove(place);
+        self.rows.remove(usize::from(number));
+        close_gap(&mut self.rows, place);
+        number_places(&mut self.numbers, &self.rows, 0);
+        self.masks.remove(usize::from(number));
+        Some(number)
     }
 
     // Takes the entries of a table from a place on, before which they are the same, and makes order and masks
@@ -98,7 +154,7 @@ impl Index {
     {
         copy_entries(&mut self.entries, table, from);
         rank_entries(&mut self.rows, table);
-        number_places(&mut self.numbers, &self.rows);
+        number_places(&mut self.numbers, &self.rows, 0);
         self.masks.rebuild(&self.rows);
     }
 

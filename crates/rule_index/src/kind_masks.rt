@@ -2,9 +2,10 @@
 ghost use Rattle.std.specs.Prelude.{◌≡◌, ◌<◌, ◌≤◌, ◌+◌, ◌*◌, ◌++◌, ◌∷◌, [], ℕ, List, length, slice_index_or};
 ghost use Rattle.rule_index.specs.declared.row.Row.{Row};
 ghost use Rattle.rule_index.specs.Filters.{type_class};
+ghost use Rattle.rule_index.specs.Masks.{IsBetween};
 ghost use Rattle.rule_index.specs.Kinds.{joined_kind, AreKinds, AreTags, AreTypes};
 
-use crate::bit::set_bit;
+use crate::bit::{insert_bits, remove_bits, set_bit};
 use crate::row::Row;
 
 // The types that filters ask for, each at its place. No two have the same.
@@ -65,9 +66,38 @@ impl KindMasks {
         set_bit(&mut self.types, row.type_key(), place);
     }
 
+    // A row that comes to a place in the order, before those from there on.
+    pub(crate) fn insert(&mut self, row: &Row, place: usize)
+        requires place { place < 128 }
+        ensures tags { (before after : List Row) → IsBetween before after place
+            → AreTags self.old.tags (before ++ after)
+            → AreTags self.new.tags (before ++ row.now ∷ after) }
+        ensures types { (before after : List Row) → IsBetween before after place
+            → AreTypes self.old.types (before ++ after)
+            → AreTypes self.new.types (before ++ row.now ∷ after) }
+    {
+        insert_bits(&mut self.tags, 3, place, false, row.tags());
+        insert_bits(&mut self.types, 6, place, false, row.type_key());
+    }
+
+    // The row at a place in the order goes.
+    pub(crate) fn remove(&mut self, place: usize)
+        requires place { place < 128 }
+        ensures tags { (before after : List Row) (row : Row) → length before ≡ place
+            → AreTags self.old.tags (before ++ row ∷ after)
+            → AreTags self.new.tags (before ++ after) }
+        ensures types { (before after : List Row) (row : Row) → length before ≡ place
+            → AreTypes self.old.types (before ++ row ∷ after)
+            → AreTypes self.new.types (before ++ after) }
+    {
+        remove_bits(&mut self.tags, 3, place);
+        remove_bits(&mut self.types, 6, place);
+    }
+
     // All rows are added.
     pub(crate) fn finish(&mut self)
         ensures tags { self.new.tags ≡ self.old.tags }
+        ensures types { self.new.types ≡ self.old.types }
         ensures kinds { (rows : List Row) → AreTags self.old.tags rows → AreTypes self.old.types rows
             → AreKinds self.new.joined rows }
     {

@@ -29,9 +29,12 @@
 //!
 //! What a caller keeps for each entry can be kept by its number in the order: [`Index::number`] gives that,
 //! for a [`Head`], the words of a frame that filters look at. [`Index::follow`] becomes the index of a table
-//! as `rebuild` does, and spares what it can: a table that stayed is gone over once, where one treatment alone
-//! differs order and masks stay as well, and otherwise all of them are made anew. It says what it found
-//! ([`Followed`]), and so which of what is kept for each entry stays as it is.
+//! as `rebuild` does, and spares what it can: a table that stayed is gone over once, and where one treatment
+//! alone differs order and masks stay as well. Where one entry was added or deleted, the rows behind it move by
+//! one number, and each mask by one bit. Otherwise order and masks are made anew. It returns what it found
+//! ([`Followed`]), and so which of what is kept for each entry stays or moves. A VID whose last entry is deleted
+//! keeps its class until the masks are made anew, as they are where an entry names another one and no class is
+//! left.
 #![tactic(auto)]
 
 mod bit;

@@ -1,7 +1,7 @@
 //! The masks of an index.
-ghost use Rattle.std.specs.Prelude.{◌≡◌, ◌<◌, ◌≤◌, ◌==◌, ◌+◌, ◌++◌, ◌∷◌, [], ℕ, List, length};
+ghost use Rattle.std.specs.Prelude.{◌≡◌, ◌<◌, ◌≤◌, ◌==◌, ◌+◌, ◌++◌, ◌∷◌, [], ℕ, IsTrue, List, length};
 ghost use Rattle.rule_index.specs.declared.row.Row.{Row};
-ghost use Rattle.rule_index.specs.Masks.{mask_of};
+ghost use Rattle.rule_index.specs.Masks.{mask_of, IsBetween};
 ghost use Rattle.rule_index.specs.Order.{row_matches};
 ghost use Rattle.rule_index.specs.Filters.{admits_vid, inner_in, tags_in};
 
@@ -55,6 +55,40 @@ impl Masks {
             self.outer.add(row.outer(), place);
             self.inner.add(row.inner(), place);
         }
+    }
+
+    // A row that comes to a place in the order, before those from there on.
+    pub(crate) fn insert(&mut self, row: &Row, place: usize)
+        requires place { place < 128 }
+        requires outer { self.old.outer.vids.named < 128 }
+        requires inner { self.old.inner.vids.named < 128 }
+        ensures { (before after : List Row) → IsBetween before after place
+            → IsBuilt self.old (before ++ after) → IsBuilt self.new (before ++ row.now ∷ after) }
+    {
+        self.kinds.insert(row, place);
+        self.kinds.finish();
+        self.outer.insert(row.outer(), place);
+        self.inner.insert(row.inner(), place);
+    }
+
+    // The row at a place in the order goes.
+    pub(crate) fn remove(&mut self, place: usize)
+        requires { place < 128 }
+        ensures { (before after : List Row) (row : Row) → length before ≡ place
+            → IsBuilt self.old (before ++ row ∷ after) → IsBuilt self.new (before ++ after) }
+    {
+        self.kinds.remove(place);
+        self.kinds.finish();
+        self.outer.remove(place);
+        self.inner.remove(place);
+    }
+
+    // Whether there is a class for one VID more of each tag.
+    pub(crate) fn has_room(&self) -> bool
+        ensures outer { IsTrue result → self.now.outer.vids.named < 128 }
+        ensures inner { IsTrue result → self.now.inner.vids.named < 128 }
+    {
+        self.outer.has_room() && self.inner.has_room()
     }
 
     // The mask of the rows that are for a frame with this head, joined from those of the tags that it has.

@@ -1,8 +1,8 @@
 //! The rows of a table in the order of rank and place.
-ghost use Rattle.std.specs.Prelude.{◌≡◌, ◌≤◌, ◌+◌, ◌++◌, IfSome, Some, length, slice_get, vec_capacity, vec_len};
+ghost use Rattle.std.specs.Prelude.{◌≡◌, ◌≤◌, ◌+◌, ◌++◌, IfSome, Some, length, map, slice_get, take, vec_capacity, vec_len};
 ghost use Rattle.std.specs.Option.{option_map};
 ghost use Rattle.vlan_rule.specs.Table.{table_max_size};
-ghost use Rattle.rule_index.specs.Order.{rows_from, rows_of};
+ghost use Rattle.rule_index.specs.Order.{lowered, rows_from, rows_of, up_to_rank};
 
 use crate::row::Row;
 use vlan_rule::RuleTable;
@@ -40,6 +40,33 @@ fn add_rank(rows: &mut Vec<Row>, table: &RuleTable, rank: u8)
     }
 }
 
+// How many of the first entries of a table are of a rank or of a smaller one: the number of an entry of this
+// rank that comes behind them.
+pub(crate) fn count_up_to(table: &RuleTable, rank: u8, count: usize) -> usize
+    requires { count ≤ length table.now }
+    ensures value { result ≡ up_to_rank rank (take count table.now) }
+    ensures limit { result ≤ count }
+{
+    let mut counted = 0;
+    for place in 0..count {
+        if let Some(rule) = table.rule(place) {
+            if rule.rank.number() <= rank {
+                counted += 1;
+            }
+        }
+    }
+    counted
+}
+
+// Closes the gap that a place leaves whose entry is gone: the places behind it are one lower.
+pub(crate) fn close_gap(rows: &mut [Row], place: usize)
+    ensures { rows.new ≡ map (λ row. lowered place row) rows.old }
+{
+    for number in 0..rows.len() {
+        rows[number] = rows[number].lowered(place);
+    }
+}
+
 // The place of the entry of a number in the order.
 #[inline(always)]
 pub(crate) fn place_at(rows: &[Row], number: usize) -> Option<usize>
@@ -49,9 +76,9 @@ pub(crate) fn place_at(rows: &[Row], number: usize) -> Option<usize>
     Some(row.place)
 }
 
-// Keeps the number of each row by its place.
-pub(crate) fn number_places(numbers: &mut [u8; 128], rows: &[Row]) {
-    for number in 0..rows.len().min(128) {
+// Keeps the number of each row, from one on, by its place.
+pub(crate) fn number_places(numbers: &mut [u8; 128], rows: &[Row], from: usize) {
+    for number in from..rows.len().min(128) {
         if let Some(kept) = numbers.get_mut(rows[number].place) {
             *kept = number as u8;
         }

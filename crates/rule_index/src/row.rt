@@ -20,6 +20,7 @@ const ANY_TAG: TagFilter = TagFilter {
 
 impl Row {
     ghost use Rattle.rule_index.specs.Filters.{inner_in, outer_in, tags_in, type_key};
+    ghost use Rattle.rule_index.specs.Order.{lowered};
 
     // The number of tags of its kind.
     pub(crate) fn tags(&self) -> usize
@@ -49,6 +50,17 @@ impl Row {
             Filter::TwoTag { inner, .. } => inner,
             _ => ANY_TAG,
         }
+    }
+
+    // The row in a table without the entry of a place.
+    pub(crate) fn lowered(self, place: usize) -> Row
+        ensures { result ≡ lowered place self }
+    {
+        let mut row = self;
+        if place < row.place {
+            row.place -= 1;
+        }
+        row
     }
 
     // The key of its type.

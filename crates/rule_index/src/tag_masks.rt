@@ -1,9 +1,9 @@
 //! Masks by the fields of one tag of a frame.
-ghost use Rattle.std.specs.Prelude.{◌≡◌, ◌<◌, ◌≤◌, ◌+◌, ◌++◌, ◌∷◌, [], ℕ, List, length};
+ghost use Rattle.std.specs.Prelude.{◌≡◌, ◌<◌, ◌≤◌, ◌+◌, ◌++◌, ◌∷◌, [], ℕ, IsTrue, List, length};
 ghost use Rattle.tag_view.specs.Word.{tag_of};
 ghost use Rattle.vlan_rule.specs.declared.filter.TagFilter.{TagFilter};
 ghost use Rattle.vlan_rule.specs.Choice.{is_tag};
-ghost use Rattle.rule_index.specs.Masks.{mask_of};
+ghost use Rattle.rule_index.specs.Masks.{mask_of, IsBetween};
 ghost use Rattle.rule_index.specs.Vids.{mask_at};
 
 use crate::code_masks::{CodeMasks, NO_CODES};
@@ -55,6 +55,38 @@ impl TagMasks {
     {
         self.codes.finish();
         self.vids.finish();
+    }
+
+    // A filter that comes to a place in the order, before those from there on.
+    pub(crate) fn insert(&mut self, filter: TagFilter, place: usize)
+        requires place { place < 128 }
+        requires room { self.old.vids.named < 128 }
+        ensures { (before after : List TagFilter) → IsBetween before after place
+            → IsTagIndex self.old (before ++ after)
+            → IsTagIndex self.new (before ++ filter ∷ after) }
+    {
+        self.codes.insert(filter, place);
+        self.codes.finish();
+        self.vids.insert(filter.vid, place);
+    }
+
+    // The filter at a place in the order goes.
+    pub(crate) fn remove(&mut self, place: usize)
+        requires { place < 128 }
+        ensures { (before after : List TagFilter) (filter : TagFilter) → length before ≡ place
+            → IsTagIndex self.old (before ++ filter ∷ after)
+            → IsTagIndex self.new (before ++ after) }
+    {
+        self.codes.remove(place);
+        self.codes.finish();
+        self.vids.remove(place);
+    }
+
+    // Whether there is a class for one VID more.
+    pub(crate) fn has_room(&self) -> bool
+        ensures { IsTrue result → self.now.vids.named < 128 }
+    {
+        self.vids.has_room()
     }
 
     // The mask of the filters that the tag of a word passes.

@@ -1,10 +1,11 @@
 //! Masks by VID.
-ghost use Rattle.std.specs.Prelude.{◌≡◌, ◌<◌, ◌≤◌, ◌+◌, ◌++◌, ◌∷◌, [], ℕ, List, length, vec_len, bit_or, slice_index_or};
+ghost use Rattle.std.specs.Prelude.{◌≡◌, ◌<◌, ◌≤◌, ◌+◌, ◌++◌, ◌∷◌, [], ℕ, IsTrue, List, length, vec_len, bit_or, slice_index_or};
 ghost use Rattle.vlan_rule.specs.declared.filter.VidFilter.{VidFilter};
 ghost use Rattle.vlan_rule.specs.Table.{table_max_size};
-ghost use Rattle.rule_index.specs.Vids.{class_at, mask_at, AreVids, IsVidGrouping};
+ghost use Rattle.rule_index.specs.Masks.{IsBetween};
+ghost use Rattle.rule_index.specs.Vids.{class_at, mask_at, AreClasses, AreVids, IsVidGrouping};
 
-use crate::bit::bit;
+use crate::bit::{bit, insert_bits, remove_bits};
 use std::alloc::{AllocError, Global};
 use vlan_rule::{TABLE_MAX_SIZE, VidFilter};
 
@@ -53,9 +54,10 @@ impl VidMasks {
         requires room { self.old.named < 128 }
         ensures few { self.new.named ≤ self.old.named + 1 }
         ensures class { (0 < result) × (result ≤ 128) × (result ≡ class_at self.new.class.items vid) }
-        ensures naming { (filters : List VidFilter)
-            → IsVidGrouping self.old.class.items self.old.masks.items self.old.any filters
-            → IsVidGrouping self.new.class.items self.new.masks.items self.new.any filters }
+        ensures any { self.new.any ≡ self.old.any }
+        ensures classes { (mask : ℕ → ℕ) (none : ℕ)
+            → AreClasses self.old.class.items self.old.masks.items mask none
+            → AreClasses self.new.class.items self.new.masks.items mask none }
     {
         let at = usize::from(vid);
         let class = self.class[at];
@@ -64,7 +66,7 @@ impl VidMasks {
         }
         self.named += 1;
         self.class[at] = self.named as u8;
-        self.masks[self.named] = 0;
+        self.masks[self.named] = self.masks[0];
         self.named
     }
 
@@ -96,6 +98,43 @@ impl VidMasks {
         for class in 0..self.named + 1 {
             self.masks[class] |= self.any;
         }
+    }
+
+    // A filter that comes to a place in the order, before those from there on.
+    pub(crate) fn insert(&mut self, filter: VidFilter, place: usize)
+        requires place { place < 128 }
+        requires room { self.old.named < 128 }
+        ensures { (before after : List VidFilter) → IsBetween before after place
+            → AreVids self.old.class.items self.old.masks.items (before ++ after)
+            → AreVids self.new.class.items self.new.masks.items (before ++ filter ∷ after) }
+    {
+        match filter {
+            VidFilter::Any => insert_bits(&mut self.masks, self.named + 1, place, true, 0),
+            VidFilter::Exactly(vid) if vid < 4096 => {
+                let class = self.class_of(vid);
+                insert_bits(&mut self.masks, self.named + 1, place, false, class);
+            }
+            VidFilter::Exactly(_) => {
+                insert_bits(&mut self.masks, self.named + 1, place, false, 129);
+            }
+        }
+    }
+
+    // The filter at a place in the order goes. A VID that no filter names any longer keeps its class.
+    pub(crate) fn remove(&mut self, place: usize)
+        requires { place < 128 }
+        ensures { (before after : List VidFilter) (filter : VidFilter) → length before ≡ place
+            → AreVids self.old.class.items self.old.masks.items (before ++ filter ∷ after)
+            → AreVids self.new.class.items self.new.masks.items (before ++ after) }
+    {
+        remove_bits(&mut self.masks, self.named + 1, place);
+    }
+
+    // Whether there is a class for one VID more.
+    pub(crate) fn has_room(&self) -> bool
+        ensures { IsTrue result → self.now.named < 128 }
+    {
+        self.named < TABLE_MAX_SIZE as usize
     }
 
     // The mask of a VID.

@@ -5,9 +5,9 @@ use Rattle.std.proofs.lemmas.List.{append-nil, drop-drop, get_or-drop}
 use Rattle.std.proofs.lemmas.Bool.{eqb-true, eq-eqb, cases_lt}
 use Rattle.memchr.specs.Find.{IsFirstByte, is_byte}
 use Rattle.mib_upload.specs.Upload.{DeskState}
-use Rattle.capture.specs.Line.{Asked, asked_by}
-use Rattle.capture.specs.Text.{cut}
-use Rattle.capture.proofs.Cutting.{NoFeedBelow, cut-first, cut-none}
+use Rattle.script_lines.specs.Line.{Asked, asked_by}
+use Rattle.script_lines.specs.Text.{cut}
+use Rattle.script_lines.proofs.Cutting.{NoFeedBelow, cut-first, cut-none}
 use Rattle.script_replay.specs.Answers.{answer, answers_from, before_bad, state_from, line_answer}
 
 -- what the lines that end in a text ask for

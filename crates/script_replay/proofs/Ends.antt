@@ -6,9 +6,9 @@ use Rattle.std.proofs.Math.Seq.{take-append-add, take-append_seam, drop-append_s
 use Rattle.std.proofs.KnownBytes.{Appends-trans}
 use Rattle.std.specs.Io.KnownBytes.{Appends, Consumes, IsAtEnd}
 use Rattle.mib_upload.specs.Upload.{DeskState, start}
-use Rattle.capture.specs.Line.{Asked, asked_by}
-use Rattle.capture.specs.Text.{cut, last_line}
-use Rattle.writing.specs.Written.{AppendsPart}
+use Rattle.script_lines.specs.Line.{Asked, asked_by}
+use Rattle.script_lines.specs.Text.{cut, last_line}
+use Rattle.text_writing.specs.Written.{AppendsPart}
 use Rattle.script_replay.specs.Answers.{answer, answers, answers_from, before_bad, script_of}
 use Rattle.script_replay.specs.Replay.{ended_script, IsAnswered, StopsAtLine, StopsAtRead, StopsAtWrite}
 

@@ -5,7 +5,7 @@ use Rattle.std.proofs.lemmas.List.{append-nil}
 use Rattle.std.proofs.KnownBytes.{Appends-trans, Appends-kept, Consumes-trans}
 use Rattle.std.specs.Io.KnownBytes.{Appends, Consumes, IsAtEnd}
 use Rattle.mib_upload.specs.Upload.{DeskState, start}
-use Rattle.capture.specs.Line.{Asked}
+use Rattle.script_lines.specs.Line.{Asked}
 use Rattle.script_replay.specs.Answers.{answers, answers_from, before_bad, script_of}
 use Rattle.script_replay.specs.Finish.{Finishes, last_asked}
 use Rattle.script_replay.specs.Replay.{ended_script, Replays, StopsAtLine}

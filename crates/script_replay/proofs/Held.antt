@@ -3,8 +3,8 @@ use Rattle.std.proofs.Common.{◌≡◌, ◌≢◌, ℕ, ◌+◌, ◌-◌, ◌<�
 use Rattle.std.proofs.Math.Seq.{take-add}
 use Rattle.std.proofs.lemmas.List.{drop-take, get_or-take}
 use Rattle.mib_upload.specs.Upload.{DeskState}
-use Rattle.capture.specs.Text.{cut}
-use Rattle.capture.proofs.Cutting.{NoFeedBelow}
+use Rattle.script_lines.specs.Text.{cut}
+use Rattle.script_lines.proofs.Cutting.{NoFeedBelow}
 use Rattle.script_replay.specs.Answers.{answers_from}
 use Rattle.script_replay.specs.Replay.{ended_script}
 

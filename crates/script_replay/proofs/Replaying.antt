@@ -4,9 +4,9 @@ use Rattle.std.specs.Prelude.{option_map, nat_lt}
 use Rattle.std.proofs.lemmas.List.{append-nil, map-append, length-map}
 use Rattle.std.proofs.lemmas.Bool.{lt-ltb}
 use Rattle.mib_upload.specs.Upload.{DeskState, start}
-use Rattle.capture.specs.Line.{Asked, asked_by}
-use Rattle.capture.specs.Text.{cut, last_line}
-use Rattle.capture.proofs.Cutting.{NoFeedBelow, cut-append, rest_has_none}
+use Rattle.script_lines.specs.Line.{Asked, asked_by}
+use Rattle.script_lines.specs.Text.{cut, last_line}
+use Rattle.script_lines.proofs.Cutting.{NoFeedBelow, cut-append, rest_has_none}
 use Rattle.script_replay.specs.Answers.{answers, answers_from, before_bad, state_from, script_of}
 use Rattle.script_replay.specs.Replay.{ended_script}
 use Rattle.script_replay.proofs.Turns.{before_bad-append, answers-append, state-append, before_bad-found, answers-found, ended_script-append, script_of-append, begins}

@@ -4,9 +4,9 @@ use Rattle.std.specs.Prelude.{option_map}
 use Rattle.std.proofs.lemmas.List.{map-append}
 use Rattle.std.proofs.lemmas.Bool.{ne_eqb}
 use Rattle.mib_upload.specs.Upload.{DeskState}
-use Rattle.capture.specs.Line.{Asked, asked_by}
-use Rattle.capture.specs.Text.{cut, in_front, last_line, lines_of}
-use Rattle.capture.proofs.Cutting.{NoFeedBelow, cut-append}
+use Rattle.script_lines.specs.Line.{Asked, asked_by}
+use Rattle.script_lines.specs.Text.{cut, in_front, last_line, lines_of}
+use Rattle.script_lines.proofs.Cutting.{NoFeedBelow, cut-append}
 use Rattle.script_replay.specs.Answers.{answer, answers_from, before_bad, state_from, script_of}
 use Rattle.script_replay.specs.Replay.{ended_script}
 

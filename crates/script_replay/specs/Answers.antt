@@ -14,9 +14,9 @@ use Rattle.frame_meaning.specs.declared.verdict.Verdict.{Verdict}
 use Rattle.frame_meaning.specs.declared.verdict.Verdict.TheVariants.{Forward, Drop}
 use Rattle.tag_view.specs.Frame.{Reading, spelled}
 use Rattle.mib_upload.specs.Upload.{DeskState, answered, start}
-use Rattle.capture.specs.Line.{Asked, asked_by}
-use Rattle.capture.specs.Line.Asked.{Message, Frame, Nothing}
-use Rattle.capture.specs.Text.{lines_of}
+use Rattle.script_lines.specs.Line.{Asked, asked_by}
+use Rattle.script_lines.specs.Line.Asked.{Message, Frame, Nothing}
+use Rattle.script_lines.specs.Text.{lines_of}
 
 -- the line of a reply
 abbrev pub reply_line : Reply → List ℕ

@@ -2,9 +2,9 @@
 use Rattle.std.specs.Prelude.{◌≡◌, ◌+◌, ℕ, List, Option, Some, None, Result, Ok, Err, map}
 use Rattle.std.specs.Io.KnownBytes.{Appends, Keeps}
 use Rattle.mib_upload.specs.Upload.{DeskState}
-use Rattle.capture.specs.Line.{Asked, asked_by}
-use Rattle.capture.specs.Text.{last_line}
-use Rattle.writing.specs.Written.{AppendsPart}
+use Rattle.script_lines.specs.Line.{Asked, asked_by}
+use Rattle.script_lines.specs.Text.{last_line}
+use Rattle.text_writing.specs.Written.{AppendsPart}
 use Rattle.script_replay.specs.Answers.{answers_from, before_bad}
 use Rattle.script_replay.specs.declared.fault.ReplayFault.{ReplayFault}
 use Rattle.script_replay.specs.declared.fault.ReplayFault.TheVariants.{BadLine, Read, Write, NoMemory}

@@ -2,9 +2,9 @@
 use Rattle.std.specs.Prelude.{◌≡◌, ◌≤◌, ℕ, suc, List, Option, Some, None, Result, Ok, Err, length, map, take, drop, option_map}
 use Rattle.std.specs.Io.KnownBytes.{Appends, IsAtEnd, Keeps}
 use Rattle.mib_upload.specs.Upload.{start}
-use Rattle.capture.specs.Line.{Asked, asked_by}
-use Rattle.capture.specs.Text.{cut}
-use Rattle.writing.specs.Written.{AppendsPart}
+use Rattle.script_lines.specs.Line.{Asked, asked_by}
+use Rattle.script_lines.specs.Text.{cut}
+use Rattle.text_writing.specs.Written.{AppendsPart}
 use Rattle.script_replay.specs.Answers.{answers, answers_from, before_bad, script_of}
 use Rattle.script_replay.specs.declared.fault.ReplayFault.{ReplayFault}
 use Rattle.script_replay.specs.declared.fault.ReplayFault.TheVariants.{BadLine, Read, Write, NoMemory}

@@ -3,21 +3,21 @@ ghost use Rattle.std.specs.Prelude.{◌≡◌, ◌+◌, ◌*◌, ◌≤◌, ◌<
 ghost use Rattle.frame_meaning.specs.Meaning.{meaning};
 ghost use Rattle.hex.specs.Hex.{encode_lower};
 ghost use Rattle.omci_msg.specs.Message.{request_of};
-ghost use Rattle.capture.specs.Line.{asked_by};
+ghost use Rattle.script_lines.specs.Line.{asked_by};
 ghost use Rattle.script_replay.specs.Answers.{dropped_line, fault_line, forwarded_line, line_answer, message_answer, reply_line, verdict_line};
 ghost use Rattle.std.specs.List.{flat_map};
 ghost use Rattle.tag_view.specs.Frame.{spelled};
 ghost use Rattle.tag_view.specs.Tag.{tag_bytes};
 
 use crate::onu::Onu;
-use capture::{Line, read_line};
 use forward_plan::{OutFrame, Reason, Verdict};
-use hex_digits::write_digits;
 use itoa::Buffer;
 use omci_msg::{MsgFault, Reply, read, write};
+use script_digits::write_digits;
+use script_lines::{Line, MOST_SPELLED, read_line};
 use tag_view::Tag;
 
-// Puts bytes behind the answers so far, for which there is room.
+/// Puts bytes behind the answers so far, for which there is room.
 fn put(answers: &mut Vec<u8>, bytes: &[u8])
     requires { vec_len answers.old + length bytes.now ≤ vec_capacity answers.old }
     ensures items { answers.new.items ≡ answers.old.items ++ bytes.now }
@@ -27,7 +27,7 @@ fn put(answers: &mut Vec<u8>, bytes: &[u8])
     let _ = answers.extend_from_slice(bytes);
 }
 
-// Puts the hexadecimal digits of bytes behind the answers so far.
+/// Puts the hexadecimal digits of bytes behind the answers so far.
 fn put_digits(answers: &mut Vec<u8>, bytes: &[u8])
     requires { vec_len answers.old + 2 * length bytes.now ≤ vec_capacity answers.old }
     ensures items { answers.new.items ≡ answers.old.items ++ encode_lower bytes.now }
@@ -40,7 +40,7 @@ fn put_digits(answers: &mut Vec<u8>, bytes: &[u8])
     write_digits(bytes, room);
 }
 
-// Puts the line of a reply behind the answers so far.
+/// Puts the line of a reply behind the answers so far.
 fn put_reply(answers: &mut Vec<u8>, reply: &Reply)
     requires { vec_len answers.old + 99 ≤ vec_capacity answers.old }
     ensures items { answers.new.items ≡ answers.old.items ++ reply_line reply.now }
@@ -53,7 +53,7 @@ fn put_reply(answers: &mut Vec<u8>, reply: &Reply)
     put(answers, b"\n");
 }
 
-// Puts the line of a message with a fault behind the answers so far.
+/// Puts the line of a message with a fault behind the answers so far.
 fn put_fault(answers: &mut Vec<u8>, fault: MsgFault)
     requires { vec_len answers.old + 4 ≤ vec_capacity answers.old }
     ensures items { answers.new.items ≡ answers.old.items ++ fault_line fault }
@@ -64,7 +64,7 @@ fn put_fault(answers: &mut Vec<u8>, fault: MsgFault)
     put(answers, &[b'0' + fault.code(), b'\n']);
 }
 
-// Puts the digits of tags behind the answers so far.
+/// Puts the digits of tags behind the answers so far.
 fn put_tags(answers: &mut Vec<u8>, tags: &[Tag])
     requires { vec_len answers.old + 8 * length tags.now ≤ vec_capacity answers.old }
     ensures items { answers.new.items ≡ answers.old.items ++ encode_lower (flat_map tag_bytes tags.now) }
@@ -76,8 +76,8 @@ fn put_tags(answers: &mut Vec<u8>, tags: &[Tag])
     }
 }
 
-// Puts the line of a frame that leaves behind the answers so far, part by part: the frame stands
-// nowhere as a whole.
+/// Puts the line of a frame that leaves behind the answers so far, part by part: the frame stands
+/// nowhere as a whole.
 #[tactic(auto, using(crate::proofs::Messages::frame_length, crate::proofs::Messages::frame_digits))]
 fn put_forwarded(answers: &mut Vec<u8>, gem: u16, frame: &OutFrame)
     requires { vec_len answers.old + 2 * length (spelled frame.now.addresses frame.now.tags frame.now.rest) + 9 ≤ vec_capacity answers.old }
@@ -95,7 +95,7 @@ fn put_forwarded(answers: &mut Vec<u8>, gem: u16, frame: &OutFrame)
     put(answers, b"\n");
 }
 
-// Puts the line of a frame that is dropped behind the answers so far.
+/// Puts the line of a frame that is dropped behind the answers so far.
 fn put_dropped(answers: &mut Vec<u8>, reason: Reason)
     requires { vec_len answers.old + 4 ≤ vec_capacity answers.old }
     ensures items { answers.new.items ≡ answers.old.items ++ dropped_line reason }
@@ -106,11 +106,12 @@ fn put_dropped(answers: &mut Vec<u8>, reason: Reason)
     put(answers, &[b'0' + reason.code(), b'\n']);
 }
 
-// Forwards a frame, and puts what became of it behind the answers so far. There is room for three
-// times the line that spells it.
-fn answer_frame(onu: &Onu, port: u16, bytes: &[u8], answers: &mut Vec<u8>)
+/// Forwards a frame, and puts what became of it behind the answers so far. There is room for three
+/// times the line that spells it.
+fn answer_frame(onu: &mut Onu, port: u16, bytes: &[u8], answers: &mut Vec<u8>)
     requires { vec_len answers.old + 6 * length bytes.now + 15 ≤ vec_capacity answers.old }
-    ensures items { answers.new.items ≡ answers.old.items ++ verdict_line (meaning onu.now.mib.entities port bytes.now) }
+    ensures items { answers.new.items ≡ answers.old.items ++ verdict_line (meaning onu.old.mib.entities port bytes.now) }
+    ensures onu { onu.new ≡ onu.old }
     ensures len { vec_len answers.new ≤ vec_len answers.old + 6 * length bytes.now + 15 }
     ensures capacity { vec_capacity answers.old ≤ vec_capacity answers.new }
 {
@@ -120,8 +121,8 @@ fn answer_frame(onu: &Onu, port: u16, bytes: &[u8], answers: &mut Vec<u8>)
     }
 }
 
-// Carries a message out, and puts its answer behind those so far. There is room for twice the
-// line that spells it.
+/// Carries a message out, and puts its answer behind those so far. There is room for twice the
+/// line that spells it.
 fn answer_message(onu: &mut Onu, bytes: &[u8], answers: &mut Vec<u8>)
     requires { vec_len answers.old + 4 * length bytes.now + 6 ≤ vec_capacity answers.old }
     ensures items { answers.new.items ≡ answers.old.items ++ (message_answer onu.old (request_of bytes.now)).0 }
@@ -147,7 +148,7 @@ fn answer_message(onu: &mut Onu, bytes: &[u8], answers: &mut Vec<u8>)
 pub fn answer_line(
     onu: &mut Onu,
     line: &[u8],
-    buffer: &mut [u8; 10_000],
+    buffer: &mut [u8; MOST_SPELLED],
     answers: &mut Vec<u8>,
 ) -> bool
     requires { vec_len answers.old + 3 * length line.now + 3 ≤ vec_capacity answers.old }

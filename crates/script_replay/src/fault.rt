@@ -2,8 +2,8 @@
 ghost use Rattle.std.specs.Prelude.{◌≡◌};
 ghost use Rattle.script_replay.specs.declared.fault.ReplayFault.TheVariants.{Write};
 
+use text_writing::WriteFault;
 use thiserror::Error;
-use writing::WriteFault;
 
 /// Why a replay ended before the end of its script.
 #[derive(Clone, Copy, Debug, PartialEq, Eq, Error)]

@@ -1,12 +1,13 @@
 //! The answers to the lines in a piece of a script.
 ghost use Rattle.std.specs.Prelude.{◌≡◌, ◌≢◌, ◌≤◌, ◌<◌, ◌+◌, ◌*◌, ◌++◌, ℕ, Some, None, false, if◌then◌else◌, drop, length, map, slice_index, vec_len, vec_capacity};
-ghost use Rattle.capture.specs.Line.{asked_by};
-ghost use Rattle.capture.specs.Text.{cut};
+ghost use Rattle.script_lines.specs.Line.{asked_by};
+ghost use Rattle.script_lines.specs.Text.{cut};
 ghost use Rattle.script_replay.specs.Answers.{answers_from, before_bad, state_from};
 
 use crate::answer::answer_line;
 use crate::onu::Onu;
 use memchr::memchr;
+use script_lines::MOST_SPELLED;
 
 /// How far the lines of a piece were answered.
 #[derive(Clone, Copy, Debug)]
@@ -25,7 +26,7 @@ pub fn answer_lines(
     onu: &mut Onu,
     piece: &[u8],
     searched: usize,
-    buffer: &mut [u8; 10_000],
+    buffer: &mut [u8; MOST_SPELLED],
     answers: &mut Vec<u8>,
 ) -> Answered
     requires within { searched ≤ length piece.now }

@@ -1,13 +1,13 @@
 //! The words and the status with which a replay ends.
 ghost use Rattle.std.specs.Prelude.{◌≡◌};
-ghost use Rattle.writing.specs.Written.{AppendsPart};
+ghost use Rattle.text_writing.specs.Written.{AppendsPart};
 ghost use Rattle.script_replay.specs.Report.{status_of, words_at, words_of};
 
 use crate::fault::ReplayFault;
 use arrayvec::ArrayVec;
 use itoa::Buffer;
 use std::io::Write;
-use writing::write_whole;
+use text_writing::write_whole;
 
 /// What is written on a fault.
 type Words = ArrayVec<u8, 64>;

@@ -10,10 +10,10 @@ use crate::fault::ReplayFault;
 use crate::lines::answer_lines;
 use crate::onu::Onu;
 use crate::pieces::{move_to_front, read_piece};
-use capture::LINE_LIMIT;
+use script_lines::{LINE_LIMIT, MOST_SPELLED};
 use std::alloc::{AllocError, Global};
 use std::io::{Read, Write};
-use writing::write_whole;
+use text_writing::write_whole;
 
 /// How many bytes a read is given room for, at least.
 const READ_ROOM: usize = 65_536;
@@ -30,7 +30,7 @@ fn finish<W: Write>(
     onu: &mut Onu,
     line: &[u8],
     lines: u64,
-    buffer: &mut [u8; 10_000],
+    buffer: &mut [u8; MOST_SPELLED],
     answers: &mut Vec<u8>,
 ) -> Result<(), ReplayFault>
     requires empty { vec_len answers.old ≡ 0 }
@@ -56,7 +56,7 @@ fn replay_through<R: Read, W: Write>(
     onu: &mut Onu,
     text: &mut [u8],
     spare: &mut [u8],
-    buffer: &mut [u8; 10_000],
+    buffer: &mut [u8; MOST_SPELLED],
     answers: &mut Vec<u8>,
 ) -> Result<(), ReplayFault>
     requires begins { onu.old ≡ start }
@@ -144,7 +144,7 @@ pub fn replay<R: Read, W: Write>(
     let Ok(mut onu) = Onu::new(alloc) else {
         return Err(ReplayFault::NoMemory);
     };
-    let mut buffer = [0; 10_000];
+    let mut buffer = [0; MOST_SPELLED];
     replay_through(
         reader,
         writer,

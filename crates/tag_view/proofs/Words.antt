@@ -1,14 +1,15 @@
 -- Tags and their words: each is the other's inverse, the word is the number of the four bytes, and AND
 -- and OR of words are those of the tags, field by field.
-use Rattle.std.proofs.Common.{◌≡◌, ◌<◌, ◌≤◌, ℕ, ◌+◌, ◌*◌, ◌/◌, ◌%◌, ◌^◌, Bool, true, false, ◌&&◌, ◌||◌, if◌then◌else◌, ◌==◌, List, [], ◌∷◌, ◌++◌, length, drop, length-drop, All, arith, refl, ap, sym, ◌∙◌, bit_and, bit_or}
+use Rattle.std.proofs.Common.{◌≡◌, ◌<◌, ◌≤◌, ℕ, ◌+◌, ◌*◌, ◌/◌, ◌%◌, ◌^◌, Bool, true, false, ◌&&◌, ◌||◌, if◌then◌else◌, ◌==◌, List, [], ◌∷◌, ◌++◌, length, drop, slice_index, length-drop, arith, refl, ap, sym, ◌∙◌, bit_and, bit_or}
 use Rattle.std.proofs.lemmas.Nat.{and_block, or_block}
 use Rattle.std.proofs.lemmas.Bool.{eq-eqb, ne_eqb}
-use Rattle.std.proofs.lemmas.List.{drop-drop}
+use Rattle.std.proofs.lemmas.List.{drop-drop, get_or-drop}
 use Rattle.byteorder.specs.Endian.{big_bytes, big_number}
+use Rattle.byteorder.specs.Numbers.{big_from-lt}
 use Rattle.tag_view.specs.Tag.{TagFields, IsInRange, control_of, tag_bytes}
 use Rattle.tag_view.specs.Frame.{tag_at, type_at}
 use Rattle.tag_view.specs.Word.{tag_of, word_of}
-use Rattle.tag_view.proofs.Tags.{bit_back, control-lt, same_fields, tag_in_range}
+use Rattle.tag_view.proofs.Tags.{bit_back, control-lt, same_fields}
 
 -- The fields below the TPID fit. Nothing has to be known of the TPID, which stands highest.
 pub record IsLow (tag : TagFields) : Type 0 where
@@ -27,6 +28,9 @@ word_back tag h = back tag.tpid tag.pcp tag.vid tag.dei h.pcp h.vid
         → tag_of (word_of (record { tpid = t; pcp = p; dei = dei; vid = v })) ≡ record { tpid = t; pcp = p; dei = dei; vid = v }
     back t p v true hp hv = same_fields _ _ _ _ _ _ _ _ (omega arith) (omega arith) (eq-eqb _ _ (omega arith)) (omega arith)
     back t p v false hp hv = same_fields _ _ _ _ _ _ _ _ (omega arith) (omega arith) (ne_eqb _ _ (λ e. omega arith)) (omega arith)
+
+pub word_is_back : (tag : TagFields) (word : ℕ) → IsLow tag → word ≡ word_of tag → tag_of word ≡ tag
+word_is_back tag word h is = ap tag_of is ∙ word_back tag h
 
 pub tag_back : (word : ℕ) → word_of (tag_of word) ≡ word
 tag_back word =
@@ -71,8 +75,15 @@ four_at place bytes long =
     ∙ (word_at 0 (drop place bytes) ∙ (rw (drop-drop 2 place bytes) (sym (word_at place bytes))))
 
 -- and they are read as the tag of that word
-pub read_word : (bytes : List ℕ) → 4 ≤ length bytes → All (λ b. b < 2 ^ 8) bytes → tag_of (big_number 4 bytes) ≡ tag_at 0 bytes
-read_word bytes long fits = ap tag_of (four_at_once bytes long) ∙ word_back (tag_at 0 bytes) (low _ (tag_in_range bytes long fits))
+pub read_word : (place : ℕ) (bytes : List ℕ) → place + 4 ≤ length bytes → ((i : ℕ) → slice_index bytes i < 256)
+    → tag_of (big_number 4 (drop place bytes)) ≡ tag_at place bytes
+read_word place bytes long fits =
+    ap tag_of (four_at place bytes long) ∙ word_back (tag_at place bytes) (record { pcp = omega (arith, control); vid = omega arith })
+  where
+    control : type_at (place + 2) bytes < 2 ^ 16
+    control =
+        let number = big_from-lt 0 2 (drop (place + 2) bytes) (λ i. rw (get_or-drop (place + 2) bytes i 0) (fits (place + 2 + i))) in
+        omega (arith, number)
 
 -- the bytes of a tag are those of its word
 pub bytes_of_word : (tag : TagFields) → IsInRange tag → tag_bytes tag ≡ big_bytes 4 (word_of tag)

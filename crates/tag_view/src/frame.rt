@@ -20,7 +20,11 @@ impl<'a> Model for FrameView<'a> {
 
     ghost Value = { Reading };
 
-    ghost view = { λ f. record { addresses = f.addresses.now; tags = f.tags.items; rest = f.rest.now } };
+    ghost view = { λ f. record {
+      addresses = f.addresses.now;
+      tags = f.tags.items;
+      rest = f.rest.now;
+    } };
 
     ghost invariant = { λ f. (length f.addresses.now ≡ 12) × (2 ≤ length f.rest.now) };
 }

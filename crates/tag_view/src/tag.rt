@@ -1,5 +1,6 @@
 //! A VLAN tag.
 
+use crate::tag_type::CUSTOMER_TPID;
 use byteorder::{BigEndian, ByteOrder};
 use std::marker::Model;
 
@@ -29,6 +30,17 @@ impl Model for Tag {
     ghost inverse = { λ t. record { tpid = t.tpid; pcp = t.pcp; dei = t.dei; vid = t.vid } };
 }
 
+/// What stands for a tag that isn't there: a customer's, which is zero otherwise (a choice of this project).
+pub const MISSING_TAG: Tag = Tag {
+    tpid: CUSTOMER_TPID,
+    pcp: 0,
+    dei: false,
+    vid: 0,
+};
+
+/// The word of [`MISSING_TAG`].
+pub const MISSING_WORD: u32 = (CUSTOMER_TPID as u32) << 16;
+
 impl Tag {
     ghost use Rattle.std.specs.Prelude.{◌≡◌, ◌≤◌, length};
     ghost use Rattle.tag_view.specs.Tag.{control_of, tag_bytes};
@@ -40,16 +52,11 @@ impl Tag {
         requires { 4 ≤ length bytes.now }
         ensures { result ≡ tag_at 0 bytes.now }
     {
-        let control = BigEndian::read_u16(&bytes[2..]);
-        Tag {
-            tpid: BigEndian::read_u16(bytes),
-            pcp: (control >> 13) as u8,
-            dei: control >> 12 & 1 == 1,
-            vid: control & 0x0fff,
-        }
+        Tag::of_word(BigEndian::read_u32(bytes))
     }
 
     /// The tag control information.
+    #[inline(always)]
     fn control(&self) -> u16
         ensures { result ≡ control_of self.now }
     {
@@ -69,7 +76,8 @@ impl Tag {
     /// The four bytes of the tag as one number, the first of them its highest.
     #[inline(always)]
     pub fn word(&self) -> u32
-        ensures { result ≡ word_of self.now }
+        ensures value { result ≡ word_of self.now }
+        ensures back { tag_of result ≡ self.now }
     {
         u32::from(self.tpid) << 16 | u32::from(self.control())
     }

@@ -6,19 +6,15 @@ use Rattle.std.specs.Int.Bits.{and_zero_r}
 use Rattle.std.proofs.lemmas.List.{take-map}
 use Rattle.std.proofs.lemmas.Bool.{ltb-false}
 use Rattle.tag_view.specs.Tag.{TagFields}
-use Rattle.tag_view.specs.Word.{tag_of, word_of}
+use Rattle.tag_view.specs.Word.{tag_of}
 use Rattle.vlan_rule.specs.declared.settings.TableSettings.{TableSettings}
 use Rattle.vlan_rule.specs.declared.treatment.Treatment.{Treatment}
 use Rattle.vlan_rule.specs.Meaning.{treatment_of}
-use Rattle.treatment.specs.Treatment.{dscp_priority, missing, treated, treated_by}
+use Rattle.treatment.specs.Treatment.{dscp_priority, treated, treated_by}
 use Rattle.treatment.specs.declared.mix.Mix.{Mix}
 use Rattle.treatment.specs.Mix.{mixed}
 use Rattle.treatment.specs.Compiled.{AreSources, Compiled, Treats, asks_dscp, used, words_by}
 use Rattle.treatment.proofs.Tags.{treated_entry}
-
--- the word that stands for the tag of a frame without tags
-pub no_tag : word_of missing ≡ 0x81000000
-no_tag = refl
 
 -- ---- where no mix asks for the DSCP, its priority has no part
 

@@ -2,7 +2,7 @@
 -- received tag, that of the last one, and the priority of the DSCP. Each source has a mask as a tag, all
 -- ones in the fields that are its own.
 use Rattle.std.specs.Prelude.{ℕ, Bool, true, false, bit_and, bit_or}
-use Rattle.tag_view.specs.Tag.{TagFields}
+use Rattle.tag_view.specs.Tag.{TagFields, customer_tpid}
 use Rattle.tag_view.specs.Word.{word_of}
 use Rattle.vlan_rule.specs.declared.settings.TableSettings.{TableSettings}
 use Rattle.vlan_rule.specs.declared.treatment.PrioritySource.{PrioritySource}
@@ -27,7 +27,7 @@ abbrev pub fixed_tpid : TableSettings → TpidSource → ℕ
 fixed_tpid settings from_tpid.Inner = 0
 fixed_tpid settings from_tpid.Outer = 0
 fixed_tpid settings from_tpid.Output = settings.output_tpid
-fixed_tpid settings from_tpid.Standard = 0x8100
+fixed_tpid settings from_tpid.Standard = customer_tpid
 
 abbrev pub fixed_priority : PrioritySource → ℕ
 fixed_priority (from_priority.Fixed priority) = priority

@@ -1,7 +1,7 @@
 -- What becomes of a frame's tags (ITU-T G.988, 9.3.13, the treatment fields of an entry). Tags are the
 -- received ones, the outermost first; the DSCP is the frame's, if it has one.
 use Rattle.std.specs.Prelude.{ℕ, Bool, true, false, List, [], ◌∷◌, ◌++◌, Option, Some, None, drop, length, min}
-use Rattle.tag_view.specs.Tag.{TagFields}
+use Rattle.tag_view.specs.Tag.{TagFields, customer_tpid, missing_tag}
 use Rattle.tag_view.specs.Dscp.{group_of}
 use Rattle.vlan_rule.specs.declared.settings.TableSettings.{TableSettings}
 use Rattle.vlan_rule.specs.declared.treatment.PrioritySource.{PrioritySource}
@@ -20,18 +20,14 @@ use Rattle.vlan_rule.specs.Meaning.{treatment_of}
 
 -- ---- what is copied
 
--- what a tag that isn't there is copied as
-abbrev pub missing : TagFields
-missing = record { tpid = 0x8100; pcp = 0; dei = false; vid = 0 }
-
 -- the outer tag: the first
 abbrev pub outer_of : List TagFields → TagFields
-outer_of [] = missing
+outer_of [] = missing_tag
 outer_of (tag ∷ rest) = tag
 
 -- the inner tag: the last, which of one tag is that tag
 abbrev pub inner_of : List TagFields → TagFields
-inner_of [] = missing
+inner_of [] = missing_tag
 inner_of (tag ∷ []) = tag
 inner_of (tag ∷ next ∷ rest) = inner_of (next ∷ rest)
 
@@ -57,7 +53,7 @@ abbrev pub tpid_from : TpidSource → TableSettings → List TagFields → ℕ
 tpid_from from_tpid.Inner settings tags = (inner_of tags).tpid
 tpid_from from_tpid.Outer settings tags = (outer_of tags).tpid
 tpid_from from_tpid.Output settings tags = settings.output_tpid
-tpid_from from_tpid.Standard settings tags = 0x8100
+tpid_from from_tpid.Standard settings tags = customer_tpid
 
 abbrev pub eligible_from : EligibleSource → List TagFields → Bool
 eligible_from from_eligible.Inner tags = (inner_of tags).dei

@@ -37,10 +37,6 @@ impl Model for Treat {
 }
 
 impl Treat {
-    /// The word that stands for the first and for the last tag of a frame without tags: a copy from a tag
-    /// that isn't there has type 0x8100 and zeros (a choice of this project).
-    pub const NO_TAG: u32 = 0x8100_0000;
-
     /// The treatment, with the settings of its rule's table, for frames with so many received tags; None
     /// where such frames are dropped.
     pub fn of(treatment: &Treatment, settings: &TableSettings, received: usize) -> Option<Treat>
@@ -70,11 +66,12 @@ impl Treat {
         treat
     }
 
-    // Puts the mix of a tag, if there is one, behind the others.
+    /// Puts the mix of a tag, if there is one, behind the others.
     fn append(&mut self, added: &Option<AddedTag>, settings: &TableSettings)
         requires room { self.old.count < 4 }
         requires fits { IsTrue (addition_fits added.now) }
-        ensures items { used self.new ≡ used self.old ++ map (mix_of settings.now) (of_option added.now) }
+        ensures items { used self.new
+            ≡ used self.old ++ map (mix_of settings.now) (of_option added.now) }
         ensures one { self.new.count ≤ self.old.count + 1 }
     {
         if let Some(added) = added {
@@ -103,17 +100,22 @@ impl Treat {
     }
 
     /// The words of the tags that a frame leaves with, outermost first, of the words of its first and its
-    /// last received tag (`NO_TAG` for both where it has none) and the priority that the table's mapping has
+    /// last received tag ([`MISSING_WORD`] for both where it has none) and the priority that the table's mapping has
     /// for its DSCP (0 without one). Of the four words the first `count` are meant; the others have no
     /// meaning.
+    ///
+    /// [`MISSING_WORD`]: tag_view::MISSING_WORD
     #[inline(always)]
     pub fn words(&self, first: u32, last: u32, priority: u8) -> [u32; 4]
         ensures value { result ≡ words_by self.now.mixes first last priority }
         ensures treated { (by : By) (settings : Settings) (tags : List TagFields) (dscp : Option ℕ)
-            → Treats by settings (length tags) (Some self.now) → AreSources self.now settings tags dscp first last priority
+            → Treats by settings (length tags) (Some self.now)
+            → AreSources self.now settings tags dscp first last priority
             → Some (map tag_of (take self.now.count result)) ≡ treated_by by settings tags dscp }
-        ensures of_entry { (entry : List ℕ) (settings : Settings) (tags : List TagFields) (dscp : Option ℕ)
-            → Treats (treatment_of entry) settings (length tags) (Some self.now) → AreSources self.now settings tags dscp first last priority
+        ensures of_entry { (entry : List ℕ) (settings : Settings)
+            (tags : List TagFields) (dscp : Option ℕ)
+            → Treats (treatment_of entry) settings (length tags) (Some self.now)
+            → AreSources self.now settings tags dscp first last priority
             → Some (map tag_of (take self.now.count result)) ≡ treated entry settings tags dscp }
     {
         mix::words(&self.mixes, first, last, priority)

@@ -4,20 +4,12 @@ ghost use Rattle.tag_view.specs.Dscp.{dscp_of};
 ghost use Rattle.vlan_rule.specs.Meaning.{addition_fits, priority_fits, vid_fits};
 ghost use Rattle.treatment.specs.Treatment.{dscp_priority, eligible_from, inner_of, outer_of, priority_from, tag_from, tpid_from, vid_from};
 
-use tag_view::{FrameView, Tag};
+use tag_view::{CUSTOMER_TPID, FrameView, MISSING_TAG, Tag};
 use vlan_rule::{AddedTag, EligibleSource, PrioritySource, TableSettings, TpidSource, VidSource};
 
-// What a tag that isn't there is copied as (a choice of this project).
-const MISSING: Tag = Tag {
-    tpid: 0x8100,
-    pcp: 0,
-    dei: false,
-    vid: 0,
-};
-
 /// The tag that a treatment adds to a frame, with the settings of its table. Copies are of the tags that were received, before
-/// any is removed; what a frame lacks is copied as 0x8100 with priority, indicator and VID 0, and without a DSCP the priority that
-/// is copied from it is 0 (choices of this project).
+/// any is removed; what a frame lacks is copied from [`MISSING_TAG`], and without a DSCP the priority that is copied from it is 0 (a
+/// choice of this project).
 pub fn added_tag(added: &AddedTag, settings: &TableSettings, frame: &FrameView<'_>) -> Tag
     requires { IsTrue (addition_fits (Some added.now)) }
     ensures { result ≡ tag_from added.now settings.now frame.now.tags (dscp_of frame.now.rest) }
@@ -33,7 +25,8 @@ pub fn added_tag(added: &AddedTag, settings: &TableSettings, frame: &FrameView<'
 
 fn priority(source: PrioritySource, settings: &TableSettings, frame: &FrameView<'_>) -> u8
     requires { IsTrue (priority_fits source) }
-    ensures value { result ≡ priority_from source settings.now frame.now.tags (dscp_of frame.now.rest) }
+    ensures value { result
+        ≡ priority_from source settings.now frame.now.tags (dscp_of frame.now.rest) }
     ensures bound { result < 8 }
 {
     match source {
@@ -44,8 +37,8 @@ fn priority(source: PrioritySource, settings: &TableSettings, frame: &FrameView<
     }
 }
 
-// The priority that the table's mapping has for the frame's DSCP. Without one it is 0 (a choice of
-// this project).
+/// The priority that the table's mapping has for the frame's DSCP. Without one it is 0 (a choice of
+/// this project).
 fn dscp_priority(settings: &TableSettings, frame: &FrameView<'_>) -> u8
     ensures value { result ≡ dscp_priority settings.now.dscp_map.0 (dscp_of frame.now.rest) }
     ensures bound { result < 8 }
@@ -75,7 +68,7 @@ fn tpid(source: TpidSource, settings: &TableSettings, received: &[Tag]) -> u16
         TpidSource::Inner => inner(received).tpid,
         TpidSource::Outer => outer(received).tpid,
         TpidSource::Output => settings.output_tpid,
-        TpidSource::Standard => 0x8100,
+        TpidSource::Standard => CUSTOMER_TPID,
     }
 }
 
@@ -90,22 +83,22 @@ fn eligible(source: EligibleSource, received: &[Tag]) -> bool
     }
 }
 
-// The outer tag: the first.
+/// The outer tag: the first.
 fn outer(received: &[Tag]) -> Tag
     ensures { result ≡ outer_of received.now }
 {
     match received {
         [first, ..] => *first,
-        [] => MISSING,
+        [] => MISSING_TAG,
     }
 }
 
-// The inner tag: the last.
+/// The inner tag: the last.
 fn inner(received: &[Tag]) -> Tag
     ensures { result ≡ inner_of received.now }
 {
     match received {
         [.., last] => *last,
-        [] => MISSING,
+        [] => MISSING_TAG,
     }
 }

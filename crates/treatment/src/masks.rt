@@ -3,7 +3,7 @@ ghost use Rattle.std.specs.Prelude.{◌≡◌, ◌<◌, IsTrue, Some, if◌then�
 ghost use Rattle.vlan_rule.specs.Meaning.{addition_fits, priority_fits, vid_fits};
 ghost use Rattle.treatment.specs.Mix.{dscp_mask, fixed_part, fixed_priority, fixed_tpid, fixed_vid, inner_mask, outer_mask};
 
-use tag_view::Tag;
+use tag_view::{CUSTOMER_TPID, Tag};
 use vlan_rule::{AddedTag, EligibleSource, PrioritySource, TableSettings, TpidSource, VidSource};
 
 /// What is fixed, and zeros where a field is copied.
@@ -24,7 +24,7 @@ fn tpid(source: TpidSource, settings: &TableSettings) -> u16
 {
     match source {
         TpidSource::Output => settings.output_tpid,
-        TpidSource::Standard => 0x8100,
+        TpidSource::Standard => CUSTOMER_TPID,
         TpidSource::Inner | TpidSource::Outer => 0,
     }
 }
@@ -87,7 +87,7 @@ pub(crate) fn of_dscp(added: &AddedTag) -> Tag
     }
 }
 
-// All ones of a field, or none of them.
+/// All ones of a field, or none of them.
 fn all_of_tpid(all: bool) -> u16
     ensures { result ≡ (if all then 0xffff else 0) }
 {

@@ -17,8 +17,10 @@ use vlan_rule::{Retag, Rule, TableSettings, Treatment};
 /// tags are removed from the outermost on; where more are to be removed than there are, all go (a
 /// choice of this project). What is left of them stands behind the added tags.
 pub fn treat(rule: &Rule, settings: &TableSettings, frame: &FrameView<'_>) -> Treated
-    ensures value { shown result ≡ treated_by rule.now.treatment settings.now frame.now.tags (dscp_of frame.now.rest) }
-    ensures of_entry { (entry : List ℕ) → IsRuleOf entry rule.now → shown result ≡ treated entry settings.now frame.now.tags (dscp_of frame.now.rest) }
+    ensures value { shown result
+        ≡ treated_by rule.now.treatment settings.now frame.now.tags (dscp_of frame.now.rest) }
+    ensures of_entry { (entry : List ℕ) → IsRuleOf entry rule.now
+        → shown result ≡ treated entry settings.now frame.now.tags (dscp_of frame.now.rest) }
     ensures two_more { IfSome (shown result) (λ tags. length tags ≤ length frame.now.tags + 2) }
     ensures four { IfSome (shown result) (λ tags. length tags ≤ 4) }
 {
@@ -28,10 +30,11 @@ pub fn treat(rule: &Rule, settings: &TableSettings, frame: &FrameView<'_>) -> Tr
     }
 }
 
-// The tags that a frame leaves with.
+/// The tags that a frame leaves with.
 fn retagged(retag: &Retag, settings: &TableSettings, frame: &FrameView<'_>) -> ArrayVec<Tag, 4>
     requires { IsTrue (treatment_fits (retag_by retag.now)) }
-    ensures value { Some result.items ≡ treated_by (retag_by retag.now) settings.now frame.now.tags (dscp_of frame.now.rest) }
+    ensures value { Some result.items
+        ≡ treated_by (retag_by retag.now) settings.now frame.now.tags (dscp_of frame.now.rest) }
     ensures two_more { length result.items ≤ length frame.now.tags + 2 }
 {
     let mut tags = added(retag, settings, frame);
@@ -43,10 +46,11 @@ fn retagged(retag: &Retag, settings: &TableSettings, frame: &FrameView<'_>) -> A
     tags
 }
 
-// The tags that are added, the outer one first.
+/// The tags that are added, the outer one first.
 fn added(retag: &Retag, settings: &TableSettings, frame: &FrameView<'_>) -> ArrayVec<Tag, 4>
     requires { IsTrue (treatment_fits (retag_by retag.now)) }
-    ensures items { result.items ≡ additions_from retag.now settings.now frame.now.tags (dscp_of frame.now.rest) }
+    ensures items { result.items
+        ≡ additions_from retag.now settings.now frame.now.tags (dscp_of frame.now.rest) }
     ensures two { length result.items ≤ 2 }
 {
     let mut tags = ArrayVec::new();

@@ -3,7 +3,7 @@
 use Rattle.std.specs.Prelude.{◌≡◌, ◌<◌, ℕ, Bool, true, false, not, ◌&&◌, ◌||◌, List, [], ◌∷◌, Option, Some, None, ◌==◌, nat_lt, length, slice_index_or}
 use Rattle.std.specs.List.{position}
 use Rattle.std.specs.Option.{option_or}
-use Rattle.tag_view.specs.Tag.{TagFields}
+use Rattle.tag_view.specs.Tag.{TagFields, customer_tpid}
 use Rattle.vlan_rule.specs.declared.filter.PriorityFilter.{PriorityFilter}
 use Rattle.vlan_rule.specs.declared.filter.PriorityFilter.TheVariants as priority
 use Rattle.vlan_rule.specs.declared.filter.VidFilter.{VidFilter}
@@ -31,7 +31,7 @@ has_vid (vid.Exactly v) tag = tag.vid == v
 
 abbrev pub has_tpid : ℕ → TpidFilter → TagFields → Bool
 has_tpid input tpid.Any tag = true
-has_tpid input tpid.Standard tag = tag.tpid == 0x8100
+has_tpid input tpid.Standard tag = tag.tpid == customer_tpid
 has_tpid input tpid.Input tag = tag.tpid == input
 has_tpid input tpid.InputNotEligible tag = tag.tpid == input && not tag.dei
 has_tpid input tpid.InputEligible tag = tag.tpid == input && tag.dei

@@ -2,16 +2,16 @@
 use crate::put::Put;
 use crate::rule::Rule;
 
-// How the rows change for an entry that is put.
+/// How the rows change for an entry that is put.
 #[derive(Clone, Copy)]
 pub(crate) enum Edit {
-    // It goes last.
+    /// It goes last.
     Add(Rule),
-    // It stands at this place, in which its key is held.
+    /// It stands at this place, in which its key is held.
     Replace(usize, Rule),
-    // The row at this place goes.
+    /// The row at this place goes.
     Delete(usize),
-    // Nothing changes.
+    /// Nothing changes.
     Absent,
 }
 
@@ -19,7 +19,7 @@ impl Edit {
     ghost use Rattle.std.specs.Prelude.{◌≡◌};
     ghost use Rattle.vlan_rule.specs.Edit.{told_of};
 
-    // What its caller is told.
+    /// What its caller is told.
     pub(crate) fn told(self) -> Put
         ensures { result ≡ told_of self }
     {

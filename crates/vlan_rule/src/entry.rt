@@ -12,7 +12,7 @@ use byteorder::{BigEndian, ByteOrder};
 #[derive(Clone, Copy, Debug, PartialEq, Eq)]
 pub struct Entry(pub [u8; 16]);
 
-// The keys of the entries of a new table.
+/// The keys of the entries of a new table.
 const PREDEFINED_KEYS: [u64; 3] = [
     0xF0000000_F0000000,
     0xF0000000_E0000000,
@@ -35,14 +35,14 @@ impl Entry {
         BigEndian::read_u64(rest) == u64::MAX
     }
 
-    // Whether its key is one of the three predefined ones.
+    /// Whether its key is one of the three predefined ones.
     pub(crate) fn is_predefined(&self) -> bool
         ensures { result ≡ is_predefined (key_of self.now.0) }
     {
         PREDEFINED_KEYS.contains(&self.key())
     }
 
-    // Its kind.
+    /// Its kind.
     #[tactic(auto, unfolding(crate::specs::Entry::kind_of))]
     pub(crate) fn kind(&self) -> Kind
         ensures { result ≡ kind_of self.now.0 }
@@ -53,7 +53,7 @@ impl Entry {
         )
     }
 
-    // The value of a field.
+    /// The value of a field.
     pub(crate) fn value(&self, at: Field) -> u16
         requires { IsField at }
         ensures value { result ≡ value_of at self.now.0 }
@@ -63,7 +63,7 @@ impl Entry {
         ((word(&self.0, at.word) >> at.low) % (1 << width)) as u16
     }
 
-    // The codes of a filter or a treatment.
+    /// The codes of a filter or a treatment.
     pub(crate) fn codes(&self, at: TagLayout) -> TagCodes
         requires { IsTagLayout at }
         ensures { result ≡ codes_of at self.now.0 }
@@ -76,7 +76,7 @@ impl Entry {
     }
 }
 
-// One of the four words, counted from 1.
+/// One of the four words, counted from 1.
 fn word(entry: &[u8], number: usize) -> u32
     requires whole { length entry.now ≡ 16 }
     requires first { 1 ≤ number }

@@ -19,7 +19,7 @@ pub enum Kind {
 impl Kind {
     ghost use Rattle.vlan_rule.specs.Entry.{kind_by};
 
-    // Of an outer and an inner filter priority.
+    /// Of an outer and an inner filter priority.
     pub(crate) fn of(outer: u16, inner: u16) -> Self
         ensures { result ≡ kind_by outer inner }
     {

@@ -4,7 +4,7 @@ ghost use Rattle.vlan_rule.specs.Choice.{are_tags, has_priority, has_tpid, has_t
 
 use crate::filter::{EthertypeFilter, Filter, PriorityFilter, TagFilter, TpidFilter, VidFilter};
 use crate::rule::Rule;
-use tag_view::Tag;
+use tag_view::{CUSTOMER_TPID, Tag};
 
 impl Rule {
     ghost use Rattle.vlan_rule.specs.Rule.{IsRuleOf};
@@ -12,15 +12,18 @@ impl Rule {
     /// Whether the rule is for a frame, of which these are the tags, the outermost first, and the
     /// type behind them.
     pub fn matches(&self, tags: &[Tag], ethertype: u16, input_tpid: u16) -> bool
-        ensures value { result ≡ (are_tags input_tpid self.now.filter tags.now && has_type self.now.ethertype ethertype) }
-        ensures of_entry { (entry : List ℕ) → IsRuleOf entry self.now → result ≡ matches input_tpid tags.now ethertype entry }
+        ensures value { result
+            ≡ (are_tags input_tpid self.now.filter tags.now
+            && has_type self.now.ethertype ethertype) }
+        ensures of_entry { (entry : List ℕ) → IsRuleOf entry self.now
+            → result ≡ matches input_tpid tags.now ethertype entry }
     {
         self.filter.are_tags(tags, input_tpid) && self.ethertype.is(ethertype)
     }
 }
 
 impl Filter {
-    // Whether there are as many tags as it asks, and they are what it asks.
+    /// Whether there are as many tags as it asks, and they are what it asks.
     fn are_tags(&self, tags: &[Tag], input_tpid: u16) -> bool
         ensures { result ≡ are_tags input_tpid self.now tags.now }
     {
@@ -76,7 +79,7 @@ impl TpidFilter {
     {
         match *self {
             TpidFilter::Any => true,
-            TpidFilter::Standard => tag.tpid == 0x8100,
+            TpidFilter::Standard => tag.tpid == CUSTOMER_TPID,
             TpidFilter::Input => tag.tpid == input_tpid,
             TpidFilter::InputNotEligible => tag.tpid == input_tpid && !tag.dei,
             TpidFilter::InputEligible => tag.tpid == input_tpid && tag.dei,

@@ -19,7 +19,7 @@ pub enum Rank {
 impl Rank {
     ghost use Rattle.vlan_rule.specs.Meaning.{rank_by, rank_number};
 
-    // Of an entry of this kind, whose key is a predefined one or isn't.
+    /// Of an entry of this kind, whose key is a predefined one or isn't.
     pub(crate) fn of(is_predefined: bool, kind: Kind) -> Self
         ensures { result ≡ rank_by is_predefined kind }
     {

@@ -23,7 +23,7 @@ pub(crate) fn refusal(entry: &Entry) -> Option<RuleFault>
     of_filters(outer, inner, &filters(entry), ethertype).or(of_treatments(&additions(entry)))
 }
 
-// The codes of the filters that count.
+/// The codes of the filters that count.
 #[tactic(auto, unfolding(crate::specs::Entry::filters_of))]
 fn filters(entry: &Entry) -> ArrayVec<TagCodes, 2>
     ensures { result.items ≡ filters_of entry.now.0 }
@@ -40,7 +40,7 @@ fn filters(entry: &Entry) -> ArrayVec<TagCodes, 2>
     filters
 }
 
-// The codes of the tags that are added.
+/// The codes of the tags that are added.
 fn additions(entry: &Entry) -> ArrayVec<TagCodes, 2>
     ensures { result.items ≡ additions_of entry.now.0 }
 {

@@ -30,7 +30,9 @@ impl Rule {
     /// where an edition of the standard gives it a meaning (a choice of this project).
     #[tactic(auto, unfolding(crate::specs::Meaning::filter_of, crate::specs::Meaning::ethertype_of, crate::specs::Meaning::rank_of))]
     pub fn read(entry: &Entry) -> Result<Rule, RuleFault>
-        ensures { MatchResult result (IsRuleOf entry.now.0) (λ fault. refusal_of entry.now.0 ≡ Some fault) }
+        ensures { MatchResult result
+            (IsRuleOf entry.now.0)
+            (λ fault. refusal_of entry.now.0 ≡ Some fault) }
     {
         match refusal(entry) {
             Some(fault) => Err(fault),

@@ -20,14 +20,14 @@ use std::marker::Model;
 /// among them (G.988, 9.3.13); a choice of this project.
 pub const TABLE_MAX_SIZE: u16 = 128;
 
-// The entries of a new table.
+/// The entries of a new table.
 const PREDEFINED: [Entry; 3] = [
     Entry([0xf0, 0, 0, 0, 0xf0, 0, 0, 0, 0, 0x0f, 0, 0, 0, 0x0f, 0, 0]),
     Entry([0xf0, 0, 0, 0, 0xe0, 0, 0, 0, 0, 0x0f, 0, 0, 0, 0x0f, 0, 0]),
     Entry([0xe0, 0, 0, 0, 0xe0, 0, 0, 0, 0, 0x0f, 0, 0, 0, 0x0f, 0, 0]),
 ];
 
-// An entry that is held, with its rule.
+/// An entry that is held, with its rule.
 #[derive(Clone, Copy)]
 pub(crate) struct Row {
     pub(crate) entry: Entry,
@@ -36,7 +36,7 @@ pub(crate) struct Row {
 }
 
 impl Row {
-    // The number of the entry's rank.
+    /// The number of the entry's rank.
     pub(crate) fn rank(&self) -> u8
         ensures { result ≡ rank_number (rank_of self.now.entry.0) }
     {
@@ -59,7 +59,9 @@ impl Model for RuleTable {
 
     ghost view = { λ table. map (λ row. row.entry.0) table.rows.items };
 
-    ghost invariant = { λ table. (table_max_size ≤ vec_capacity table.rows) × (vec_len table.rows ≤ table_max_size) };
+    ghost invariant = { λ table.
+        (table_max_size ≤ vec_capacity table.rows)
+        × (vec_len table.rows ≤ table_max_size) };
 }
 
 impl RuleTable {
@@ -130,7 +132,8 @@ impl RuleTable {
     pub fn rule(&self, place: usize) -> Option<&Rule>
         ensures { MatchOption result
             (length self.now ≤ place)
-            (λ rule. (place < length self.now) × IsRuleOf (slice_index_or self.now place []) rule.now) }
+            (λ rule. (place < length self.now)
+            × IsRuleOf (slice_index_or self.now place []) rule.now) }
     {
         let row = self.rows.get(place)?;
         Some(&row.rule)
@@ -163,14 +166,14 @@ impl RuleTable {
         self.rows.remove(at);
     }
 
-    // Where an entry of the same key is held.
+    /// Where an entry of the same key is held.
     fn place(&self, entry: &Entry) -> Option<usize>
         ensures { result ≡ position (λ e. key_of e == key_of entry.now.0) self.now }
     {
         first_with_key(&self.rows, entry.key())
     }
 
-    // What is to be done with an entry.
+    /// What is to be done with an entry.
     fn edit(&self, entry: &Entry) -> Result<Edit, TableFault>
         ensures { MatchResult result
             (IsEditFor self.now entry.now.0)

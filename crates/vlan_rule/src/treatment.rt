@@ -145,7 +145,7 @@ impl EligibleSource {
 impl AddedTag {
     ghost use Rattle.vlan_rule.specs.Meaning.{addition};
 
-    // A priority of 15 adds no tag.
+    /// A priority of 15 adds no tag.
     fn of(codes: TagCodes) -> Option<Self>
         ensures { result ≡ addition codes }
     {

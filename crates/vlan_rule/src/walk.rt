@@ -15,13 +15,16 @@ impl RuleTable {
     /// choice of this project.
     #[tactic(auto, using(crate::proofs::Computed::is_computed))]
     pub fn walk(&self, frame: &FrameView<'_>, input_tpid: u16) -> Option<usize>
-        ensures used { IsChoice (matches input_tpid frame.now.tags (type_at 0 frame.now.rest)) self.now result }
-        ensures computed { result ≡ choice (matches input_tpid frame.now.tags (type_at 0 frame.now.rest)) self.now }
+        ensures used { IsChoice
+            (matches input_tpid frame.now.tags (type_at 0 frame.now.rest))
+            self.now result }
+        ensures computed { result
+            ≡ choice (matches input_tpid frame.now.tags (type_at 0 frame.now.rest)) self.now }
     {
         self.chosen(frame.tags(), frame.ethertype(), input_tpid)
     }
 
-    // The place of the entry that is used for these tags and the type behind them.
+    /// The place of the entry that is used for these tags and the type behind them.
     fn chosen(&self, tags: &[Tag], ethertype: u16, input_tpid: u16) -> Option<usize>
         ensures { IsChoice (matches input_tpid tags.now ethertype) self.now result }
     {
@@ -30,9 +33,12 @@ impl RuleTable {
     }
 }
 
-// The least rank and place of the rows that match.
+/// The least rank and place of the rows that match.
 fn best(rows: &[Row], tags: &[Tag], ethertype: u16, input_tpid: u16) -> Option<(u8, usize)>
-    ensures { IsBest (matches input_tpid tags.now ethertype) (map (λ row. row.entry.0) rows.now) (length rows.now) result }
+    ensures { IsBest
+        (matches input_tpid tags.now ethertype)
+        (map (λ row. row.entry.0) rows.now)
+        (length rows.now) result }
 {
     let mut best = None;
     for (place, row) in rows.iter().enumerate() {
@@ -42,7 +48,7 @@ fn best(rows: &[Row], tags: &[Tag], ethertype: u16, input_tpid: u16) -> Option<(
     best
 }
 
-// The best so far, or what comes after it where that passes and its rank is less.
+/// The best so far, or what comes after it where that passes and its rank is less.
 fn better(best: Option<(u8, usize)>, passes: bool, rank: u8, place: usize) -> Option<(u8, usize)>
     ensures { result ≡ better passes rank place best }
 {

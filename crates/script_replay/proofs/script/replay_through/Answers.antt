@@ -2,8 +2,8 @@ use Rattle.std.proofs.Common.{◌≡◌, ◌+◌, ◌≤◌, ◌++◌, ℕ, suc,
 use Rattle.std.proofs.KnownBytes.{Appends-trans, Consumes-trans}
 use Rattle.std.specs.Io.KnownBytes.{Appends}
 use Rattle.std.proofs.lemmas.Result.{err_from_is_err_and}
-use Rattle.capture.specs.Text.{cut}
-use Rattle.writing.specs.Written.{AppendsPart}
+use Rattle.script_lines.specs.Text.{cut}
+use Rattle.text_writing.specs.Written.{AppendsPart}
 use Rattle.script_replay.specs.Finish.{Finishes}
 use Rattle.script_replay.proofs.Ends.{ends_bad, ends_write, part_behind, part_of_ended}
 use Rattle.script_replay.proofs.Finished.{consumes_none, finished}

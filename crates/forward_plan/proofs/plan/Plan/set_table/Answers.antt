@@ -23,7 +23,7 @@ returns c =
     let tables = c.args.self.now.tables in
     let mappers = c.args.self.now.mappers in
     let kept = c.forget.new.parts in
-    let part = c.follow-2.new.self in
+    let part = c.follow.new.self in
     let at = set_at c.args.instance e.vlans new.vlans place (is.vlans refl) c.in-Some.ensures.place in
     let len : length kept ≡ 16 = omega (arith, c.forget.ensures.forgotten.len, c.deref_mut.ensures.len, c.args.self.now.for_tables) in
     let whole = written_whole kept tables.items tables.len 16 c.args.self.now.for_tables len in
@@ -34,7 +34,7 @@ returns c =
       of_tables =
           rw whole
           (one_compiled IsTable IsTable e.vlans new.vlans place c.in-Some.number (vlan_instance c.in-Some.number c.in-Some.vlan.now) tables.items kept part at c.in-Some.ensures.shown
-          c.in-Some.ensures.found c.follow-2.ensures.number (c.follow-2.ensures.table c.in-Some.number) (λ i compiled is. is) (omega (arith, c.in-Some.ensures.room, len)) compiled
+          c.in-Some.ensures.found c.follow.ensures.number (c.follow.ensures.table c.in-Some.number) (λ i compiled is. is) (omega (arith, c.in-Some.ensures.room, len)) compiled
           (tables_stay e.vlans new.vlans c.args.instance tables.items kept is.same.vlans.others forgotten was.of_tables.right) was.of_tables);
       of_mappers =
           same_mappers e new mappers.items (is.same.mappers.elsewhere (λ same. absurd (omega (arith, same))))

@@ -2,5 +2,5 @@
 use Rattle.std.proofs.Common.{rules}
 use Rattle.mib_state.proofs.held.HeldInstance.class.Goals as goal
 
-pub returns-in-Mapper : goal.returns-in-Mapper
-returns-in-Mapper c = search rules fits 30
+pub returns : goal.returns
+returns c = search rules fits 30

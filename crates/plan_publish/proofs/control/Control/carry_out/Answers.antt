@@ -23,7 +23,7 @@ invariant_of-self-2 c =
       | else-is_accepted w ↦
           subst P (λ i. ((sym w.self-inside-is i).desk, (sym w.self-inside-is i).publisher)) (refused desk (all_of lists) q c.self.invariant (sym test ∙ w.if-is_accepted.false))
     ] in
-    ap (λ (s : DeskState). s.mib.entities) c.answer.ensures.after ∙ left
+    ap (λ (s : DeskState). s.mib.entities) c.carry_out.ensures.after ∙ left
 
 pub returns-clause-entities : goal.returns-clause-entities
 returns-clause-entities c = invariant_of-self-2 c

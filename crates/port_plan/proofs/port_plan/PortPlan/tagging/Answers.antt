@@ -1,8 +1,8 @@
 use Rattle.std.proofs.Common.{ap, sym, ◌∙◌, ◌-◌, length}
 use Rattle.std.specs.Prelude.{slice_index_or}
-use Rattle.tag_view.specs.Tag.{TagFields}
+use Rattle.tag_view.specs.Tag.{TagFields, missing_tag}
 use Rattle.tag_view.specs.Dscp.{dscp_of}
-use Rattle.rule_index.specs.Head.{FrameHead, no_tag}
+use Rattle.rule_index.specs.Head.{FrameHead}
 use Rattle.port_plan.proofs.Planned.{made_tags, marked, planned_reason, sources}
 use Rattle.port_plan.proofs.port_plan.PortPlan.tagging.Goals as goal
 
@@ -11,8 +11,8 @@ returns-in-Ok-clause-tags c = λ e port frame planned of place.
     let table = c.args.self.now.table.now.table in
     let treat = c.in-Ok.treat.now in
     let found = c.in-Ok.ensures.treat frame of.read in
-    let first : FrameHead → TagFields = λ head. slice_index_or head.tags 0 no_tag in
-    let last : FrameHead → TagFields = λ head. slice_index_or head.tags (length head.tags - 1) no_tag in
+    let first : FrameHead → TagFields = λ head. slice_index_or head.tags 0 missing_tag in
+    let last : FrameHead → TagFields = λ head. slice_index_or head.tags (length head.tags - 1) missing_tag in
     made_tags e port frame table found.0 treat c.outer.result c.inner.result c.marking.result planned.table of.two of.range found.1 found.2
     (sources treat table.settings frame.tags (dscp_of frame.rest) c.outer.result c.inner.result c.marking.result of.two of.range
     (c.outer.ensures ∙ ap first (sym of.read)) (c.inner.ensures ∙ ap last (sym of.read))

@@ -1,5 +1,8 @@
 use Rattle.std.specs.Prelude.{slice_index_or}
-use Rattle.std.proofs.Common.{◌≡◌, ◌<◌, ℕ, sym, ◌+◌, ◌/◌, ◌%◌, ◌∙◌, ap, ap₂, arith, bit_and}
+use Rattle.std.proofs.Common.{◌≡◌, ◌<◌, ℕ, List, sym, ◌+◌, ◌/◌, ◌%◌, ◌∙◌, ap, ap₂, arith, bit_and, subst}
+use Rattle.vlan_rule.specs.declared.filter.TagFilter.{TagFilter}
+use Rattle.rule_index.specs.Masks.{AreGroups}
+use Rattle.rule_index.specs.Filters.{priority_key, tpid_key}
 use Rattle.rule_index.specs.Codes.{joined_code, joined_priority}
 use Rattle.rule_index.proofs.Coding.{code-mask, tpid-bits}
 use Rattle.rule_index.proofs.MaskLaws.{set-four}
@@ -28,7 +31,16 @@ loop-low-preserved c =
           invariant.done;
     }
 
-pub returns : goal.returns
-returns c = λ filters is code h.
+pub returns-clause-codes : goal.returns-clause-codes
+returns-clause-codes c = λ filters is code h.
     c.loop-low.invariant.done code (h, omega arith)
     ∙ code-mask c.args.self.now.priorities c.args.self.now.tpids filters code (omega arith) (omega arith) is.priorities is.tpids
+
+pub returns-clause-keys : goal.returns-clause-keys
+returns-clause-keys c = λ filters is.
+    let by_priority : List ℕ → Type 0 = λ masks. AreGroups (λ (f : TagFilter). priority_key f.priority) masks filters in
+    let by_tpid : List ℕ → Type 0 = λ masks. AreGroups (λ (f : TagFilter). tpid_key f.tpid) masks filters in
+    record {
+      priorities = subst by_priority (sym c.loop-low.invariant.priorities) is.priorities;
+      tpids = subst by_tpid (sym c.loop-low.invariant.tpids) is.tpids;
+    }

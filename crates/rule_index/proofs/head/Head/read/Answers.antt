@@ -1,7 +1,6 @@
 -- Each return has the head or the fault of the frame.
-use Rattle.std.proofs.Common.{◌<◌, ◌^◌, ℕ, [], ◌∷◌, Ok, Result, ap, ap₂, sym, ◌∙◌, arith}
+use Rattle.std.proofs.Common.{Ok, Result, ap, sym, ◌∙◌}
 use Rattle.tag_view.specs.declared.fault.FrameFault.{FrameFault}
-use Rattle.tag_view.specs.Word.{tag_of}
 use Rattle.rule_index.specs.Head.{FrameHead}
 use Rattle.rule_index.proofs.Heads.{runt, untagged, cut_one, one_tag, cut_two, two_tags}
 use Rattle.rule_index.proofs.head.Head.read.Goals as goal
@@ -24,11 +23,10 @@ returns-then-bytes-lt18 c =
 pub returns-then-not-is_tag_type-2 : goal.returns-then-not-is_tag_type-2
 returns-then-not-is_tag_type-2 c =
     let ok : FrameHead → Result FrameHead FrameFault = λ head. Ok head in
-    let of_word : ℕ → Result FrameHead FrameFault = λ word. Ok (record { tags = tag_of word ∷ []; type = c.type_at-second.result }) in
-    let small : c.type_at.result < 2 ^ 16 = omega arith in
-    ap ok c.one_tag.ensures ∙ ap of_word c.joined-outer.ensures
-    ∙ sym (one_tag c.args.input_tpid c.type_at-first.result c.type_at-second.result c.type_at.result c.args.bytes.now c.if-bytes-lt18.false c.type_at-first.ensures
-    (sym c.is_tag_type.ensures ∙ c.if-not-is_tag_type.false) small c.type_at.ensures c.type_at-second.ensures (sym c.is_tag_type-2.ensures ∙ c.if-not-is_tag_type-2.true))
+    ap ok c.one_tag.ensures
+    ∙ sym (one_tag c.args.input_tpid c.type_at-first.result c.type_at-second.result c.word_at-outer.result c.args.bytes.now c.if-bytes-lt18.false
+    c.type_at-first.ensures (sym c.is_tag_type.ensures ∙ c.if-not-is_tag_type.false) c.word_at-outer.ensures
+    c.type_at-second.ensures (sym c.is_tag_type-2.ensures ∙ c.if-not-is_tag_type-2.true))
 
 pub returns-then-bytes-lt22 : goal.returns-then-bytes-lt22
 returns-then-bytes-lt22 c =
@@ -38,10 +36,7 @@ returns-then-bytes-lt22 c =
 pub returns : goal.returns
 returns c =
     let ok : FrameHead → Result FrameHead FrameFault = λ head. Ok head in
-    let of_words : ℕ → ℕ → Result FrameHead FrameFault = λ outer inner. Ok (record { tags = tag_of outer ∷ tag_of inner ∷ []; type = c.type_at-3.result }) in
-    let small : c.type_at.result < 2 ^ 16 = omega arith in
-    let low : c.type_at-2.result < 2 ^ 16 = omega arith in
-    ap ok c.two_tags.ensures ∙ ap₂ of_words c.joined-outer.ensures c.joined-inner.ensures
-    ∙ sym (two_tags c.args.input_tpid c.type_at-first.result c.type_at-second.result c.type_at.result c.type_at-2.result c.type_at-3.result c.args.bytes.now c.if-bytes-lt22.false
-    c.type_at-first.ensures (sym c.is_tag_type.ensures ∙ c.if-not-is_tag_type.false) small c.type_at.ensures
-    c.type_at-second.ensures (sym c.is_tag_type-2.ensures ∙ c.if-not-is_tag_type-2.false) low c.type_at-2.ensures c.type_at-3.ensures)
+    ap ok c.two_tags.ensures
+    ∙ sym (two_tags c.args.input_tpid c.type_at-first.result c.type_at-second.result c.word_at-outer.result c.word_at-inner.result c.type_at.result c.args.bytes.now
+    c.if-bytes-lt22.false c.type_at-first.ensures (sym c.is_tag_type.ensures ∙ c.if-not-is_tag_type.false) c.word_at-outer.ensures
+    c.type_at-second.ensures (sym c.is_tag_type-2.ensures ∙ c.if-not-is_tag_type-2.false) c.word_at-inner.ensures c.type_at.ensures)

@@ -7,6 +7,6 @@ use Rattle.rule_index.proofs.masks.Masks.inner_vid_mask.Goals as goal
 
 pub returns : goal.returns
 returns c = λ rows is.
-    c.vid_mask.ensures ∙ is.inner.vids.admits c.args.vid c.requires
+    c.vid_mask.ensures ∙ is.inner.vids.admits.each c.args.vid c.requires
     ∙ mask-map (λ f. admits_vid c.args.vid f) (λ (f : TagFilter). f.vid) (map (λ (row : Row). inner_in row.filter) rows)
     ∙ mask-map (λ (f : TagFilter). admits_vid c.args.vid f.vid) (λ (row : Row). inner_in row.filter) rows

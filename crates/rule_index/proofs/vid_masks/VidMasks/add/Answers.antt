@@ -17,7 +17,7 @@ returns-in-Exactly-clause-naming c = λ filters len is.
     let old : c.index_mut.result.now ≡ get_or self.masks.items c.class_of-class.result 0 = c.index_mut.ensures.value ∙ get_or_default self.masks.items c.class_of-class.result c.index_mut.result.now 0 (omega (arith, c.class_of-class.ensures.class.1)) in
     let some : 0 < class_at self.class.items c.in-Exactly.vid = omega (arith, class, c.class_of-class.ensures.class.0) in
     let room : class_at self.class.items c.in-Exactly.vid < length self.masks.items = omega (arith, class, c.class_of-class.ensures.class.1) in
-    rw (bit, c.in-Exactly.is, old, class) (naming-exact self.class.items self.masks.items self.any c.in-Exactly.vid filters c.if-vid-lt4096.true some room (c.class_of-class.ensures.naming filters is))
+    rw (bit, c.in-Exactly.is, old, class) (naming-exact self.class.items self.masks.items self.any c.in-Exactly.vid filters c.if-vid-lt4096.true some room (record { names = c.class_of-class.ensures.classes _ _ is.names; any_mask = c.class_of-class.ensures.any ∙ is.any_mask }))
 
 pub returns-else-vid-lt4096-clause-naming : goal.returns-else-vid-lt4096-clause-naming
 returns-else-vid-lt4096-clause-naming c = λ filters len is.

@@ -6,4 +6,4 @@ use Rattle.treatment.proofs.mix.Mix.of.Goals as goal
 pub returns : goal.returns
 unfolding mix_of
 returns c =
-    rw (c.word.ensures, c.word-2.ensures, c.word-3.ensures, c.word-4.ensures, c.fixed.ensures, c.of_outer.ensures, c.of_inner.ensures, c.of_dscp.ensures) refl
+    rw (c.word.ensures.value, c.word-2.ensures.value, c.word-3.ensures.value, c.word-4.ensures.value, c.fixed.ensures, c.of_outer.ensures, c.of_inner.ensures, c.of_dscp.ensures) refl

@@ -1,6 +1,0 @@
-use Rattle.std.proofs.Common.{◌≡◌}
-use Rattle.plan_publish.specs.Lane.{home_of}
-use Rattle.batches_tests.proofs.storm.forward_batches.Given as goal
-
-abbrev pub invariant-loop-batch : goal.invariant-loop-batch
-invariant-loop-batch l = home_of l.lane ≡ home_of l.fn.lane

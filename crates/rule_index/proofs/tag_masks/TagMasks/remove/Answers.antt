@@ -1,0 +1,21 @@
+use Rattle.std.proofs.Common.{List, ◌∷◌, ◌∙◌, map, subst, sym}
+use Rattle.std.proofs.lemmas.List.{length-map, map-append}
+use Rattle.vlan_rule.specs.declared.filter.TagFilter.{TagFilter}
+use Rattle.vlan_rule.specs.declared.filter.VidFilter.{VidFilter}
+use Rattle.rule_index.specs.Vids.{AreVids}
+use Rattle.rule_index.proofs.tag_masks.TagMasks.remove.Goals as goal
+
+pub returns : goal.returns
+returns c = λ before after filter at is.
+    let keys = c.remove.ensures before after filter at is.keys in
+    let vid : TagFilter → VidFilter = λ f. f.vid in
+    let old = c.args.self.now.vids in
+    let new = c.remove-2.new.self in
+    let O : List VidFilter → Type 0 = λ fs. AreVids old.class.items old.masks.items fs in
+    let N : List VidFilter → Type 0 = λ fs. AreVids new.class.items new.masks.items fs in
+    record {
+      keys = c.finish.ensures.keys _ keys;
+      codes = c.finish.ensures.codes _ keys;
+      vids = subst N (sym (map-append vid before after))
+          (c.remove-2.ensures (map vid before) (map vid after) filter.vid (length-map before vid ∙ at) (subst O (map-append vid before (filter ∷ after)) is.vids));
+    }

@@ -1,0 +1,13 @@
+-- The numbers of the faults of a run.
+use Rattle.std.specs.Prelude.{ℕ}
+use Rattle.run_capture.specs.declared.fault.RunFault.{RunFault}
+use Rattle.run_capture.specs.declared.fault.RunFault.TheVariants.{Settings, BadTrace, Capture, NoMemory, Refused, CountFull, Write}
+
+abbrev pub number_of_fault : RunFault → ℕ
+number_of_fault Settings = 1
+number_of_fault (BadTrace n) = 2
+number_of_fault (Capture fault) = 3
+number_of_fault NoMemory = 4
+number_of_fault Refused = 5
+number_of_fault CountFull = 6
+number_of_fault Write = 7

@@ -1,0 +1,152 @@
+//! A run: a capture forwarded while a trace is applied, and its lines written.
+ghost use Rattle.std.specs.Prelude.{◌≡◌, None, IfOk, IfErr, OnOk, OnErr, unwrap_or};
+ghost use Rattle.std.specs.Io.KnownBytes.{Appends};
+ghost use Rattle.capture.specs.Records.{capture_of};
+ghost use Rattle.text_writing.specs.Written.{AppendsPart};
+ghost use Rattle.run_capture.specs.Outcome.{file_fault, input_fault, IsOutput, IsWhyNone, Runs};
+ghost use Rattle.run_capture.specs.declared.fault.RunFault.TheVariants.{NoMemory};
+
+use crate::fault::RunFault;
+use crate::lines::lines_of;
+use crate::progress::{Progress, Watched, show};
+use capture::{ListFault, Pcap, list_frames};
+use run_lanes::{LaneFault, RunInput, run_lanes};
+use run_settings::RunSettings;
+use run_trace::{TraceFault, read_requests};
+use std::alloc::Global;
+use std::io::Write;
+use std::rt::Clock;
+use std::sync::Wait;
+use std::thread::{Threads, join};
+use text_writing::write_whole;
+
+/// What a run writes, or why it writes nothing.
+fn output_of<R: Threads + Wait + Sync>(
+    rt: &R,
+    alloc: Global,
+    trace: &[u8],
+    file: &[u8],
+    settings: &RunSettings,
+    progress: &Progress,
+) -> Result<Vec<u8>, RunFault>
+    ensures fits { IfOk result (λ out. input_fault trace.now file.now settings.now ≡ None) }
+    ensures output { IfOk result (λ out. IsOutput trace.now file.now settings.now out.items) }
+    ensures fault { IfErr result (IsWhyNone trace.now file.now settings.now) }
+{
+    if !settings.can_run() {
+        return Err(RunFault::Settings);
+    }
+    let requests = match read_requests(alloc, trace) {
+        Ok(requests) => requests,
+        Err(TraceFault::BadLine(line)) => return Err(RunFault::BadTrace(line)),
+        Err(TraceFault::NoMemory) => return Err(without_memory(file)),
+    };
+    let frames = match list_frames(alloc, file) {
+        Ok(frames) => frames,
+        Err(ListFault::Capture(fault)) => return Err(RunFault::Capture(fault)),
+        Err(ListFault::NoMemory) => return Err(RunFault::NoMemory),
+    };
+    let count = frames.len();
+    progress.begin(count);
+    let gate = Watched {
+        progress,
+        lanes: settings.lanes,
+    };
+    let input = RunInput {
+        requests: &requests,
+        frames: &frames,
+        settings,
+    };
+    let ran = match run_lanes(rt, alloc, &input, 1, &gate) {
+        Ok(ran) => ran,
+        Err(LaneFault::NoMemory) => return Err(RunFault::NoMemory),
+        Err(LaneFault::Refused) => return Err(RunFault::Refused),
+        Err(LaneFault::CountFull) => return Err(RunFault::CountFull),
+    };
+    let Ok(out) = lines_of(alloc, &ran, settings.batch as usize, count) else {
+        return Err(RunFault::NoMemory);
+    };
+    Ok(out)
+}
+
+/// Why nothing is written where the requests of the trace find no memory: the capture has a fault, or else that.
+fn without_memory(file: &[u8]) -> RunFault
+    ensures { result ≡ unwrap_or (file_fault None (capture_of file.now)) NoMemory }
+{
+    match Pcap::open(file) {
+        Ok(_) => RunFault::NoMemory,
+        Err(fault) => RunFault::Capture(fault),
+    }
+}
+
+/// Writes the lines whole.
+fn write_lines<W: Write>(writer: &mut W, out: &[u8]) -> Result<(), RunFault>
+    ensures ok { OnOk result (Appends (W.contents writer.old) (W.contents writer.new) out.now) }
+    ensures fault { IfErr result (λ fault. fault ≡ RunFault.Write) }
+    ensures err { OnErr result (AppendsPart (W.contents writer.old) (W.contents writer.new) out.now) }
+{
+    match write_whole(writer, out) {
+        Ok(()) => Ok(()),
+        Err(_) => Err(RunFault::Write),
+    }
+}
+
+/// Forwards the frames of a capture file, in batches spread over lanes, while the requests of a trace are applied, and writes what
+/// came of it as lines: `accepted A`, how many requests were accepted; for each batch `batch K version V frames N`, how many of
+/// them it was forwarded after; then of all verdicts `frames N`, `bytes N`, `drop R N` for each reason and `gem G N` for each GEM
+/// port that has frames. Each number is decimal.
+///
+/// The faults come in the order in which [`RunFault`] lists them, but that the lanes and the lines may each find no memory. All
+/// memory is taken before the first write, so nothing is written on any fault but [`RunFault::Write`]; then it is a front of the
+/// lines. Nothing is tried again.
+pub fn run_over<R: Threads + Wait + Sync, W: Write>(
+    rt: &R,
+    alloc: Global,
+    trace: &[u8],
+    frames: &[u8],
+    settings: &RunSettings,
+    writer: &mut W,
+) -> Result<(), RunFault>
+    ensures { Runs trace.now frames.now settings.now result (W.contents writer.old) (W.contents writer.new) }
+{
+    let out = match output_of(rt, alloc, trace, frames, settings, &Progress::new()) {
+        Ok(out) => out,
+        Err(fault) => return Err(fault),
+    };
+    write_lines(writer, &out)
+}
+
+/// The same as [`run_over`], and meanwhile a line on `err`, which is to be a terminal, says how many frames were forwarded and how
+/// many messages are published, or with `after` that they are being published and then how many frames were forwarded. It is
+/// written anew about twice a second, and is gone before the lines are written. A write to `err` that fails is passed over.
+pub fn run_over_shown<R: Threads + Wait + Clock + Sync, W: Write, E: Write + Send>(
+    rt: &R,
+    alloc: Global,
+    trace: &[u8],
+    frames: &[u8],
+    settings: &RunSettings,
+    writer: &mut W,
+    err: &mut E,
+) -> Result<(), RunFault>
+    ensures { Runs trace.now frames.now settings.now result (W.contents writer.old) (W.contents writer.new) }
+{
+    let progress = Progress::new();
+    let (_, made) = join(
+        rt,
+        || show(rt, &progress, settings, err),
+        || -> Result<Vec<u8>, RunFault>
+            ensures fits { IfOk result (λ out. input_fault trace.entry.now frames.entry.now settings.entry.now ≡ None) }
+            ensures output { IfOk result (λ out. IsOutput trace.entry.now frames.entry.now settings.entry.now out.items) }
+            ensures fault { IfErr result (IsWhyNone trace.entry.now frames.entry.now settings.entry.now) }
+        {
+            let made = output_of(rt, alloc, trace, frames, settings, &progress);
+            progress.end();
+            made
+        },
+    );
+    let out = match made {
+        Ok(out) => out,
+        Err(fault) => return Err(fault),
+    };
+    write_lines(writer, &out)
+}

@@ -1,0 +1,86 @@
+//! What a lane does.
+ghost use Rattle.std.specs.Prelude.{◌≡◌, ◌≤◌, Some, IfOk};
+ghost use Rattle.plan_publish.specs.Lane.{number_of, held_by, learnt_by, IsSameLane};
+ghost use Rattle.run_lanes.specs.Work.{batch_of, Forwarded, IsOut, Worked};
+
+use crate::fault::{LaneFault, forwarding, noting};
+use crate::job::Job;
+use frame_batch::{Gate, Tally, run_batch};
+use frame_stats::StatBook;
+use plan_publish::Lane;
+use std::sync::{Mutex, Wait};
+
+/// The batches of a lane, in ascending order: that of its own number, and from there each `lanes`-th. The lane enters once for each.
+pub(crate) fn lane_batches<'a, G: Gate, R: Wait>(
+    rt: &R,
+    lane: &mut Lane,
+    job: &Job<'_, 'a>,
+    gate: &G,
+) -> Result<Vec<Tally>, LaneFault>
+    requires { IsOut lane.old }
+    ensures same { IsSameLane lane.old lane.new }
+    ensures worked { IfOk result (λ tallies. (held : _) × (held_by lane.new ≡ Some held) × Worked job.now.settings job.now.frames.now held (learnt_by lane.old) (number_of lane.old) tallies.items) }
+{
+    let mut tallies = Vec::new(job.alloc);
+    let mut k = u32::from(lane.number());
+    while k < job.count {
+        let tally = forward_batch(lane, job, k, gate)?;
+        note(rt, job.book, &tally)?;
+        let Ok(()) = tallies.push(tally) else {
+            return Err(LaneFault::NoMemory);
+        };
+        k = k.saturating_add(u32::from(job.settings.lanes));
+    }
+    Ok(tallies)
+}
+
+/// One batch, for which the lane enters once. The gate is asked before too: a lane that waits in it holds nothing yet.
+fn forward_batch<'a, G: Gate>(
+    lane: &mut Lane,
+    job: &Job<'_, 'a>,
+    batch: u32,
+    gate: &G,
+) -> Result<Tally, LaneFault>
+    ensures same { IsSameLane lane.old lane.new }
+    ensures forwarded { IfOk result (λ tally. (before now : _) × (held_by lane.old ≡ Some before) × (held_by lane.new ≡ Some now) × Forwarded job.now.settings job.now.frames.now before (learnt_by lane.old) now batch tally) }
+{
+    let frames = frames_of(job.frames, job.settings.batch, batch);
+    if !gate.pass(lane.number(), batch, job.turns) {
+        return Err(LaneFault::Refused);
+    }
+    let Some(held) = lane.enter() else {
+        return Err(LaneFault::Refused);
+    };
+    let done = run_batch(
+        job.alloc,
+        &held,
+        batch,
+        job.settings.port,
+        frames,
+        job.turns,
+        gate,
+    );
+    held.leave();
+    match done {
+        Ok(report) => Ok(report.tally()),
+        Err(fault) => Err(forwarding(fault)),
+    }
+}
+
+/// The frames of a batch.
+fn frames_of<'f, 'a>(frames: &'f [&'a [u8]], size: u32, batch: u32) -> &'f [&'a [u8]]
+    requires { size ≤ 65536 }
+    ensures { result.now ≡ batch_of size batch frames.now }
+{
+    let from = (batch as usize * size as usize).min(frames.len());
+    let to = (from + size as usize).min(frames.len());
+    &frames[from..to]
+}
+
+/// Adds a batch's counts to the book.
+fn note<R: Wait>(rt: &R, book: &Mutex<StatBook>, tally: &Tally) -> Result<(), LaneFault> {
+    match book.lock(rt).add(tally.lane, &tally.counts) {
+        Ok(()) => Ok(()),
+        Err(fault) => Err(noting(fault)),
+    }
+}

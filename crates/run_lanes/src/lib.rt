@@ -1,0 +1,40 @@
+//! Lanes that forward frames while a control applies a trace of messages.
+//!
+//! **What runs where.** [`run_lanes`] opens a control with its lanes. Frames are cut in order into batches, and batch k is of lane
+//! k mod `lanes`. Each lane goes to a thread of its own, forwards its batches in ascending order and comes back; it enters once for
+//! each, so a batch is of one version. Of a batch are kept its number, its version and its counts, which go into a book that all
+//! lanes share. The control stays on its caller's thread, and carries the requests of the trace out. It publishes after each
+//! accepted one while the lanes forward; or, with `after`, once before they begin. Where no thread can be made, the
+//! work is done in turn, by the same functions.
+//!
+//! **What waits for what.** Lanes never wait for the control, nor for one another but at the book's lock, once for a batch. The
+//! control waits, as it publishes, for lanes that still hold the version before the last one, so small batches keep it short. Both
+//! wait at the gate, as long as that pleases: it is how a test holds them in step, and how a caller stops a run. Nothing
+//! is locked for a frame.
+//!
+//! **What is known afterwards.** While it runs, nobody can say which version a batch will have. Yet whatever the order of steps,
+//! each version is a beginning of what the trace's messages leave accepted, it never falls along a lane, and the batch's counts
+//! are those of what its frames mean after just so many accepted messages: `IsRun` in `specs/Run.antt`. With `after` all versions
+//! are the last one.
+//!
+//! **Why it is known.** A lane knows the lists of requests that it held, each of which begins the next. Back from its thread it
+//! still knows them, but not yet how they stand to the control's. So the control publishes once more and tells all lanes, and each
+//! enters again: it then holds what begins with what was told, and where the two have the same number it is just that. All that
+//! it held before is then a beginning of the accepted list, and how long it was is the version that its tally has. A lane whose
+//! number differs makes the run `Refused`. With `after` a lane has learnt the whole list before its first batch, so nothing that
+//! it held is shorter.
+//!
+//! The book is behind a lock, so no contract says what is in it but that its total is the sum of its parts; the counts of a run
+//! are summed from the tallies.
+#![tactic(auto)]
+
+mod control_work;
+mod fault;
+mod job;
+mod lane_work;
+mod run;
+mod settling;
+mod threads;
+
+pub use fault::LaneFault;
+pub use run::{Ran, RunInput, run_lanes};

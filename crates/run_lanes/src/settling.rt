@@ -1,0 +1,109 @@
+//! What is known once the lanes are back.
+ghost use Rattle.std.specs.Prelude.{◌≡◌, ◌++◌, Ok, IfOk, All, map};
+ghost use Rattle.plan_publish.specs.Lane.{home_of};
+ghost use Rattle.plan_publish.specs.Told.{told_home, told_list};
+ghost use Rattle.run_lanes.specs.Settling.{HeldBeginnings, Collected, IsSettled};
+
+use crate::control_work::confirm;
+use crate::fault::{LaneFault, gathering};
+use frame_batch::{Tally, gather_tallies};
+use frame_stats::Counts;
+use plan_publish::{Lane, Told};
+use std::alloc::Global;
+
+/// What a lane's thread gives back.
+#[derive(Drop)]
+pub(crate) struct Done {
+    /// The lane itself.
+    pub(crate) lane: Lane,
+    /// What is kept of its batches.
+    pub(crate) tallies: Result<Vec<Tally>, LaneFault>,
+}
+
+/// What is known of all batches.
+#[derive(Drop)]
+pub(crate) struct Settled {
+    /// How many messages are accepted.
+    pub(crate) accepted: u64,
+    /// The version of each batch, in order.
+    pub(crate) versions: Vec<u64>,
+    /// The counts of all verdicts.
+    pub(crate) counts: Counts,
+}
+
+/// Settles what the lanes did: each shows that it holds what was told, and the tallies of their batches are put in order.
+pub(crate) fn settle(
+    alloc: Global,
+    all_done: Vec<Done>,
+    told: &Told,
+    count: u32,
+) -> Result<Settled, LaneFault>
+    requires { All (λ d. told_home told.now ≡ home_of d.lane) all_done.items }
+    ensures { IfOk result (IsSettled (told_list told.now) all_done.items count) }
+{
+    let tallies = collect(alloc, all_done, told)?;
+    let gathered = match gather_tallies(alloc, tallies, count) {
+        Ok(gathered) => gathered,
+        Err(fault) => return Err(gathering(fault)),
+    };
+    let versions = versions_of(alloc, &gathered.tallies)?;
+    Ok(Settled {
+        accepted: told.version(),
+        versions,
+        counts: gathered.counts,
+    })
+}
+
+/// The versions of batches.
+fn versions_of(alloc: Global, tallies: &[Tally]) -> Result<Vec<u64>, LaneFault>
+    ensures { IfOk result (λ versions. versions.items ≡ map (λ t. t.version) tallies.now) }
+{
+    let Ok(mut versions) = Vec::with_capacity(alloc, tallies.len()) else {
+        return Err(LaneFault::NoMemory);
+    };
+    for tally in tallies {
+        versions.push_reserved(tally.version);
+    }
+    Ok(versions)
+}
+
+/// The tallies of a lane, which then holds what was told.
+fn confirmed(done: Done, told: &Told) -> Result<Vec<Tally>, LaneFault>
+    requires { told_home told.now ≡ home_of done.lane }
+    ensures { IfOk result (λ tallies. (done.tallies ≡ Ok tallies) × HeldBeginnings (told_list told.now) done.lane) }
+{
+    let Done { lane, tallies } = done;
+    let mut lane = lane;
+    if !confirm(&mut lane, told) {
+        return Err(LaneFault::Refused);
+    }
+    tallies
+}
+
+/// The tallies of one lane more.
+fn add_tallies(all: Vec<Tally>, more: Vec<Tally>) -> Result<Vec<Tally>, LaneFault>
+    ensures { IfOk result (λ both. both.items ≡ all.items ++ more.items) }
+{
+    let mut all = all;
+    let mut more = more;
+    match all.append(&mut more) {
+        Ok(()) => Ok(all),
+        Err(_) => Err(LaneFault::NoMemory),
+    }
+}
+
+/// The tallies of all lanes, each of which then holds what was told.
+pub(crate) fn collect(
+    alloc: Global,
+    all_done: Vec<Done>,
+    told: &Told,
+) -> Result<Vec<Tally>, LaneFault>
+    requires { All (λ d. told_home told.now ≡ home_of d.lane) all_done.items }
+    ensures { IfOk result (λ all. Collected (told_list told.now) all_done.items all.items) }
+{
+    let mut all = Vec::new(alloc);
+    for done in all_done {
+        all = add_tallies(all, confirmed(done, told)?)?;
+    }
+    Ok(all)
+}

@@ -1,0 +1,512 @@
+use forward_plan::{Reason, Verdict};
+use frame_batch::{
+    BatchFault, Gate, GatherFault, Report, Tally, forward_all, gather, gather_tallies,
+    law_of_arrival, run_batch,
+};
+use frame_stats::{Counts, count_of};
+use plan_publish::{Control, Held, Lane, open};
+use std::alloc::Global;
+use std::process::Abort;
+use std::sync::Wait;
+use std::sync::atomic::{AtomicU64, Ordering};
+use std::thread::{Threads, join, yield_now};
+use test_draws::{PORT_257, UNTAGGED, message};
+use test_fixtures::{holds, same};
+
+/// A frame that is cut in its tag.
+const CUT: [u8; 14] = [2, 0, 0, 0, 0, 1, 2, 0, 0, 0, 0, 2, 0x81, 0];
+
+/// A frame that is too short.
+const SHORT: [u8; 13] = [2, 0, 0, 0, 0, 1, 2, 0, 0, 0, 0, 2, 8];
+
+/// Whether a frame leaves by GEM port 1024, with its addresses and rest as they were and a tag of VID 100.
+fn is_tagged(verdict: &Verdict<'_>) -> bool {
+    match verdict {
+        Verdict::Forward { gem: 1024, frame } => {
+            let tagged = match frame.tags() {
+                [tag] => tag.bytes() == [0x81, 0, 0, 0x64],
+                _ => false,
+            };
+            tagged && frame.addresses() == &UNTAGGED[..12] && frame.rest() == &UNTAGGED[12..]
+        }
+        _ => false,
+    }
+}
+
+/// How many verdicts are of tagged frames.
+fn tagged(verdicts: &[Verdict<'_>]) -> usize {
+    let mut count = 0usize;
+    for verdict in verdicts {
+        if is_tagged(verdict) {
+            count = count.saturating_add(1);
+        }
+    }
+    count
+}
+
+/// Whether counts show these figures, and GEM port 1024 with this many frames and no other port.
+fn show(counts: &Counts, frames: u64, bytes: u64, drops: [u64; 9], of_1024: u64) -> bool {
+    let ports = if of_1024 == 0 { 0 } else { 1 };
+    counts.frames == frames
+        && counts.bytes == bytes
+        && counts.drops == drops
+        && counts.ports.len() == ports
+        && counts.ports.get(&1024).copied().unwrap_or(0) == of_1024
+}
+
+/// Lets every batch pass.
+#[derive(Drop)]
+struct Open;
+
+impl Gate for Open {
+    ghost use Rattle.std.specs.Prelude.{◌≡◌, true};
+
+    ghost may_answer = { λ _ _ _ _ answer. answer ≡ true };
+
+    fn pass(&self, _lane: u16, _batch: u32, _turns: u32) -> bool {
+        true
+    }
+}
+
+/// Lets a lane's batch pass once the other lane has come too.
+#[derive(Drop)]
+struct Meeting {
+    flags: [AtomicU64; 2],
+}
+
+impl Gate for Meeting {
+    fn pass(&self, lane: u16, _batch: u32, turns: u32) -> bool {
+        let own = usize::from(lane % 2);
+        self.flags[own].store(1, Ordering::SeqCst);
+        for _ in 0..turns {
+            if self.flags[1 - own].load(Ordering::SeqCst) == 1 {
+                return true;
+            }
+            yield_now();
+        }
+        false
+    }
+}
+
+/// A report of a batch of this number: of two frames that are tagged for batch 0, else of one that is cut.
+fn report_of(alloc: Global, held: &Held<'_>, batch: u32) -> Result<Report<'static>, BatchFault> {
+    let whole = [UNTAGGED.as_slice(), UNTAGGED.as_slice()];
+    let cut = [CUT.as_slice()];
+    let frames = if batch == 0 {
+        whole.as_slice()
+    } else {
+        cut.as_slice()
+    };
+    run_batch(alloc, held, batch, 257, frames, 1, &Open)
+}
+
+/// What gathering gives: how many there are, and whether each is in its place and the counts are those of the frames.
+type Outcome = Result<(usize, bool), GatherFault>;
+
+/// The reports of batches of these numbers.
+fn reports_of(
+    rt: &impl Abort,
+    alloc: Global,
+    held: &Held<'_>,
+    batches: &[u32],
+) -> Vec<Report<'static>> {
+    let mut reports = Vec::new(alloc);
+    for batch in batches {
+        let report = report_of(alloc, held, *batch).expect(rt, "a report");
+        reports.push(report).ok().expect(rt, "memory");
+    }
+    reports
+}
+
+/// Their tallies.
+fn tallies_of(rt: &impl Abort, alloc: Global, held: &Held<'_>, batches: &[u32]) -> Vec<Tally> {
+    let mut tallies = Vec::new(alloc);
+    for batch in batches {
+        let report = report_of(alloc, held, *batch).expect(rt, "a report");
+        tallies.push(report.tally()).ok().expect(rt, "memory");
+    }
+    tallies
+}
+
+/// What gathering reports gives.
+fn gathered(alloc: Global, reports: Vec<Report<'_>>, count: u32) -> Outcome {
+    let all = gather(alloc, reports, count)?;
+    let number = all.reports.len();
+    Ok((
+        number,
+        in_places(&all.reports) && counted(number, &all.counts),
+    ))
+}
+
+/// What gathering tallies gives.
+fn tallied(alloc: Global, tallies: Vec<Tally>, count: u32) -> Outcome {
+    let all = gather_tallies(alloc, tallies, count)?;
+    let number = all.tallies.len();
+    Ok((
+        number,
+        tallies_in_places(&all.tallies) && counted(number, &all.counts),
+    ))
+}
+
+/// Whether each report is in its place.
+fn in_places(reports: &[Report<'_>]) -> bool {
+    let mut place = 0u32;
+    for report in reports {
+        if report.batch != place || report.version != 5 || report.lane != 0 {
+            return false;
+        }
+        place = place.wrapping_add(1);
+    }
+    true
+}
+
+/// Whether each tally is in its place, with the counts of its batch.
+fn tallies_in_places(tallies: &[Tally]) -> bool {
+    let mut place = 0u32;
+    for tally in tallies {
+        if tally.batch != place || tally.version != 5 || tally.lane != 0 {
+            return false;
+        }
+        let own = if place == 0 {
+            show(&tally.counts, 2, 40, [0; 9], 2)
+        } else {
+            show(&tally.counts, 1, 0, [0, 1, 0, 0, 0, 0, 0, 0, 0], 0)
+        };
+        if !own {
+            return false;
+        }
+        place = place.wrapping_add(1);
+    }
+    true
+}
+
+/// Whether these are the counts of so many batches: of batch 0 with two tagged frames, and others with a cut one.
+fn counted(batches: usize, counts: &Counts) -> bool {
+    if batches == 0 {
+        return show(counts, 0, 0, [0; 9], 0);
+    }
+    let cut = (batches - 1) as u64;
+    show(
+        counts,
+        cut.saturating_add(2),
+        40,
+        [0, cut, 0, 0, 0, 0, 0, 0, 0],
+        2,
+    )
+}
+
+/// So many times the same frame.
+fn repeated<'f>(rt: &impl Abort, alloc: Global, frame: &'f [u8], times: usize) -> Vec<&'f [u8]> {
+    let mut frames = Vec::new(alloc);
+    for _ in 0..times {
+        frames.push(frame).ok().expect(rt, "memory");
+    }
+    frames
+}
+
+/// How many verdicts a list of frames gets, and how many of them are of tagged frames.
+fn forwarded<R: Threads + Sync>(
+    rt: &R,
+    alloc: Global,
+    held: &Held<'_>,
+    frames: &[&[u8]],
+) -> Result<(usize, usize), BatchFault> {
+    let verdicts = forward_all(rt, alloc, held, 257, frames)?;
+    Ok((verdicts.len(), tagged(&verdicts)))
+}
+
+/// Stops a test in which so many verdicts, and so many of tagged frames, aren't what a list of frames gets.
+fn must_forward<R: Threads + Abort + Sync>(
+    rt: &R,
+    alloc: Global,
+    held: &Held<'_>,
+    frames: &[&[u8]],
+    want: Result<(usize, usize), BatchFault>,
+) {
+    same!(rt; forwarded(rt, alloc, held, frames), want);
+}
+
+/// Whether a runt is dropped between two frames that are tagged.
+fn has_runt_between(verdicts: &[Verdict<'_>]) -> bool {
+    match verdicts {
+        [first, Verdict::Drop(Reason::Runt), last] => is_tagged(first) && is_tagged(last),
+        _ => false,
+    }
+}
+
+/// A list with a runt between two frames, and an empty one.
+fn forward_short<R: Wait + Threads + Abort + Sync>(rt: &R, alloc: Global, held: &Held<'_>) {
+    let short = [UNTAGGED.as_slice(), SHORT.as_slice(), UNTAGGED.as_slice()];
+    let verdicts = forward_all(rt, alloc, held, 257, &short).expect(rt, "verdicts");
+    holds!(rt; has_runt_between(&verdicts), "a runt between two frames");
+    must_forward(rt, alloc, held, &[], Ok((0, 0)));
+}
+
+/// A list of as many frames as a batch may have.
+fn forward_most<R: Wait + Threads + Abort + Sync>(rt: &R, alloc: Global, held: &Held<'_>) {
+    let most = repeated(rt, alloc, &UNTAGGED, 65_536);
+    must_forward(rt, alloc, held, &most, Ok((65_536, 65_536)));
+    holds!(rt; counts_of_most(rt, alloc, held, &most), "counts");
+}
+
+/// A list of one frame more.
+fn forward_more<R: Wait + Threads + Abort + Sync>(rt: &R, alloc: Global, held: &Held<'_>) {
+    let more = repeated(rt, alloc, &UNTAGGED, 65_537);
+    must_forward(rt, alloc, held, &more, Err(BatchFault::TooMany(65_537)));
+}
+
+/// Lists of frames, short ones, and the longest that there may be.
+fn forward_lists<R: Wait + Threads + Abort + Sync>(rt: &R, alloc: Global, held: &Held<'_>) {
+    forward_short(rt, alloc, held);
+    forward_most(rt, alloc, held);
+    forward_more(rt, alloc, held);
+}
+
+/// Whether the counts of 65,536 frames are as they have to be.
+fn counts_of_most<R: Threads + Abort + Sync>(
+    rt: &R,
+    alloc: Global,
+    held: &Held<'_>,
+    frames: &[&[u8]],
+) -> bool {
+    let verdicts = forward_all(rt, alloc, held, 257, frames).expect(rt, "verdicts");
+    let counts = count_of(alloc, &verdicts).expect(rt, "counts");
+    show(&counts, 65_536, 1_310_720, [0; 9], 65_536)
+}
+
+/// A case by its name.
+type Case = (&'static str, &'static [u32], u32, Outcome);
+
+/// The numbers of batches that are gathered, how many there should be, and what comes of it: how many, and whether in order.
+const CASES: [Case; 16] = [
+    ("both", &[1, 0], 2, Ok((2, true))),
+    ("one twice", &[0, 0], 2, Err(GatherFault::Double(0))),
+    ("one too high", &[0, 2], 2, Err(GatherFault::Stranger(2))),
+    ("the first missing", &[1], 2, Err(GatherFault::Missing(0))),
+    ("none of none", &[], 0, Ok((0, true))),
+    (
+        "too high, then twice",
+        &[2, 0, 0],
+        2,
+        Err(GatherFault::Stranger(2)),
+    ),
+    (
+        "twice, then too high",
+        &[0, 0, 2],
+        2,
+        Err(GatherFault::Double(0)),
+    ),
+    (
+        "too high and missing",
+        &[0, 3],
+        3,
+        Err(GatherFault::Stranger(3)),
+    ),
+    ("two missing", &[2], 3, Err(GatherFault::Missing(0))),
+    ("one of none", &[0], 0, Err(GatherFault::Stranger(0))),
+    ("0, 1, 2", &[0, 1, 2], 3, Ok((3, true))),
+    ("0, 2, 1", &[0, 2, 1], 3, Ok((3, true))),
+    ("1, 0, 2", &[1, 0, 2], 3, Ok((3, true))),
+    ("1, 2, 0", &[1, 2, 0], 3, Ok((3, true))),
+    ("2, 0, 1", &[2, 0, 1], 3, Ok((3, true))),
+    ("2, 1, 0", &[2, 1, 0], 3, Ok((3, true))),
+];
+
+/// Reports of a case, and their tallies, are gathered as they have to be.
+fn gather_case(rt: &impl Abort, alloc: Global, held: &Held<'_>, case: &Case) {
+    let (what, batches, count, expected) = *case;
+    let reports = reports_of(rt, alloc, held, batches);
+    same!(rt; gathered(alloc, reports, count), expected, "{what}");
+    let tallies = tallies_of(rt, alloc, held, batches);
+    same!(rt; tallied(alloc, tallies, count), expected, "{what}, tallies");
+}
+
+/// Reports, and their tallies, in every order, twice, of no batch and missing.
+fn gather_reports(rt: &impl Abort, alloc: Global, held: &Held<'_>) {
+    for case in &CASES {
+        gather_case(rt, alloc, held, case);
+    }
+}
+
+/// The counts of what is gathered of reports of batches 1, 0 and 2.
+fn counts_of_reports(rt: &impl Abort, alloc: Global, held: &Held<'_>) -> Counts {
+    let reports = reports_of(rt, alloc, held, &[1, 0, 2]);
+    gather(alloc, reports, 3).expect(rt, "all reports").counts
+}
+
+/// The counts of what is gathered of their tallies.
+fn counts_of_tallies(rt: &impl Abort, alloc: Global, held: &Held<'_>) -> Counts {
+    let tallies = tallies_of(rt, alloc, held, &[1, 0, 2]);
+    gather_tallies(alloc, tallies, 3)
+        .expect(rt, "all tallies")
+        .counts
+}
+
+/// The tallies of reports of batches 1, 0 and 2 have the counts that the reports have, all together.
+fn count_tallies(rt: &impl Abort, alloc: Global, held: &Held<'_>) {
+    let whole = counts_of_reports(rt, alloc, held);
+    let short = counts_of_tallies(rt, alloc, held);
+    holds!(rt; are_same(&whole, &short), "counts of tallies");
+}
+
+/// Whether counts are the same, and of GEM port 1024 alone.
+fn are_same(a: &Counts, b: &Counts) -> bool {
+    a.frames == b.frames
+        && a.bytes == b.bytes
+        && a.drops == b.drops
+        && a.ports.len() == 1
+        && b.ports.len() == 1
+        && a.ports.get(&1024) == b.ports.get(&1024)
+}
+
+/// The lane that a batch was run by, or why it wasn't.
+fn meet(
+    alloc: Global,
+    mut lane: Lane,
+    gate: &Meeting,
+    turns: u32,
+) -> Option<Result<u16, BatchFault>> {
+    let held = lane.enter()?;
+    let frames = [UNTAGGED.as_slice()];
+    match run_batch(alloc, &held, 7, 257, &frames, turns, gate) {
+        Ok(report) => {
+            let whole = report.batch == 7 && report.version == 5 && tagged(&report.verdicts) == 1;
+            if whole && show(&report.counts, 1, 20, [0; 9], 1) {
+                Some(Ok(report.lane))
+            } else {
+                None
+            }
+        }
+        Err(fault) => Some(Err(fault)),
+    }
+}
+
+/// What is done with two lanes.
+#[derive(Clone, Copy)]
+enum Scene {
+    ForwardLists,
+    GatherReports,
+    CountTallies,
+    MeetOnThreads,
+    MeetInTurn,
+}
+
+/// Plays a scene by what a lane that may enter version 5 holds.
+fn with_held<R: Wait + Threads + Abort + Sync>(
+    rt: &R,
+    alloc: Global,
+    lane: &mut Lane,
+    scene: Scene,
+) {
+    let held = lane.enter().expect(rt, "the lane may enter");
+    match scene {
+        Scene::ForwardLists => forward_lists(rt, alloc, &held),
+        Scene::GatherReports => gather_reports(rt, alloc, &held),
+        _ => count_tallies(rt, alloc, &held),
+    }
+}
+
+/// Two lanes that may enter version 5 meet on two threads.
+fn meet_on_threads<R: Wait + Threads + Abort + Sync>(
+    rt: &R,
+    alloc: Global,
+    zero: Lane,
+    one: Lane,
+    gate: &Meeting,
+) {
+    let (first, second) = join(
+        rt,
+        move || meet(alloc, zero, gate, 10_000_000),
+        move || meet(alloc, one, gate, 10_000_000),
+    );
+    same!(rt; (first, second), (Some(Ok(0)), Some(Ok(1))));
+}
+
+/// Two lanes that may enter version 5 forward one after the other: the first waits for the second in vain.
+fn meet_in_turn(rt: &impl Abort, alloc: Global, zero: Lane, one: Lane, gate: &Meeting) {
+    let first = meet(alloc, zero, gate, 1_000);
+    let second = meet(alloc, one, gate, 1_000);
+    same!(rt; first, Some(Err(BatchFault::Stalled)));
+    same!(rt; second, Some(Ok(1)));
+}
+
+/// Plays a scene with two lanes that may enter version 5.
+fn with_lanes<R: Wait + Threads + Abort + Sync>(
+    rt: &R,
+    alloc: Global,
+    mut zero: Lane,
+    one: Lane,
+    scene: Scene,
+) {
+    let flags = [AtomicU64::new(0), AtomicU64::new(0)];
+    let gate = Meeting { flags };
+    match scene {
+        Scene::MeetOnThreads => meet_on_threads(rt, alloc, zero, one, &gate),
+        Scene::MeetInTurn => meet_in_turn(rt, alloc, zero, one, &gate),
+        _ => with_held(rt, alloc, &mut zero, scene),
+    }
+}
+
+/// Makes port 257, and publishes that as version 5.
+fn publish_5<R: Wait + Threads + Abort + Sync>(rt: &R, control: &mut Control) {
+    for digits in &PORT_257 {
+        let answer = control.message(&message(digits));
+        holds!(rt; matches!(answer, Ok(Some(_))), "{digits}");
+    }
+    same!(rt; control.publish(rt).version(), 5);
+}
+
+/// Opens a control with two lanes, publishes version 5, and plays a scene.
+fn play<R: Wait + Threads + Abort + Sync>(rt: &R, alloc: Global, scene: Scene) {
+    let (mut control, mut lanes) = open(rt, alloc, 2).expect(rt, "a control");
+    publish_5(rt, &mut control);
+    let one = lanes.pop().expect(rt, "lane 1");
+    let zero = lanes.pop().expect(rt, "lane 0");
+    with_lanes(rt, alloc, zero, one, scene);
+    control.close(rt);
+}
+
+#[test]
+fn lists_are_forwarded_in_order(rt: HostRuntime) {
+    play(&rt, rt.alloc(), Scene::ForwardLists);
+}
+
+#[test]
+fn reports_are_gathered_in_every_order(rt: HostRuntime) {
+    play(&rt, rt.alloc(), Scene::GatherReports);
+}
+
+#[test]
+fn tallies_have_the_counts_of_their_reports(rt: HostRuntime) {
+    play(&rt, rt.alloc(), Scene::CountTallies);
+}
+
+#[test]
+fn lanes_on_two_threads_meet(rt: HostRuntime) {
+    play(&rt, rt.alloc(), Scene::MeetOnThreads);
+}
+
+#[test]
+fn a_batch_that_the_gate_stops_is_stalled(rt: HostRuntime) {
+    play(&rt, rt.alloc(), Scene::MeetInTurn);
+}
+
+#[test]
+fn faults_have_their_numbers(rt: HostRuntime) {
+    law_of_arrival();
+    let of_batches = [
+        BatchFault::TooMany(65_537).code(),
+        BatchFault::NoMemory.code(),
+        BatchFault::Stalled.code(),
+        BatchFault::CountFull.code(),
+    ];
+    same!(rt; of_batches, [1, 2, 3, 4]);
+    let of_gathering = [
+        GatherFault::Double(0).code(),
+        GatherFault::Stranger(0).code(),
+        GatherFault::Missing(0).code(),
+        GatherFault::NoMemory.code(),
+        GatherFault::CountFull.code(),
+    ];
+    same!(rt; of_gathering, [1, 2, 3, 4, 5]);
+}

@@ -1,0 +1,262 @@
+use crate::agree_tests::parts;
+use crate::live_scenes::{Scene, play};
+use forward_plan::{Live, NoMemory, PortPlan, Reason, Verdict};
+use omci_msg::{Action, Request};
+use std::alloc::Global;
+use std::process::Abort;
+use test_draws::{
+    DOUBLE, UNTAGGED, create_gem_port, create_interwork, create_mapper, create_table, delete,
+    request, set,
+};
+use test_fixtures::same;
+
+/// The frame without a tag, when it leaves with one of VLAN 100 and priority 0.
+const TAGGED: [u8; 20] = [
+    2, 0, 0, 0, 0, 1, 2, 0, 0, 0, 0, 2, 0x81, 0x00, 0x00, 0x64, 0x08, 0x00, 0x45, 0x00,
+];
+
+/// Leaves the entities that lead port 257 to port-ID 1024, with a table that keeps tags, and no other.
+fn lead(live: &mut Live) {
+    for sent in [
+        request(Action::MibReset, 2, 0, &[]),
+        create_gem_port(3),
+        create_interwork(0x0501),
+        create_mapper(0x0601, 257, [0x0501; 8], 0),
+        create_table(0x0701, 2, 257),
+    ] {
+        live.apply(&sent);
+    }
+}
+
+/// A Set of an entry by which frames without a tag get one of VLAN 100.
+fn tagging() -> Request {
+    let entry = [
+        0xf8, 0, 0, 0, 0xf8, 0, 0, 0, 0x00, 0x0f, 0x00, 0x00, 0x00, 0x00, 0x03, 0x24,
+    ];
+    set(171, 0x0701, 0x0400, &entry)
+}
+
+/// The bytes that leave by a verdict.
+fn left(alloc: Global, verdict: &Verdict) -> Result<Vec<u8>, NoMemory> {
+    let mut bytes = Vec::new(alloc);
+    if let Verdict::Forward { frame, .. } = verdict {
+        frame.append_to(&mut bytes)?;
+    }
+    Ok(bytes)
+}
+
+/// Checks that by each of some verdicts certain bytes leave through port-ID 1024.
+fn check_verdicts(
+    rt: &impl Abort,
+    alloc: Global,
+    verdicts: &[Verdict],
+    bytes: &[u8],
+) -> Result<(), NoMemory> {
+    for verdict in verdicts {
+        same!(rt; parts(verdict).map(|parts| parts.0), Ok(1024));
+        same!(rt; left(alloc, verdict)?.as_slice(), bytes);
+    }
+    Ok(())
+}
+
+/// Checks that a frame leaves port 257 through port-ID 1024 with certain bytes, by each call for it.
+fn check_left(
+    rt: &impl Abort,
+    alloc: Global,
+    live: &Live,
+    frame: &[u8],
+    bytes: &[u8],
+) -> Result<(), NoMemory> {
+    let plan = live.port(257);
+    let forwarded = [plan.forward(frame), live.forward(257, frame)];
+    check_verdicts(rt, alloc, &forwarded, bytes)?;
+    let mut verdicts = Vec::with_capacity(alloc, 1)?;
+    plan.push(frame, &mut verdicts);
+    same!(rt; verdicts.len(), 1);
+    check_verdicts(rt, alloc, &verdicts, bytes)?;
+    check_list(rt, alloc, &plan, frame, bytes)
+}
+
+/// Checks that each frame of a list leaves with certain bytes.
+fn check_list(
+    rt: &impl Abort,
+    alloc: Global,
+    plan: &PortPlan<'_>,
+    frame: &[u8],
+    bytes: &[u8],
+) -> Result<(), NoMemory> {
+    let mut verdicts = Vec::with_capacity(alloc, 3)?;
+    plan.push_all(&[frame, frame, frame], &mut verdicts);
+    same!(rt; verdicts.len(), 3);
+    check_verdicts(rt, alloc, &verdicts, bytes)
+}
+
+/// A frame leaves with the tag of its table.
+fn check_tagging(rt: &impl Abort, alloc: Global, live: &mut Live) -> Result<(), NoMemory> {
+    lead(live);
+    same!(rt; live.mib().mapper_of_port(257), Some(0x0601));
+    same!(rt; live.mib().table_of_port(257), Some(0x0701));
+    check_left(rt, alloc, live, &UNTAGGED, &UNTAGGED)?;
+    live.apply(&tagging());
+    check_left(rt, alloc, live, &UNTAGGED, &TAGGED)?;
+    check_left(rt, alloc, live, &DOUBLE, &DOUBLE)
+}
+
+/// Frames are dropped for their reasons.
+fn check_drops(rt: &impl Abort, live: &Live) {
+    for (port, frame, reason) in [
+        (258, &UNTAGGED[..], Reason::NoMapper),
+        (257, &UNTAGGED[..13], Reason::Runt),
+        (257, &DOUBLE[..21], Reason::CutTag),
+    ] {
+        let verdict = live.forward(port, frame);
+        same!(rt; parts(&verdict), Err(reason), "{} bytes", frame.len());
+    }
+}
+
+/// With which word of a tag the frame without one leaves port 257, if it leaves with one.
+fn word_left(live: &Live) -> Left {
+    let verdict = live.forward(257, &UNTAGGED);
+    let (_, _, tags, _) = parts(&verdict)?;
+    Ok(tags.first().map(|tag| tag.word()))
+}
+
+/// What becomes of the frame without a tag at port 257: the word of the tag that it leaves with, if it leaves with one.
+type Left = Result<Option<u32>, Reason>;
+
+/// It leaves with the tag that `tagging` gives.
+const TAG: Left = Ok(Some(0x8100_0064));
+
+/// It leaves as it came.
+const PLAIN: Left = Ok(None);
+
+/// A request, how many tables and how many mappers it compiles, and what becomes of the frame then.
+type Step = (Request, (u16, u16), Left);
+
+/// Follows requests one by one. Compiling everything anew after each changes nothing of what leaves then.
+fn follow(rt: &impl Abort, live: &mut Live, steps: &[Step]) {
+    lead(live);
+    for (sent, rebuilt, left) in steps {
+        live.apply(sent);
+        same!(rt; live.rebuilt(), *rebuilt, "{sent:?}");
+        same!(rt; word_left(live), *left, "{sent:?}");
+        live.recompile();
+        same!(rt; word_left(live), *left, "{sent:?}, compiled anew");
+    }
+}
+
+/// A table is compiled where it was set or comes, and moves where another comes before it. One that is set to point to another
+/// port leaves the first.
+fn table_steps() -> [Step; 12] {
+    [
+        (tagging(), (1, 0), TAG),
+        (create_table(0x0700, 2, 257), (1, 0), PLAIN),
+        (delete(171, 0x0700), (0, 0), TAG),
+        (
+            create_mapper(0x0600, 257, [0xffff; 8], 0),
+            (0, 1),
+            Err(Reason::NullPointer),
+        ),
+        (delete(130, 0x0600), (0, 0), TAG),
+        (request(Action::Get, 171, 0x0701, &[0xff, 0]), (0, 0), TAG),
+        (create_table(0x0701, 2, 258), (0, 0), TAG),
+        (delete(171, 0x0701), (0, 0), PLAIN),
+        (create_table(0x0701, 2, 257), (1, 0), PLAIN),
+        (tagging(), (1, 0), TAG),
+        (set(171, 0x0701, 0x0200, &[1, 2]), (1, 0), PLAIN),
+        (set(171, 0x0701, 0x0200, &[1, 1]), (1, 0), TAG),
+    ]
+}
+
+/// The routes of a mapper are compiled where they lead by the instance.
+fn route_steps() -> [Step; 11] {
+    [
+        (
+            set(266, 0x0501, 0x8000, &[4, 0x99]),
+            (0, 1),
+            Err(Reason::NoGem),
+        ),
+        (set(266, 0x0501, 0x8000, &[4, 1]), (0, 1), PLAIN),
+        (
+            set(268, 0x0401, 0x2000, &[2]),
+            (0, 1),
+            Err(Reason::Direction),
+        ),
+        (set(268, 0x0401, 0x2000, &[3]), (0, 1), PLAIN),
+        (
+            request(Action::Create, 268, 0x0402, &[4, 1, 0x80, 1, 3]),
+            (0, 0),
+            PLAIN,
+        ),
+        (create_interwork(0x0502), (0, 0), PLAIN),
+        (create_mapper(0x0602, 258, [0x0502; 8], 0), (0, 1), PLAIN),
+        (delete(266, 0x0501), (0, 1), Err(Reason::NoInterwork)),
+        (create_interwork(0x0501), (0, 1), PLAIN),
+        (delete(268, 0x0401), (0, 2), Err(Reason::NoGem)),
+        (
+            request(Action::MibReset, 2, 0, &[]),
+            (0, 0),
+            Err(Reason::NoMapper),
+        ),
+    ]
+}
+
+/// A table that points to a mapper is that of the mapper's port.
+fn steps_of_a_table_of_a_mapper() -> [Step; 8] {
+    [
+        (tagging(), (1, 0), TAG),
+        (set(171, 0x0701, 0x8200, &[1, 6, 1]), (1, 0), TAG),
+        (create_mapper(0x0600, 257, [0x0501; 8], 0), (0, 1), PLAIN),
+        (set(171, 0x0701, 0x0200, &[6, 0]), (1, 0), TAG),
+        (set(130, 0x0600, 0x8000, &[1, 2]), (0, 1), PLAIN),
+        (set(130, 0x0600, 0x8000, &[1, 1]), (0, 1), TAG),
+        (delete(130, 0x0600), (0, 0), PLAIN),
+        (delete(130, 0x0601), (0, 0), Err(Reason::NoMapper)),
+    ]
+}
+
+/// A mapper is compiled where what it points to changes, and not for another instance, or one of another class and the same number.
+fn steps_of_what_is_read() -> [Step; 7] {
+    let pointers = [
+        0x0501, 0x0502, 0x0503, 0x0504, 0x0505, 0x0506, 0x0507, 0xffff,
+    ];
+    [
+        (create_mapper(0x0602, 258, pointers, 0), (0, 1), PLAIN),
+        (create_interwork(0x0507), (0, 1), PLAIN),
+        (create_interwork(0x0508), (0, 0), PLAIN),
+        (
+            request(Action::Create, 268, 0x0501, &[4, 2, 0x80, 1, 3]),
+            (0, 0),
+            PLAIN,
+        ),
+        (create_mapper(0x0501, 259, [0xffff; 8], 0), (0, 1), PLAIN),
+        (create_table(0x0501, 2, 259), (1, 0), PLAIN),
+        (
+            set(266, 0x0501, 0x8000, &[4, 0x99]),
+            (0, 2),
+            Err(Reason::NoGem),
+        ),
+    ]
+}
+
+/// Frames leave by the plan as the entities say, after each change of these.
+pub(crate) fn look_at_changes(
+    rt: &impl Abort,
+    alloc: Global,
+    live: &mut Live,
+) -> Result<(), NoMemory> {
+    check_tagging(rt, alloc, live)?;
+    check_drops(rt, live);
+    live.recompile();
+    same!(rt; live.rebuilt(), (1, 1));
+    follow(rt, live, &table_steps());
+    follow(rt, live, &route_steps());
+    follow(rt, live, &steps_of_a_table_of_a_mapper());
+    follow(rt, live, &steps_of_what_is_read());
+    Ok(())
+}
+
+#[test]
+fn a_plan_follows_its_entities_where_they_change(rt: HostRuntime) {
+    play(&rt, rt.alloc(), Scene::Changes);
+}

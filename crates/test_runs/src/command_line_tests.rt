@@ -1,0 +1,194 @@
+//! Words and what they ask for. What the program says of each word that is refused, and each help, `examples/hostile` compares.
+
+use clap::Error;
+use command_line::{ExplainWords, MibWords, RulesWords, RunWords, Words, read_words, report_words};
+use run_settings::RunSettings;
+use std::alloc::AllocError;
+use std::test::Fail;
+use test_fixtures::{holds, same};
+
+const HELP: &str = "\
+Answer OMCI messages and forward Ethernet frames, as an optical network unit does
+
+Usage: onuctl <COMMAND>
+
+Commands:
+  replay   Answer the script on standard input, line by line, on standard output
+  run      Forward the frames of a capture on several lanes while a trace is applied
+  decode   Say what each line of the script or of the answers on standard input means
+  mib      Show the managed entities after a trace
+  rules    Show the VLAN tagging table in force at a port after a trace
+  explain  Say step by step what becomes of one frame after a trace
+  help     Print this message or the help of the given subcommand(s)
+
+Options:
+  -h, --help     Print help
+  -V, --version  Print version
+";
+
+/// A run's words as far as its batch, with three values that a case gives.
+fn run_words<'w>(port: &'w str, lanes: &'w str, batch: &'w str) -> [&'w str; 12] {
+    [
+        "onuctl", "run", "--trace", "t", "--frames", "f", "--port", port, "--lanes", lanes,
+        "--batch", batch,
+    ]
+}
+
+fn run(port: u16, lanes: u16, batch: u32, after: bool) -> Words<'static> {
+    Words::Run(RunWords {
+        trace: "t",
+        frames: "f",
+        settings: RunSettings {
+            port,
+            lanes,
+            batch,
+            after,
+        },
+    })
+}
+
+#[test]
+fn words_ask_for_a_replay_or_a_run(rt: HostRuntime) -> Result<(), Fail> {
+    for (what, words, asked) in [
+        ("a replay", &["onuctl", "replay"][..], Words::Replay),
+        (
+            "a run",
+            &run_words("257", "2", "4")[..],
+            run(257, 2, 4, false),
+        ),
+        (
+            "the least values",
+            &run_words("0", "1", "1")[..],
+            run(0, 1, 1, false),
+        ),
+        (
+            "the greatest values",
+            &run_words("65535", "16", "65536")[..],
+            run(65_535, 16, 65_536, false),
+        ),
+        (
+            "the trace first, in any order and with equals signs",
+            &[
+                "onuctl",
+                "run",
+                "--after",
+                "--batch=4",
+                "--lanes=2",
+                "--port=257",
+                "--frames=f",
+                "--trace=t",
+            ][..],
+            run(257, 2, 4, true),
+        ),
+    ] {
+        same!(rt; read_words(rt.alloc(), words)?, asked, "{what}");
+    }
+    Ok(())
+}
+
+#[test]
+fn words_ask_to_look_inside(rt: HostRuntime) -> Result<(), Fail> {
+    for (words, asked) in [
+        (&["onuctl", "decode"][..], Words::Decode),
+        (
+            &["onuctl", "mib", "--trace", "t"][..],
+            Words::Mib(MibWords {
+                trace: "t",
+                json: false,
+            }),
+        ),
+        (
+            &["onuctl", "mib", "--json", "--trace", "t"][..],
+            Words::Mib(MibWords {
+                trace: "t",
+                json: true,
+            }),
+        ),
+        (
+            &["onuctl", "rules", "--trace", "t", "--port", "65535"][..],
+            Words::Rules(RulesWords {
+                trace: "t",
+                port: 65_535,
+                json: false,
+            }),
+        ),
+        (
+            &["onuctl", "explain", "0800", "--trace=t", "--port=257"][..],
+            Words::Explain(ExplainWords {
+                trace: "t",
+                port: 257,
+                frame: "0800",
+                json: false,
+            }),
+        ),
+        (
+            &["onuctl", "explain", "--json", "--trace=t", "--port=0", "f"][..],
+            Words::Explain(ExplainWords {
+                trace: "t",
+                port: 0,
+                frame: "f",
+                json: true,
+            }),
+        ),
+    ] {
+        same!(rt; read_words(rt.alloc(), words)?, asked, "{words:?}");
+    }
+    Ok(())
+}
+
+/// What is written to the output and to the errors, and the status, where words ask for nothing that can be done.
+fn reported(rt: &HostRuntime, words: &[&str]) -> Result<(Vec<u8>, Vec<u8>, u8), Fail> {
+    let (mut out, mut err) = (Vec::new(rt.alloc()), Vec::new(rt.alloc()));
+    match read_words(rt.alloc(), words) {
+        Ok(_) => Err(Fail::from("they are read")),
+        Err(error) => {
+            let status = report_words(&error, &mut out, &mut err);
+            Ok((out, err, status))
+        }
+    }
+}
+
+#[test]
+fn help_goes_to_the_output(rt: HostRuntime) -> Result<(), Fail> {
+    let (out, err, status) = reported(&rt, &["onuctl", "--help"])?;
+    same!(rt; out.as_slice(), HELP.as_bytes());
+    holds!(rt; err.is_empty());
+    same!(rt; status, 0);
+    Ok(())
+}
+
+#[test]
+fn words_without_a_command_get_the_help_as_an_error(rt: HostRuntime) -> Result<(), Fail> {
+    for words in [&["onuctl"][..], &[][..]] {
+        let (out, err, status) = reported(&rt, words)?;
+        holds!(rt; out.is_empty(), "{words:?}");
+        same!(rt; err.as_slice(), HELP.as_bytes(), "{words:?}");
+        same!(rt; status, 1, "{words:?}");
+    }
+    Ok(())
+}
+
+/// What is said of 17 lanes.
+const TOO_MANY: &str = "\
+error: invalid value '17' for '--lanes <COUNT>': 17 is not in 1..=16
+
+For more information, try '--help'.
+";
+
+#[test]
+fn a_value_out_of_its_range_is_refused(rt: HostRuntime) -> Result<(), Fail> {
+    let (out, err, status) = reported(&rt, &run_words("257", "17", "4"))?;
+    holds!(rt; out.is_empty());
+    same!(rt; err.as_slice(), TOO_MANY.as_bytes());
+    same!(rt; status, 1);
+    Ok(())
+}
+
+#[test]
+fn a_want_of_memory_is_told_apart(rt: HostRuntime) {
+    let (mut out, mut err) = (Vec::new(rt.alloc()), Vec::new(rt.alloc()));
+    let status = report_words(&Error::from(AllocError), &mut out, &mut err);
+    holds!(rt; out.is_empty());
+    same!(rt; err.as_slice(), "no memory\n".as_bytes());
+    same!(rt; status, 1);
+}

@@ -1,0 +1,44 @@
+//! The parts of an explanation in words.
+use explain::{Mismatch, TagField, TagOrigin};
+use std::fmt;
+use text_entities::AddedTagWords;
+
+/// The field of an entry by which it doesn't admit a frame, in words.
+#[derive(Clone, Copy, Debug)]
+pub struct MismatchWords(pub Mismatch);
+
+impl fmt::Display for MismatchWords {
+    fn fmt<W: fmt::Write>(&self, f: &mut fmt::Formatter<W>) -> fmt::Result {
+        match self.0 {
+            Mismatch::TagCount => write!(f, "the number of tags"),
+            Mismatch::Outer(field) => write!(f, "the outer {}", field_words(field)),
+            Mismatch::Inner(field) => write!(f, "the inner {}", field_words(field)),
+            Mismatch::Ethertype => write!(f, "the Ethertype"),
+        }
+    }
+}
+
+fn field_words(field: TagField) -> &'static str {
+    match field {
+        TagField::Priority => "priority",
+        TagField::Vid => "VID",
+        TagField::Tpid => "TPID or DEI",
+    }
+}
+
+/// Where a tag that a frame leaves with comes from, in words: `added (priority from inner, VID 200, TPID 0x8100, DEI 0)`, or
+/// `received tag 0`, the outermost.
+#[derive(Clone, Copy, Debug)]
+pub struct OriginWords<'a>(pub &'a TagOrigin);
+
+impl fmt::Display for OriginWords<'_> {
+    fn fmt<W: fmt::Write>(&self, f: &mut fmt::Formatter<W>) -> fmt::Result {
+        match self.0 {
+            TagOrigin::Added(tag) => {
+                let tag = AddedTagWords(tag);
+                write!(f, "added ({tag})")
+            }
+            TagOrigin::Received(place) => write!(f, "received tag {place}"),
+        }
+    }
+}

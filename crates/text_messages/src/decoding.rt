@@ -1,0 +1,147 @@
+//! A script or a dialogue as text.
+use crate::frame::put_frame;
+use crate::line::{ScriptLine, read_script_line};
+use crate::names::message_fault_words;
+use crate::reply::put_reply;
+use crate::request::put_request;
+use frame_meaning::Reason;
+use omci_msg::{MsgFault, read, read_reply};
+use script_lines::{MOST_SPELLED, first_line};
+use std::alloc::{AllocError, Global};
+use std::io::{ErrorKind, Read, Write};
+use text_entities::HexWords;
+use text_writing::{DecodeFault, write_whole};
+
+/// Reads a script or a dialogue, and writes a text for each line: one line, and below it indented ones. A line that begins with
+/// `#` and an empty one are written as they are. A line `o HEX` is a message; with a fault it is shown by that. A line `f PORT
+/// HEX` is a frame, shown as it is read. The lines of answers, as a replay writes them, are `r HEX`, `g GEM HEX`, `d N`, `m N`
+/// and `-`. Any other line is bad: it ends the decoding.
+///
+/// All of the input is read before the first write, and the text of a line is made in memory before it is written.
+pub fn decode<R: Read, W: Write>(
+    alloc: Global,
+    reader: &mut R,
+    writer: &mut W,
+) -> Result<(), DecodeFault> {
+    let mut script = Vec::new(alloc);
+    match reader.read_to_end(&mut script) {
+        Ok(_) => decode_lines(alloc, &script, writer),
+        Err(error) if error.kind() == ErrorKind::OutOfMemory => Err(DecodeFault::NoMemory),
+        Err(_) => Err(DecodeFault::Read),
+    }
+}
+
+/// Writes a text for each line of a script.
+fn decode_lines<W: Write>(alloc: Global, script: &[u8], writer: &mut W) -> Result<(), DecodeFault> {
+    let mut buffer = [0; MOST_SPELLED];
+    let mut rest = script;
+    let mut number = 1u64;
+    while !rest.is_empty() {
+        let (line, behind) = first_line(rest);
+        let Some(read) = read_script_line(line, &mut buffer) else {
+            return Err(DecodeFault::BadLine(number));
+        };
+        write_line(alloc, line, &read, writer)?;
+        rest = behind;
+        number += 1;
+    }
+    Ok(())
+}
+
+/// Writes the text of a line.
+fn write_line<W: Write>(
+    alloc: Global,
+    line: &[u8],
+    read: &ScriptLine<'_>,
+    writer: &mut W,
+) -> Result<(), DecodeFault> {
+    if matches!(read, ScriptLine::Nothing) {
+        write_whole(writer, line)?;
+        write_whole(writer, b"\n")?;
+        return Ok(());
+    }
+    let mut text = String::new(alloc);
+    put_line(&mut text, read)?;
+    write_whole(writer, text.as_bytes())?;
+    Ok(())
+}
+
+/// Puts the text of a line.
+fn put_line(text: &mut String, line: &ScriptLine<'_>) -> Result<(), AllocError> {
+    match line {
+        ScriptLine::Message(bytes) => put_message(text, bytes),
+        ScriptLine::Reply(bytes) => put_answer(text, bytes),
+        ScriptLine::Frame(port, bytes) => {
+            write!(text, "frame at port {port}")?;
+            put_frame(text, bytes)
+        }
+        ScriptLine::Leaving(gem, bytes) => {
+            write!(text, "leaves by GEM port {gem}")?;
+            put_frame(text, bytes)
+        }
+        ScriptLine::Dropped(number) => put_drop(text, *number),
+        ScriptLine::Fault(number) => put_fault_number(text, *number),
+        ScriptLine::NoAnswer => text.push_str("no answer wanted\n"),
+        ScriptLine::Nothing => text.push_str("\n"),
+    }
+}
+
+/// Puts a message, or its fault.
+fn put_message(text: &mut String, bytes: &[u8]) -> Result<(), AllocError> {
+    match read(bytes) {
+        Ok(request) => put_request(text, &request),
+        Err(fault) => put_fault(text, "message", bytes, fault),
+    }
+}
+
+/// Puts a reply, or why it is none.
+fn put_answer(text: &mut String, bytes: &[u8]) -> Result<(), AllocError> {
+    match read_reply(bytes) {
+        Ok(reply) => put_reply(text, &reply),
+        Err(fault) => put_fault(text, "reply", bytes, fault),
+    }
+}
+
+/// Puts the fault of bytes, and the bytes.
+fn put_fault(
+    text: &mut String,
+    what: &str,
+    bytes: &[u8],
+    fault: MsgFault,
+) -> Result<(), AllocError> {
+    let number = fault.code();
+    let bytes = HexWords(bytes);
+    writeln!(
+        text,
+        "{what} with fault {number}: {fault}\n  bytes: {bytes}"
+    )
+}
+
+/// The reasons for which frames are dropped.
+const REASONS: [Reason; 9] = [
+    Reason::Runt,
+    Reason::CutTag,
+    Reason::NoRule,
+    Reason::RuleDiscard,
+    Reason::NoMapper,
+    Reason::NullPointer,
+    Reason::NoInterwork,
+    Reason::NoGem,
+    Reason::Direction,
+];
+
+/// Puts why a frame is dropped.
+fn put_drop(text: &mut String, number: u8) -> Result<(), AllocError> {
+    match REASONS.iter().find(|reason| reason.code() == number) {
+        Some(reason) => writeln!(text, "dropped, reason {number}: {reason}"),
+        None => writeln!(text, "dropped, reason {number}, which no reason has"),
+    }
+}
+
+/// Puts what fault a message had.
+fn put_fault_number(text: &mut String, number: u8) -> Result<(), AllocError> {
+    match message_fault_words(number) {
+        Some(words) => writeln!(text, "message with fault {number}: {words}"),
+        None => writeln!(text, "message with fault {number}, which no fault has"),
+    }
+}
