@@ -4,6 +4,7 @@ ghost use Rattle.std.specs.List.{AllZip};
 ghost use Rattle.mib_state.specs.After.{accepted};
 ghost use Rattle.plan_publish.specs.Lane.{home_of};
 ghost use Rattle.plan_publish.specs.Told.{told_home, told_list};
+ghost use Rattle.run_settings.specs.Settings.{CanRun};
 ghost use Rattle.run_lanes.specs.Control.{IsNewControl};
 ghost use Rattle.run_lanes.specs.Run.{IsRun, batches_in};
 ghost use Rattle.run_lanes.specs.Settling.{AreNew, HasLearnt};
