@@ -143,6 +143,7 @@ fn is_as(ran: &Ran, expected: &Expected) -> bool {
 }
 
 /// A run, and what it is expected to give.
+#[derive(Drop)]
 struct Case<'c> {
     trace: &'c str,
     frames: &'c [&'c [u8]],
