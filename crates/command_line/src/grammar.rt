@@ -14,7 +14,7 @@ use std::alloc::{AllocError, Global};
 /// What `--version` shows.
 const VERSION: &str = "0.1.0";
 
-// The help says these limits in words.
+/// The help says these limits in words.
 const _: () = prove!(LANE_LIMIT == 16 && BATCH_LIMIT == 65_536);
 
 /// The command with this argument too. Err where what came before had no memory, or this has none.
@@ -22,7 +22,8 @@ fn with_arg<'a>(
     command: Result<Command<'a>, AllocError>,
     arg: Arg<'a>,
 ) -> Result<Command<'a>, AllocError>
-    ensures { (app : App) (rule : Rule) → IsCommand command.entry app → rule_of arg.entry ≡ rule → arg.entry.global ≡ false → IsCommand result (with_rule app rule) }
+    ensures { (app : App) (rule : Rule) → IsCommand command.entry app → rule_of arg.entry ≡ rule
+        → arg.entry.global ≡ false → IsCommand result (with_rule app rule) }
 {
     command?.arg(arg)
 }
@@ -32,7 +33,9 @@ fn with_sub<'a>(
     command: Result<Command<'a>, AllocError>,
     sub: Result<Command<'a>, AllocError>,
 ) -> Result<Command<'a>, AllocError>
-    ensures { (app inner : App) → IfOk command.entry (λ command. app_of command ≡ app) → IsCommand sub.entry inner → IfOk result (λ command. app_of command ≡ with_subcommand app inner.top) }
+    ensures { (app inner : App) → IfOk command.entry (λ command. app_of command ≡ app)
+        → IsCommand sub.entry inner → IfOk result (λ command.
+        app_of command ≡ with_subcommand app inner.top) }
 {
     command?.subcommand(sub?)
 }
@@ -203,7 +206,8 @@ fn mib<'a>(alloc: Global) -> Result<Command<'a>, AllocError>
 
 /// The command that names a trace and a port, and whether objects are shown.
 fn at_port<'a>(alloc: Global, command: Command<'a>) -> Result<Command<'a>, AllocError>
-    ensures { (name : Text) → IsCommand (Ok command.entry) (new_app name) → IsCommand result (at_port name) }
+    ensures { (name : Text) → IsCommand (Ok command.entry) (new_app name)
+        → IsCommand result (at_port name) }
 {
     let over_trace = with_arg(Ok(command), trace(alloc));
     let at_port = with_arg(over_trace, port(alloc));

@@ -40,7 +40,8 @@ fn read_run<'a>(given: &ArgMatches<'a>) -> Option<RunWords<'a>>
 /// What the options behind `mib` ask for; None where one is missing.
 fn read_mib<'a>(given: &ArgMatches<'a>) -> Option<MibWords<'a>>
     ensures asked { IfSome result (IsMib (rows_of (found_of given.now))) }
-    ensures none { IfNone result ((words : MibWords) → IsMib (rows_of (found_of given.now)) words → ⊥) }
+    ensures none { IfNone result ((words : MibWords) → IsMib (rows_of (found_of given.now)) words
+        → ⊥) }
 {
     Some(MibWords {
         trace: given.get_str("trace")?,
@@ -52,7 +53,8 @@ fn read_mib<'a>(given: &ArgMatches<'a>) -> Option<MibWords<'a>>
 fn read_rules<'a>(given: &ArgMatches<'a>) -> Option<RulesWords<'a>>
     ensures asked { IfSome result (IsRules (rows_of (found_of given.now))) }
     ensures range { IfSome result (λ words. words.port ≤ 65535) }
-    ensures none { IfNone result ((words : RulesWords) → IsRules (rows_of (found_of given.now)) words → words.port ≤ 65535 → ⊥) }
+    ensures none { IfNone result ((words : RulesWords)
+        → IsRules (rows_of (found_of given.now)) words → words.port ≤ 65535 → ⊥) }
 {
     Some(RulesWords {
         trace: given.get_str("trace")?,
@@ -65,7 +67,8 @@ fn read_rules<'a>(given: &ArgMatches<'a>) -> Option<RulesWords<'a>>
 fn read_explain<'a>(given: &ArgMatches<'a>) -> Option<ExplainWords<'a>>
     ensures asked { IfSome result (IsExplain (rows_of (found_of given.now))) }
     ensures range { IfSome result (λ words. words.port ≤ 65535) }
-    ensures none { IfNone result ((words : ExplainWords) → IsExplain (rows_of (found_of given.now)) words → words.port ≤ 65535 → ⊥) }
+    ensures none { IfNone result ((words : ExplainWords)
+        → IsExplain (rows_of (found_of given.now)) words → words.port ≤ 65535 → ⊥) }
 {
     Some(ExplainWords {
         trace: given.get_str("trace")?,
@@ -79,7 +82,8 @@ fn read_explain<'a>(given: &ArgMatches<'a>) -> Option<ExplainWords<'a>>
 fn read_matches<'a>(matches: &ArgMatches<'a>) -> Option<Words<'a>>
     ensures asked { IfSome result (IsAskedBy (subcommand_rows_of matches.now)) }
     ensures range { IfSome result IsInRange }
-    ensures none { IfNone result ((words : Words) → IsAskedBy (subcommand_rows_of matches.now) words → IsInRange words → ⊥) }
+    ensures none { IfNone result ((words : Words) → IsAskedBy (subcommand_rows_of matches.now) words
+        → IsInRange words → ⊥) }
 {
     if matches.subcommand_matches("replay").is_some() {
         return Some(Words::Replay);

@@ -39,7 +39,8 @@ impl Ports {
     /// What is attached to a port.
     #[inline(always)]
     pub(crate) fn at(&self, port: u16) -> Attached
-        ensures { (e : Entities) → AreAttached e self.now.attached.items → result ≡ attached_at e port }
+        ensures { (e : Entities) → AreAttached e self.now.attached.items
+            → result ≡ attached_at e port }
     {
         self.attached[port as usize]
     }
@@ -74,7 +75,8 @@ impl Ports {
     /// Attaches what the entities say, of which the table at a place was set and says something now, to the ports that it is
     /// attached to now, or was before: where it says the same as before, all stays. It takes no memory.
     pub(crate) fn set_table(&mut self, mib: &Mib, place: usize, now: Naming)
-        requires changed { (e : Entities) × IsSetAt place e.vlans mib.now.entities.vlans × (mib.now.entities.mappers ≡ e.mappers) × ArePorts e self.old }
+        requires changed { (e : Entities) × IsSetAt place e.vlans mib.now.entities.vlans
+            × (mib.now.entities.mappers ≡ e.mappers) × ArePorts e self.old }
         requires now { Some now ≡ option_map table_naming (slice_get mib.now.entities.vlans place) }
         ensures { ArePorts mib.now.entities self.new }
     {
@@ -89,8 +91,10 @@ impl Ports {
 
     /// The same of the mapper at a place.
     pub(crate) fn set_mapper(&mut self, mib: &Mib, place: usize, now: Naming)
-        requires changed { (e : Entities) × IsSetAt place e.mappers mib.now.entities.mappers × (mib.now.entities.vlans ≡ e.vlans) × ArePorts e self.old }
-        requires now { Some now ≡ option_map mapper_naming (slice_get mib.now.entities.mappers place) }
+        requires changed { (e : Entities) × IsSetAt place e.mappers mib.now.entities.mappers
+            × (mib.now.entities.vlans ≡ e.vlans) × ArePorts e self.old }
+        requires now { Some now
+            ≡ option_map mapper_naming (slice_get mib.now.entities.mappers place) }
         ensures { ArePorts mib.now.entities self.new }
     {
         let before = self.names.mappers[place];
@@ -116,7 +120,8 @@ impl Ports {
 fn attach(ports: &mut [Attached], names: &[Naming], kind: u8, mib: &Mib)
     requires { length ports.old ≡ 65536 }
     ensures len { length ports.new ≡ 65536 }
-    ensures named { (place : ℕ) (naming : Naming) → slice_get names.now place ≡ Some naming → naming.kind ≡ kind → IsAttachedIn mib.now.entities ports.new naming.to }
+    ensures named { (place : ℕ) (naming : Naming) → slice_get names.now place ≡ Some naming
+        → naming.kind ≡ kind → IsAttachedIn mib.now.entities ports.new naming.to }
     ensures others { AreAttachedOrKept mib.now.entities ports.old ports.new }
 {
     for naming in names {
@@ -145,7 +150,8 @@ fn attach_table(ports: &mut [Attached], table: &Naming, mappers: &[Naming], mib:
 fn attach_mapped(ports: &mut [Attached], number: u16, mappers: &[Naming], mib: &Mib)
     requires { length ports.old ≡ 65536 }
     ensures len { length ports.new ≡ 65536 }
-    ensures named { (place : ℕ) (mapper : Naming) → slice_get mappers.now place ≡ Some mapper → IsMapperOfPort number mapper → IsAttachedIn mib.now.entities ports.new mapper.to }
+    ensures named { (place : ℕ) (mapper : Naming) → slice_get mappers.now place ≡ Some mapper
+        → IsMapperOfPort number mapper → IsAttachedIn mib.now.entities ports.new mapper.to }
     ensures others { AreAttachedOrKept mib.now.entities ports.old ports.new }
 {
     for mapper in mappers {
@@ -159,7 +165,8 @@ fn attach_mapped(ports: &mut [Attached], number: u16, mappers: &[Naming], mib: &
 fn detach(ports: &mut [Attached], names: &[Naming])
     requires { length ports.old ≡ 65536 }
     ensures len { length ports.new ≡ 65536 }
-    ensures named { (place : ℕ) (naming : Naming) → slice_get names.now place ≡ Some naming → IsAttachedIn nothing ports.new naming.to }
+    ensures named { (place : ℕ) (naming : Naming) → slice_get names.now place ≡ Some naming
+        → IsAttachedIn nothing ports.new naming.to }
     ensures others { AreAttachedOrKept nothing ports.old ports.new }
 {
     for naming in names {

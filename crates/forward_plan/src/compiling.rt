@@ -64,7 +64,8 @@ impl Plan {
     /// Forgets what was compiled of what a step touched. The plan then lags behind the entities that the step left, until it is
     /// refreshed. Any number of steps may be forgotten so. It takes no memory.
     pub fn invalidate(&mut self, touch: Touch)
-        ensures { (old new : Entities) → IsTouch old new touch → IsBehind old self.old → IsBehind new self.new }
+        ensures { (old new : Entities) → IsTouch old new touch → IsBehind old self.old
+            → IsBehind new self.new }
     {
         match touch {
             Touch::Nothing => {}
@@ -75,7 +76,8 @@ impl Plan {
 
     /// The same, where one instance was touched.
     fn forget_one(&mut self, class: u16, instance: u16)
-        ensures { (old new : Entities) → AreSameButOne class instance old new → IsBehind old self.old
+        ensures { (old new : Entities) → AreSameButOne class instance old new
+            → IsBehind old self.old
             → IsBehind new self.new }
     {
         match class {
@@ -108,7 +110,8 @@ impl Plan {
     /// Becomes the plan of entities that have changed in one instance, and says how many tables and mappers were compiled. Only
     /// what read the instance is compiled again. It takes no memory.
     pub(crate) fn follow_one(&mut self, mib: &Mib, class: u16, instance: u16) -> (u16, u16)
-        requires { (e : Entities) × AreSameButOne class instance e mib.now.entities × IsCompiled e self.old }
+        requires { (e : Entities) × AreSameButOne class instance e mib.now.entities
+            × IsCompiled e self.old }
         ensures { IsCompiled mib.now.entities self.new }
     {
         match class {
@@ -162,7 +165,8 @@ impl Part<Routes> {
     /// Becomes the part of a mapper.
     pub(crate) fn compile(&mut self, number: u16, mib: &Mib, mapper: &Mapper)
         ensures number { self.new.of ≡ Some number }
-        ensures routes { (n : ℕ) → IsMapper mib.now.entities (mapper_instance n mapper.now) self.new.compiled }
+        ensures routes { (n : ℕ)
+            → IsMapper mib.now.entities (mapper_instance n mapper.now) self.new.compiled }
     {
         self.of = Some(number);
         self.compiled = Routes::of(mib, mapper);
@@ -172,7 +176,8 @@ impl Part<Routes> {
 /// What stands at a place, or else what stands for none.
 #[inline(always)]
 fn at_or<'p, T>(parts: &'p [Part<T>], place: u8, none: &'p T) -> &'p T
-    ensures { result.now ≡ unwrap_or (option_map (λ part. part.compiled) (slice_get parts.now place)) none.now }
+    ensures { result.now
+        ≡ unwrap_or (option_map (λ part. part.compiled) (slice_get parts.now place)) none.now }
 {
     match parts.get(usize::from(place)) {
         Some(part) => &part.compiled,
@@ -182,7 +187,8 @@ fn at_or<'p, T>(parts: &'p [Part<T>], place: u8, none: &'p T) -> &'p T
 
 /// Room for as many tables as there may be.
 fn spare_tables(alloc: Global) -> Result<Vec<Part<CompiledTable>>, AllocError>
-    ensures { IfOk result (λ tables. (vec_len tables ≡ room_of 171) × AreForgotten (λ part. ⊥) tables.items tables.items) }
+    ensures { IfOk result (λ tables. (vec_len tables ≡ room_of 171)
+        × AreForgotten (λ part. ⊥) tables.items tables.items) }
 {
     let mut tables = Vec::with_capacity(alloc, VlanConfig::ROOM)?;
     for made in 0..VlanConfig::ROOM {
@@ -196,7 +202,8 @@ fn spare_tables(alloc: Global) -> Result<Vec<Part<CompiledTable>>, AllocError>
 
 /// Room for as many mappers as there may be.
 fn spare_mappers(alloc: Global) -> Result<Vec<Part<Routes>>, AllocError>
-    ensures { IfOk result (λ mappers. (vec_len mappers ≡ room_of 130) × AreForgotten (λ part. ⊥) mappers.items mappers.items) }
+    ensures { IfOk result (λ mappers. (vec_len mappers ≡ room_of 130)
+        × AreForgotten (λ part. ⊥) mappers.items mappers.items) }
 {
     let mut mappers = Vec::with_capacity(alloc, Mapper::ROOM)?;
     for made in 0..Mapper::ROOM {
@@ -210,7 +217,8 @@ fn spare_mappers(alloc: Global) -> Result<Vec<Part<Routes>>, AllocError>
 
 /// Forgets of which mapper those routes are that were read from an instance of a class.
 fn forget_readers(mappers: &mut [Part<Routes>], class: u16, instance: u16)
-    ensures { AreForgotten (λ part. DoesNotRead class instance part.compiled) mappers.old mappers.new }
+    ensures { AreForgotten (λ part. DoesNotRead class instance part.compiled) mappers.old
+        mappers.new }
 {
     for place in 0..mappers.len() {
         if mappers[place].of.is_some() && mappers[place].compiled.reads(class, instance) {

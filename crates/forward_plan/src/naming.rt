@@ -104,7 +104,8 @@ impl Namings {
 
     /// Whether others are the same.
     pub(crate) fn is_same(&self, others: &Namings) -> bool
-        ensures { IsTrue result ↔ ((self.now.mappers.items ≡ others.now.mappers.items) × (self.now.tables.items ≡ others.now.tables.items)) }
+        ensures { IsTrue result ↔ ((self.now.mappers.items ≡ others.now.mappers.items)
+            × (self.now.tables.items ≡ others.now.tables.items)) }
     {
         are_same(&self.mappers, &others.mappers) && are_same(&self.tables, &others.tables)
     }

@@ -29,7 +29,8 @@ pub(crate) fn bring<T>(parts: &mut [Part<T>], place: usize, number: u16) -> bool
 /// The first place, from one on, of a part of an instance, or of one of no instance.
 fn position<T>(parts: &[Part<T>], from: usize, of: Option<u16>) -> Option<usize>
     ensures within { IfSome result (λ at. (from ≤ at) × (at < length parts.now)) }
-    ensures part { IfSome result (λ at. (part : _) × (slice_get parts.now at ≡ Some part) × (part.of ≡ of)) }
+    ensures part { IfSome result (λ at. (part : _) × (slice_get parts.now at ≡ Some part)
+        × (part.of ≡ of)) }
     ensures first { IfSome result (λ at. NoneIsOf parts.now from at of) }
     ensures none { IfNone result (NoneIsOf parts.now from (length parts.now) of) }
 {
@@ -44,7 +45,8 @@ fn position<T>(parts: &[Part<T>], from: usize, of: Option<u16>) -> Option<usize>
 /// Forgets of which instance the part of an instance is.
 pub(crate) fn forget<T>(parts: &mut [Part<T>], number: u16)
     ensures forgotten { AreForgotten (λ part. part.of ≢ Some number) parts.old parts.new }
-    ensures compiled { map (λ part. part.compiled) parts.new ≡ map (λ part. part.compiled) parts.old }
+    ensures compiled { map (λ part. part.compiled) parts.new
+        ≡ map (λ part. part.compiled) parts.old }
 {
     for place in 0..parts.len() {
         if parts[place].of == Some(number) {

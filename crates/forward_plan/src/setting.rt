@@ -21,7 +21,8 @@ impl Plan {
     /// read the instance is compiled again: of the tables and mappers that is one, unless an interworking point or a GEM port was
     /// set, which several mappers may lead by. It takes no memory.
     pub(crate) fn set(&mut self, mib: &Mib, class: u16, instance: u16) -> (u16, u16)
-        requires { (e : Entities) × IsSetOf class instance e mib.now.entities × IsCompiled e self.old }
+        requires { (e : Entities) × IsSetOf class instance e mib.now.entities
+            × IsCompiled e self.old }
         ensures { IsCompiled mib.now.entities self.new }
     {
         match class {
@@ -33,7 +34,8 @@ impl Plan {
 
     /// The same, where the instance is a table.
     fn set_table(&mut self, mib: &Mib, instance: u16) -> (u16, u16)
-        requires { (e : Entities) × IsSetOf 171 instance e mib.now.entities × IsCompiled e self.old }
+        requires { (e : Entities) × IsSetOf 171 instance e mib.now.entities
+            × IsCompiled e self.old }
         ensures { IsCompiled mib.now.entities self.new }
     {
         // An accepted Set finds its instance, so this is always one.
@@ -49,7 +51,8 @@ impl Plan {
 
     /// The same, where the instance is a mapper.
     fn set_mapper(&mut self, mib: &Mib, instance: u16) -> (u16, u16)
-        requires { (e : Entities) × IsSetOf 130 instance e mib.now.entities × IsCompiled e self.old }
+        requires { (e : Entities) × IsSetOf 130 instance e mib.now.entities
+            × IsCompiled e self.old }
         ensures { IsCompiled mib.now.entities self.new }
     {
         // As above.
@@ -68,8 +71,10 @@ impl Plan {
 fn table_at<'m>(mib: &'m Mib, instance: u16) -> Option<(usize, u16, &'m VlanConfig)>
     ensures place { IfSome result (λ held. place_in instance mib.now.entities.vlans ≡ Some held.0) }
     ensures room { IfSome result (λ held. held.0 < room_of 171) }
-    ensures shown { IfSome result (λ held. Some (vlan_instance held.1 held.2.now) ≡ slice_get mib.now.entities.vlans held.0) }
-    ensures found { IfSome result (λ held. find held.1 mib.now.entities.vlans ≡ slice_get mib.now.entities.vlans held.0) }
+    ensures shown { IfSome result (λ held. Some (vlan_instance held.1 held.2.now)
+        ≡ slice_get mib.now.entities.vlans held.0) }
+    ensures found { IfSome result (λ held. find held.1 mib.now.entities.vlans
+        ≡ slice_get mib.now.entities.vlans held.0) }
 {
     let place = mib.place_of(VLAN, instance)?;
     let (number, vlan) = mib.vlan_at(place)?;
@@ -78,10 +83,13 @@ fn table_at<'m>(mib: &'m Mib, instance: u16) -> Option<(usize, u16, &'m VlanConf
 
 /// The mapper of a number, with its place and its number there.
 fn mapper_at<'m>(mib: &'m Mib, instance: u16) -> Option<(usize, u16, &'m Mapper)>
-    ensures place { IfSome result (λ held. place_in instance mib.now.entities.mappers ≡ Some held.0) }
+    ensures place { IfSome result (λ held. place_in instance mib.now.entities.mappers
+        ≡ Some held.0) }
     ensures room { IfSome result (λ held. held.0 < room_of 130) }
-    ensures shown { IfSome result (λ held. Some (mapper_instance held.1 held.2.now) ≡ slice_get mib.now.entities.mappers held.0) }
-    ensures found { IfSome result (λ held. find held.1 mib.now.entities.mappers ≡ slice_get mib.now.entities.mappers held.0) }
+    ensures shown { IfSome result (λ held. Some (mapper_instance held.1 held.2.now)
+        ≡ slice_get mib.now.entities.mappers held.0) }
+    ensures found { IfSome result (λ held. find held.1 mib.now.entities.mappers
+        ≡ slice_get mib.now.entities.mappers held.0) }
 {
     let place = mib.place_of(MAPPER, instance)?;
     let (number, mapper) = mib.mapper_at(place)?;

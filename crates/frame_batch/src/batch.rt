@@ -44,7 +44,13 @@ pub struct Report<'a> {
 impl Report<'_> {
     /// The report without its verdicts, whose memory is given back.
     pub fn tally(self) -> Tally
-        ensures { result ≡ record { lane = self.entry.lane; batch = self.entry.batch; version = self.entry.version; counts = self.entry.counts } }
+        ensures { result
+            ≡ record {
+              lane = self.entry.lane;
+              batch = self.entry.batch;
+              version = self.entry.version;
+              counts = self.entry.counts;
+            } }
     {
         let Self {
             lane,
@@ -94,11 +100,16 @@ pub fn run_batch<'a, G: Gate>(
     ensures lane { IfOk result (λ report. report.lane ≡ number_of (held_lane held.now)) }
     ensures number { IfOk result (λ report. report.batch ≡ batch) }
     ensures version { IfOk result (λ report. report.version ≡ held_version held.now) }
-    ensures verdicts { IfOk result (λ report. report.verdicts.items ≡ meanings (held_entities held.now) port frames.now) }
-    ensures too_many { IsErrOf result (BatchFault.TooMany (length frames.now)) ↔ (65536 < length frames.now) }
-    ensures passed { IfOk result (λ _. G.may_answer gate.now (number_of (held_lane held.now)) batch turns true) }
-    ensures stalled { IsErrOf result BatchFault.Stalled → G.may_answer gate.now (number_of (held_lane held.now)) batch turns false }
-    ensures full { IsErrOf result BatchFault.CountFull → SomePasses (meanings (held_entities held.now) port frames.now) }
+    ensures verdicts { IfOk result (λ report.
+        report.verdicts.items ≡ meanings (held_entities held.now) port frames.now) }
+    ensures too_many { IsErrOf result (BatchFault.TooMany (length frames.now))
+        ↔ (65536 < length frames.now) }
+    ensures passed { IfOk result (λ _.
+        G.may_answer gate.now (number_of (held_lane held.now)) batch turns true) }
+    ensures stalled { IsErrOf result BatchFault.Stalled
+        → G.may_answer gate.now (number_of (held_lane held.now)) batch turns false }
+    ensures full { IsErrOf result BatchFault.CountFull
+        → SomePasses (meanings (held_entities held.now) port frames.now) }
 {
     if frames.len() > MOST {
         return Err(BatchFault::TooMany(frames.len()));

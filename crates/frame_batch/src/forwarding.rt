@@ -33,9 +33,12 @@ pub fn forward_all<'a, R: Threads + Sync>(
     port: u16,
     frames: &[&'a [u8]],
 ) -> Result<Vec<Verdict<'a>>, BatchFault>
-    ensures verdicts { IfOk result (λ verdicts. verdicts.items ≡ meanings (held_entities held.now) port frames.now) }
-    ensures too_many { IsErrOf result (BatchFault.TooMany (length frames.now)) ↔ (65536 < length frames.now) }
-    ensures never { ¬ (IsErrOf result BatchFault.Stalled) × ¬ (IsErrOf result BatchFault.CountFull) }
+    ensures verdicts { IfOk result (λ verdicts.
+        verdicts.items ≡ meanings (held_entities held.now) port frames.now) }
+    ensures too_many { IsErrOf result (BatchFault.TooMany (length frames.now))
+        ↔ (65536 < length frames.now) }
+    ensures never { ¬ (IsErrOf result BatchFault.Stalled)
+        × ¬ (IsErrOf result BatchFault.CountFull) }
 {
     if frames.len() > MOST {
         return Err(BatchFault::TooMany(frames.len()));

@@ -42,8 +42,10 @@ pub fn gather<'a>(
     reports: Vec<Report<'a>>,
     count: u32,
 ) -> Result<Gathered<'a>, GatherFault>
-    ensures reports { IfOk result (λ gathered. IsGathered count reports.entry.items gathered.reports.items) }
-    ensures counts { IfOk result (λ gathered. AreCountsOf (verdicts_of gathered.reports.items) gathered.counts) }
+    ensures reports { IfOk result (λ gathered.
+        IsGathered count reports.entry.items gathered.reports.items) }
+    ensures counts { IfOk result (λ gathered.
+        AreCountsOf (verdicts_of gathered.reports.items) gathered.counts) }
     ensures fits { IfOk result (λ gathered. misfit count reports.entry.items ≡ None) }
     ensures fault { IfErr result (IsWhy count reports.entry.items) }
 {
@@ -62,10 +64,13 @@ pub fn gather_tallies(
     tallies: Vec<Tally>,
     count: u32,
 ) -> Result<GatheredTallies, GatherFault>
-    ensures tallies { IfOk result (λ gathered. AreInOrder (λ (t : Tally). t.batch) count tallies.items gathered.tallies.items) }
-    ensures counts { IfOk result (λ gathered. (f : Figure) → counted gathered.counts f ≡ sum_by (λ t. counted t.counts f) gathered.tallies.items) }
+    ensures tallies { IfOk result (λ gathered.
+        AreInOrder (λ (t : Tally). t.batch) count tallies.items gathered.tallies.items) }
+    ensures counts { IfOk result (λ gathered. (f : Figure)
+        → counted gathered.counts f ≡ sum_by (λ t. counted t.counts f) gathered.tallies.items) }
     ensures no_zeros { IfOk result (λ gathered. HasNoZeros gathered.counts.ports) }
-    ensures fits { IfOk result (λ gathered. misplaced (λ (t : Tally). t.batch) count tallies.items ≡ None) }
+    ensures fits { IfOk result (λ gathered. misplaced (λ (t : Tally). t.batch) count tallies.items
+        ≡ None) }
     ensures fault { IfErr result (IsWhyOfTallies count tallies.items) }
 {
     match in_order_with_counts(alloc, tallies, count) {
@@ -81,7 +86,8 @@ fn in_order_with_counts<T: Numbered>(
     count: u32,
 ) -> Result<(Vec<T>, Counts), GatherFault>
     ensures gathered { IfOk result (λ all. AreInOrder T.number count items.items all.0.items) }
-    ensures counts { IfOk result (λ all. (f : Figure) → counted all.1 f ≡ sum_by (λ x. counted (T.counts_of x) f) all.0.items) }
+    ensures counts { IfOk result (λ all. (f : Figure)
+        → counted all.1 f ≡ sum_by (λ x. counted (T.counts_of x) f) all.0.items) }
     ensures no_zeros { IfOk result (λ all. HasNoZeros all.1.ports) }
     ensures fits { IfOk result (λ all. misplaced T.number count items.items ≡ None) }
     ensures fault { IfErr result (IsWhyNot T.number (SumPasses T.counts_of) count items.items) }
@@ -99,7 +105,8 @@ fn in_order_with_counts<T: Numbered>(
 
 /// The sums of the items' counts.
 fn total_of<T: Numbered>(alloc: Global, items: &[T]) -> Result<Counts, CountFault>
-    ensures counts { IfOk result (λ c. (f : Figure) → counted c f ≡ sum_by (λ x. counted (T.counts_of x) f) items.now) }
+    ensures counts { IfOk result (λ c. (f : Figure)
+        → counted c f ≡ sum_by (λ x. counted (T.counts_of x) f) items.now) }
     ensures no_zeros { IfOk result (λ c. HasNoZeros c.ports) }
     ensures full { IsErrOf result CountFault.CountFull → SumPasses T.counts_of items.now }
 {

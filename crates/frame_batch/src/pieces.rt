@@ -41,13 +41,15 @@ fn forward_pieces<'a, R: Threads + Sync>(
     size: usize,
 ) -> Result<Vec<Result<Vec<Verdict<'a>>, AllocError>>, AllocError>
     requires { 0 < size }
-    ensures { IfOk result (λ pieces. AllZip (IsPiece live.now port) (chunks_of size frames.now) pieces.items) }
+    ensures { IfOk result (λ pieces.
+        AllZip (IsPiece live.now port) (chunks_of size frames.now) pieces.items) }
 {
     frames
         .par_chunks(size)
         .map(
             |piece: &[&[u8]]| -> Result<Vec<Verdict<'_>>, AllocError>
-                ensures { IfOk result (λ verdicts. verdicts.items ≡ meanings live.entry.now port piece.now) }
+                ensures { IfOk result (λ verdicts.
+                    verdicts.items ≡ meanings live.entry.now port piece.now) }
             { forward_each(alloc, live, port, piece) },
         )
         .collect(rt, alloc)
@@ -59,7 +61,8 @@ fn join_pieces<'a>(
     pieces: Vec<Result<Vec<Verdict<'a>>, AllocError>>,
     len: usize,
 ) -> Result<Vec<Verdict<'a>>, AllocError>
-    ensures { IfOk result (λ all. (given : _) × (given ≡ pieces.entry.items) × AreJoined given all.items) }
+    ensures { IfOk result (λ all. (given : _) × (given ≡ pieces.entry.items)
+        × AreJoined given all.items) }
 {
     let mut all = Vec::with_capacity(alloc, len)?;
     for piece in pieces {

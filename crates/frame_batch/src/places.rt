@@ -15,7 +15,8 @@ pub(crate) fn in_order<T: Numbered>(
 ) -> Result<Vec<T>, GatherFault>
     ensures gathered { IfOk result (λ out. AreInOrder T.number count items.items out.items) }
     ensures fits { IfOk result (λ out. misplaced T.number count items.items ≡ None) }
-    ensures misfit { IfErr result (λ fault. (fault ≡ GatherFault.NoMemory) ⊎ (misplaced T.number count items.items ≡ Some fault)) }
+    ensures misfit { IfErr result (λ fault. (fault ≡ GatherFault.NoMemory)
+        ⊎ (misplaced T.number count items.items ≡ Some fault)) }
 {
     let slots = empty_slots(alloc, count)?;
     let Ok(taken) = Vec::with_capacity(alloc, count as usize) else {
@@ -47,8 +48,10 @@ fn place_all<T: Numbered>(
     items: Vec<T>,
 ) -> Result<Vec<Option<T>>, GatherFault>
     requires { Fits T.number (vec_len slots) [] slots.items }
-    ensures placed { IfOk result (λ filled. (given : _) × (given ≡ items.items) × Fits T.number (vec_len slots) given filled.items) }
-    ensures misfit { IfErr result (λ fault. misplaced T.number (vec_len slots) items.items ≡ Some fault) }
+    ensures placed { IfOk result (λ filled. (given : _) × (given ≡ items.items)
+        × Fits T.number (vec_len slots) given filled.items) }
+    ensures misfit { IfErr result (λ fault. misplaced T.number (vec_len slots) items.items
+        ≡ Some fault) }
 {
     for item in items {
         if let Err(fault) = place(&mut slots, item) {
@@ -60,8 +63,10 @@ fn place_all<T: Numbered>(
 
 /// Puts an item in the place of its batch.
 fn place<T: Numbered>(slots: &mut Vec<Option<T>>, item: T) -> Result<(), GatherFault>
-    ensures free { OnOk result ((T.number item < vec_len slots.old) × (slice_index_or slots.old.items (T.number item) None ≡ None)) }
-    ensures placed { OnOk result (slots.new.items ≡ slice_set slots.old.items (T.number item) (Some item)) }
+    ensures free { OnOk result ((T.number item < vec_len slots.old)
+        × (slice_index_or slots.old.items (T.number item) None ≡ None)) }
+    ensures placed { OnOk result (slots.new.items
+        ≡ slice_set slots.old.items (T.number item) (Some item)) }
     ensures misfit { IfErr result (HasNoPlace (T.number item) slots.old.items) }
 {
     let batch = item.batch();
@@ -78,7 +83,8 @@ fn place<T: Numbered>(slots: &mut Vec<Option<T>>, item: T) -> Result<(), GatherF
 
 /// The items of all places, if none is free.
 fn take_all<T: Numbered>(slots: Vec<Option<T>>, mut taken: Vec<T>) -> Result<Vec<T>, GatherFault>
-    requires { (vec_len taken ≡ 0) × (vec_len slots ≤ vec_capacity taken) × (vec_len slots < 2 ^ 32) }
+    requires { (vec_len taken ≡ 0) × (vec_len slots ≤ vec_capacity taken)
+        × (vec_len slots < 2 ^ 32) }
     ensures all { IfOk result (λ out. map Some out.items ≡ slots.items) }
     ensures free { IfErr result (IsFirstFree slots.items) }
 {

@@ -52,8 +52,10 @@ pub trait ManagedEntity: Drop {
 
     /// What a Get returns of the attribute at a place.
     fn returned(&self, place: usize) -> Option<Bytes>
-        ensures value { option_map (λ (v : _). v.items) result ≡ slice_get (returned_values layout (values self.now) (entries self.now)) place }
-        ensures width { table_at layout place ≡ false → IfSome result (λ v. length v.items ≡ width_at layout place) };
+        ensures value { option_map (λ (v : _). v.items) result
+            ≡ slice_get (returned_values layout (values self.now) (entries self.now)) place }
+        ensures width { table_at layout place ≡ false
+            → IfSome result (λ v. length v.items ≡ width_at layout place) };
 
     /// Writes the attribute at a place.
     fn set_attribute(&mut self, place: usize, bytes: &[u8])
@@ -71,7 +73,8 @@ pub trait ManagedEntity: Drop {
     /// Puts an entry into the table; one that it doesn't take changes nothing.
     fn put_entry(&mut self, entry: &[u8])
         requires { length entry.now ≡ 16 }
-        ensures entries { entries self.new ≡ left_by (entries self.old) (entries_with layout (entries self.old) entry.now) }
+        ensures entries { entries self.new
+            ≡ left_by (entries self.old) (entries_with layout (entries self.old) entry.now) }
         ensures values { values self.new ≡ values self.old };
 
     /// There is a value for each attribute.

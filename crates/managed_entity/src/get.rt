@@ -22,9 +22,15 @@ struct Gathered {
 
 /// Gathers the attributes that a mask names, in ascending order, each that fits.
 fn gather<E: ManagedEntity>(entity: &E, mask: u16) -> Gathered
-    ensures returned { result.returned ≡ (gathered mask 0 25 (returned_values E.layout (E.values entity.now) (E.entries entity.now))).returned }
-    ensures left_out { result.left_out ≡ (gathered mask 0 25 (returned_values E.layout (E.values entity.now) (E.entries entity.now))).left_out }
-    ensures bytes { result.bytes.items ≡ (gathered mask 0 25 (returned_values E.layout (E.values entity.now) (E.entries entity.now))).bytes }
+    ensures returned { result.returned
+        ≡ (gathered mask 0 25 (returned_values E.layout (E.values entity.now)
+        (E.entries entity.now))).returned }
+    ensures left_out { result.left_out
+        ≡ (gathered mask 0 25 (returned_values E.layout (E.values entity.now)
+        (E.entries entity.now))).left_out }
+    ensures bytes { result.bytes.items
+        ≡ (gathered mask 0 25 (returned_values E.layout (E.values entity.now)
+        (E.entries entity.now))).bytes }
 {
     let mut returned = 0;
     let mut left_out = 0;
@@ -49,7 +55,9 @@ fn gather<E: ManagedEntity>(entity: &E, mask: u16) -> Gathered
 /// The contents of the answer to a Get of an instance.
 #[tactic(auto, unfolding(crate::specs::Get::get_contents))]
 pub fn get_contents<E: ManagedEntity>(entity: &E, mask: u16) -> [u8; 32]
-    ensures { result ≡ get_contents (length E.layout) mask (returned_values E.layout (E.values entity.now) (E.entries entity.now)) }
+    ensures { result
+        ≡ get_contents (length E.layout) mask
+        (returned_values E.layout (E.values entity.now) (E.entries entity.now)) }
 {
     let found = gather(entity, mask);
     let unknown = unknown(mask, E::layout().len());

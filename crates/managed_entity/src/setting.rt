@@ -86,7 +86,8 @@ fn put_named<E: ManagedEntity>(entity: &mut E, mask: u16, bytes: &[u8])
 pub fn check_set<E: ManagedEntity>(entity: &E, mask: u16, bytes: &[u8]) -> Result<(), Refusal>
     requires { length bytes.now ≡ 30 }
     ensures { (n : ℕ) → result ≡ outcome_of
-        (set_instance E.layout mask bytes.now (shown_as n (E.values entity.now) (E.entries entity.now))) }
+        (set_instance E.layout mask bytes.now
+        (shown_as n (E.values entity.now) (E.entries entity.now))) }
 {
     let layout = E::layout();
     let unknown = unknown(mask, layout.len());

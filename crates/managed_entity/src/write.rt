@@ -29,7 +29,8 @@ pub(crate) fn write<E: ManagedEntity>(entity: &mut E, mask: u16, bytes: &[u8])
 
 /// Makes an instance what Create leaves, with the set-by-create attributes of the contents.
 pub fn create<E: ManagedEntity>(entity: &mut E, contents: &[u8; 32])
-    ensures { (n : ℕ) → shown_as n (E.values entity.new) (E.entries entity.new) ≡ created E.layout n contents.now }
+    ensures { (n : ℕ) → shown_as n (E.values entity.new) (E.entries entity.new)
+        ≡ created E.layout n contents.now }
 {
     entity.reset();
     write(entity, E::GIVEN, contents);

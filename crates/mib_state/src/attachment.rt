@@ -13,7 +13,9 @@ pub(crate) trait AttachedEntity: ManagedEntity {
     ghost is_attached: { ℕ → ℕ → Instance → Bool };
 
     fn is_attached(&self, kind: u8, to: u16) -> bool
-        ensures { (n : ℕ) → result ≡ is_attached kind to (shown_as n (Self.values self.now) (Self.entries self.now)) };
+        ensures { (n : ℕ)
+            → result ≡ is_attached kind to (shown_as n (Self.values self.now)
+            (Self.entries self.now)) };
 }
 
 /// By the TP type and the TP pointer.

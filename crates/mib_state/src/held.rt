@@ -60,8 +60,10 @@ impl<'a> HeldInstance<'a> {
 
     /// The bytes of attribute `n`, attributes numbered from 1: None for what isn't there and for a table.
     pub fn attribute(&self, n: u16) -> Option<ArrayVec<u8, 24>>
-        ensures value { option_map (λ (bytes : _). bytes.items) result ≡ attribute_of (attributes_of self.now.class) n (Some self.now.instance) }
-        ensures width { IfSome result (λ bytes. length bytes.items ≡ width_at (attributes_of self.now.class) (n - 1)) }
+        ensures value { option_map (λ (bytes : _). bytes.items) result
+            ≡ attribute_of (attributes_of self.now.class) n (Some self.now.instance) }
+        ensures width { IfSome result (λ bytes.
+            length bytes.items ≡ width_at (attributes_of self.now.class) (n - 1)) }
     {
         let place = (n as usize).checked_sub(1)?;
         self.mib.attribute_at(self.class, self.place, place)

@@ -39,11 +39,15 @@ impl<E: ManagedEntity> Model for Instances<E> {
 
     ghost Value = { List Instance };
 
-    ghost view = { λ s. map (λ row. shown_as row.number (E.values row.entity) (E.entries row.entity)) s.rows.items };
+    ghost view = { λ s.
+        map (λ row. shown_as row.number (E.values row.entity) (E.entries row.entity))
+        s.rows.items };
 
     ghost invariant = { λ s.
-        IsAscending (map (λ row. shown_as row.number (E.values row.entity) (E.entries row.entity)) s.rows.items)
-        × (E.ROOM ≤ vec_capacity s.rows) × (E.ROOM ≤ vec_capacity s.spare) × (vec_len s.rows + vec_len s.spare ≡ E.ROOM) };
+        IsAscending (map (λ row.
+        shown_as row.number (E.values row.entity) (E.entries row.entity)) s.rows.items)
+        × (E.ROOM ≤ vec_capacity s.rows) × (E.ROOM ≤ vec_capacity s.spare)
+        × (vec_len s.rows + vec_len s.spare ≡ E.ROOM) };
 }
 
 impl<E: ManagedEntity> Instances<E> {
@@ -70,7 +74,9 @@ impl<E: ManagedEntity> Instances<E> {
 
     /// The instance of a number.
     pub(crate) fn get(&self, number: u16) -> Option<&E>
-        ensures { option_map (λ (entity : _). shown_as number (E.values entity.now) (E.entries entity.now)) result ≡ find number self.now }
+        ensures { option_map (λ (entity : _).
+            shown_as number (E.values entity.now) (E.entries entity.now)) result
+            ≡ find number self.now }
     {
         match self.search(number) {
             Ok(at) => Some(&self.rows[at].entity),
@@ -80,7 +86,9 @@ impl<E: ManagedEntity> Instances<E> {
 
     /// The number and the instance at a place, instances by ascending number.
     pub(crate) fn at(&self, place: usize) -> Option<(u16, &E)>
-        ensures shown { option_map (λ (held : _). shown_as held.0 (E.values held.1.now) (E.entries held.1.now)) result ≡ slice_get self.now place }
+        ensures shown { option_map (λ (held : _).
+            shown_as held.0 (E.values held.1.now) (E.entries held.1.now)) result
+            ≡ slice_get self.now place }
         ensures found { IfSome result (λ held. find held.0 self.now ≡ slice_get self.now place) }
         ensures room { IfSome result (λ held. place < E.ROOM) }
     {
@@ -110,7 +118,8 @@ impl<E: ManagedEntity> Instances<E> {
     /// The place of the instance of a number.
     pub(crate) fn place_of(&self, number: u16) -> Option<usize>
         ensures place { result ≡ place_in number self.now }
-        ensures instance { option_and_then (λ (place : _). slice_get self.now place) result ≡ find number self.now }
+        ensures instance { option_and_then (λ (place : _). slice_get self.now place) result
+            ≡ find number self.now }
         ensures held { is_some result ≡ is_some (find number self.now) }
         ensures room { IfSome result (λ place. place < E.ROOM) }
     {
@@ -119,7 +128,8 @@ impl<E: ManagedEntity> Instances<E> {
 
     /// The attribute at a place of the instance of a number; None for the table.
     pub(crate) fn attribute(&self, number: u16, place: usize) -> Option<Bytes>
-        ensures value { option_map (λ (bytes : _). bytes.items) result ≡ value_at E.layout place (find number self.now) }
+        ensures value { option_map (λ (bytes : _). bytes.items) result
+            ≡ value_at E.layout place (find number self.now) }
         ensures width { IfSome result (λ bytes. length bytes.items ≡ width_at E.layout place) }
     {
         attribute(self.get(number)?, place)
@@ -128,7 +138,8 @@ impl<E: ManagedEntity> Instances<E> {
     /// The answer to a Get.
     pub(crate) fn read(&self, request: &Request) -> Result<[u8; 32], Refusal>
         ensures { result
-            ≡ get_found E.layout (mask_of request.now.contents) (find request.now.instance self.now) }
+            ≡ get_found E.layout (mask_of request.now.contents)
+            (find request.now.instance self.now) }
     {
         match self.get(request.instance) {
             Some(entity) => Ok(get_contents(entity, mask_of(&request.contents))),
@@ -150,7 +161,8 @@ impl<E: ManagedEntity> Instances<E> {
     /// Whether a Create is refused.
     pub(crate) fn check_create(&self, request: &Request) -> Result<(), Refusal>
         ensures { result
-            ≡ outcome_of (create_in E.layout E.ROOM request.now.instance request.now.contents self.now) }
+            ≡ outcome_of (create_in E.layout E.ROOM request.now.instance request.now.contents
+            self.now) }
     {
         if request.instance == u16::MAX {
             return Err(Refusal::ParameterError);
@@ -164,7 +176,8 @@ impl<E: ManagedEntity> Instances<E> {
 
     /// Creates an instance, by a Create that isn't refused.
     pub(crate) fn create(&mut self, request: &Request)
-        requires { is_ok (create_in E.layout E.ROOM request.now.instance request.now.contents self.old)
+        requires { is_ok (create_in E.layout E.ROOM request.now.instance request.now.contents
+            self.old)
             ≡ true }
         ensures { self.new ≡ left_by self.old
             (create_in E.layout E.ROOM request.now.instance request.now.contents self.old) }

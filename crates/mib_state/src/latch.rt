@@ -35,7 +35,8 @@ impl Model for Latch {
 
     ghost Value = { Option Latched };
 
-    ghost view = { λ s. option_map (λ n. record { instance = n; bytes = s.bytes.items }) s.instance };
+    ghost view = { λ s.
+        option_map (λ n. record { instance = n; bytes = s.bytes.items }) s.instance };
 
     ghost invariant = { λ s. 16 * table_max_size ≤ vec_capacity s.bytes };
 }

@@ -46,7 +46,13 @@ impl Model for Mib {
     ghost Value = { State };
 
     ghost view = { λ m. record {
-      entities = record { sync = m.onu_data.sync; mappers = m.mappers; vlans = m.vlans; interworks = m.interworks; gem_ports = m.gem_ports };
+      entities = record {
+        sync = m.onu_data.sync;
+        mappers = m.mappers;
+        vlans = m.vlans;
+        interworks = m.interworks;
+        gem_ports = m.gem_ports;
+      };
       latch = m.latch;
     } };
 }
@@ -85,7 +91,8 @@ impl Mib {
     /// The instance at a place of a class, lent to be read. Places count from 0, and instances stand there by ascending number;
     /// there are no more than the class has room for. ONU data, class 2, has one; a class that isn't known has none.
     pub fn instance_at(&self, class: u16, place: usize) -> Option<HeldInstance<'_>>
-        ensures instance { option_map (λ (held : _). held.instance) result ≡ slice_get (instances_of self.now.entities class) place }
+        ensures instance { option_map (λ (held : _). held.instance) result
+            ≡ slice_get (instances_of self.now.entities class) place }
         ensures class { IfSome result (λ held. held.class ≡ class) }
         ensures room { IfSome result (λ held. place < room_of class) }
     {
@@ -97,8 +104,11 @@ impl Mib {
     /// The bytes of attribute `n` of an instance, attributes numbered from 1: None for what isn't there and for a table.
     /// Attribute 1 of ONU data, class 2, is the sync.
     pub fn attribute(&self, class: u16, instance: u16, n: u16) -> Option<ArrayVec<u8, 24>>
-        ensures value { option_map (λ (bytes : _). bytes.items) result ≡ attribute_of (attributes_of class) n (find instance (instances_of self.now.entities class)) }
-        ensures width { IfSome result (λ bytes. length bytes.items ≡ width_at (attributes_of class) (n - 1)) }
+        ensures value { option_map (λ (bytes : _). bytes.items) result
+            ≡ attribute_of (attributes_of class) n
+            (find instance (instances_of self.now.entities class)) }
+        ensures width { IfSome result (λ bytes.
+            length bytes.items ≡ width_at (attributes_of class) (n - 1)) }
     {
         let place = (n as usize).checked_sub(1)?;
         of_store!(self, Class::of(class)?, attribute(instance, place))
@@ -107,8 +117,11 @@ impl Mib {
     /// The place of an instance among those of its class: the one at which `instance_at` lends it.
     pub fn place_of(&self, class: u16, instance: u16) -> Option<usize>
         ensures place { result ≡ place_in instance (instances_of self.now.entities class) }
-        ensures instance { option_and_then (λ (place : _). slice_get (instances_of self.now.entities class) place) result ≡ find instance (instances_of self.now.entities class) }
-        ensures held { is_some result ≡ is_some (find instance (instances_of self.now.entities class)) }
+        ensures instance { option_and_then (λ (place : _).
+            slice_get (instances_of self.now.entities class) place) result
+            ≡ find instance (instances_of self.now.entities class) }
+        ensures held { is_some result
+            ≡ is_some (find instance (instances_of self.now.entities class)) }
         ensures room { IfSome result (λ place. place < room_of class) }
     {
         of_store!(self, Class::of(class)?, place_of(instance))
@@ -136,8 +149,10 @@ impl Mib {
 
     /// The number of the 802.1p mapper service profile at a place, and the mapper; places as in `instance_at`.
     pub fn mapper_at(&self, place: usize) -> Option<(u16, &Mapper)>
-        ensures shown { option_map (λ (held : _). mapper_instance held.0 held.1.now) result ≡ slice_get self.now.entities.mappers place }
-        ensures found { IfSome result (λ held. find held.0 self.now.entities.mappers ≡ slice_get self.now.entities.mappers place) }
+        ensures shown { option_map (λ (held : _). mapper_instance held.0 held.1.now) result
+            ≡ slice_get self.now.entities.mappers place }
+        ensures found { IfSome result (λ held.
+            find held.0 self.now.entities.mappers ≡ slice_get self.now.entities.mappers place) }
         ensures room { IfSome result (λ held. place < room_of 130) }
     {
         self.mappers.at(place)
@@ -146,8 +161,10 @@ impl Mib {
     /// The number of the extended VLAN tagging operation configuration data at a place, and the data; places as in
     /// `instance_at`.
     pub fn vlan_at(&self, place: usize) -> Option<(u16, &VlanConfig)>
-        ensures shown { option_map (λ (held : _). vlan_instance held.0 held.1.now) result ≡ slice_get self.now.entities.vlans place }
-        ensures found { IfSome result (λ held. find held.0 self.now.entities.vlans ≡ slice_get self.now.entities.vlans place) }
+        ensures shown { option_map (λ (held : _). vlan_instance held.0 held.1.now) result
+            ≡ slice_get self.now.entities.vlans place }
+        ensures found { IfSome result (λ held.
+            find held.0 self.now.entities.vlans ≡ slice_get self.now.entities.vlans place) }
         ensures room { IfSome result (λ held. place < room_of 171) }
     {
         self.vlans.at(place)
@@ -155,28 +172,32 @@ impl Mib {
 
     /// The 802.1p mapper service profile of a number.
     pub fn mapper(&self, instance: u16) -> Option<&Mapper>
-        ensures { option_map (λ (mapper : _). mapper_instance instance mapper.now) result ≡ find instance self.now.entities.mappers }
+        ensures { option_map (λ (mapper : _). mapper_instance instance mapper.now) result
+            ≡ find instance self.now.entities.mappers }
     {
         self.mappers.get(instance)
     }
 
     /// The extended VLAN tagging operation configuration data of a number.
     pub fn vlan(&self, instance: u16) -> Option<&VlanConfig>
-        ensures { option_map (λ (vlan : _). vlan_instance instance vlan.now) result ≡ find instance self.now.entities.vlans }
+        ensures { option_map (λ (vlan : _). vlan_instance instance vlan.now) result
+            ≡ find instance self.now.entities.vlans }
     {
         self.vlans.get(instance)
     }
 
     /// The GEM interworking termination point of a number.
     pub fn interwork(&self, instance: u16) -> Option<&Interwork>
-        ensures { option_map (λ (point : _). interwork_instance instance point.now) result ≡ find instance self.now.entities.interworks }
+        ensures { option_map (λ (point : _). interwork_instance instance point.now) result
+            ≡ find instance self.now.entities.interworks }
     {
         self.interworks.get(instance)
     }
 
     /// The GEM port network CTP of a number.
     pub fn gem_port(&self, instance: u16) -> Option<&GemPort>
-        ensures { option_map (λ (port : _). gem_port_instance instance port.now) result ≡ find instance self.now.entities.gem_ports }
+        ensures { option_map (λ (port : _). gem_port_instance instance port.now) result
+            ≡ find instance self.now.entities.gem_ports }
     {
         self.gem_ports.get(instance)
     }

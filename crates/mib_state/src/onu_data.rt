@@ -130,7 +130,8 @@ impl OnuData {
     #[tactic(auto, unfolding(crate::specs::Step::set_in), using(crate::proofs::Setting::set_outcome))]
     pub(crate) fn check_set(&self, request: &Request) -> Result<(), Refusal>
         ensures { result ≡ outcome_of (set_in onu_data_layout request.now.instance
-            (mask_of request.now.contents) (drop 2 request.now.contents) (onu_data self.now.sync ∷ [])) }
+            (mask_of request.now.contents) (drop 2 request.now.contents) (onu_data self.now.sync
+            ∷ [])) }
     {
         if request.instance != 0 {
             return Err(Refusal::UnknownInstance);
@@ -146,7 +147,8 @@ impl OnuData {
     #[tactic(auto, unfolding(crate::specs::Step::set_in))]
     pub(crate) fn set(&mut self, request: &Request)
         requires { is_ok (set_in onu_data_layout request.now.instance
-            (mask_of request.now.contents) (drop 2 request.now.contents) (onu_data self.old.sync ∷ []))
+            (mask_of request.now.contents) (drop 2 request.now.contents) (onu_data self.old.sync
+            ∷ []))
             ≡ true }
         ensures { self.new.sync ≡ sync_of (left_by (onu_data self.old.sync ∷ [])
             (set_in onu_data_layout request.now.instance (mask_of request.now.contents)

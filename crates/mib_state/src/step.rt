@@ -19,7 +19,11 @@ impl Mib {
     #[tactic(auto, using(crate::proofs::Counted::counts), unfolding(crate::specs::Step::create))]
     fn create(&mut self, request: &Request)
         requires { is_ok (create self.old.entities request.now) ≡ true }
-        ensures { self.new ≡ record self.old { entities = left_by self.old.entities (create self.old.entities request.now) } }
+        ensures { self.new
+            ≡ record self.old {
+              entities = left_by self.old.entities
+                  (create self.old.entities request.now);
+            } }
     {
         self.onu_data.count();
         if let Some(class) = Class::of(request.class) {
@@ -30,7 +34,11 @@ impl Mib {
     #[tactic(auto, using(crate::proofs::Counted::counts), unfolding(crate::specs::Step::delete))]
     fn delete(&mut self, request: &Request)
         requires { is_ok (delete self.old.entities request.now) ≡ true }
-        ensures { self.new ≡ record self.old { entities = left_by self.old.entities (delete self.old.entities request.now) } }
+        ensures { self.new
+            ≡ record self.old {
+              entities = left_by self.old.entities
+                  (delete self.old.entities request.now);
+            } }
     {
         self.onu_data.count();
         if let Some(class) = Class::of(request.class) {
@@ -42,7 +50,11 @@ impl Mib {
     #[tactic(auto, using(crate::proofs::Counted::counts), unfolding(crate::specs::Step::set))]
     fn set(&mut self, request: &Request)
         requires { is_ok (set self.old.entities request.now) ≡ true }
-        ensures { self.new ≡ record self.old { entities = left_by self.old.entities (set self.old.entities request.now) } }
+        ensures { self.new
+            ≡ record self.old {
+              entities = left_by self.old.entities
+                  (set self.old.entities request.now);
+            } }
     {
         if request.class == Class::OnuData.number() {
             return self.onu_data.set(request);

@@ -26,7 +26,8 @@ impl Model for Row {
 
     ghost Value = { RowFields };
 
-    ghost view = { λ r. record { class = r.class; instance = r.instance; mask = r.mask; values = r.values.items } };
+    ghost view = { λ r.
+        record { class = r.class; instance = r.instance; mask = r.mask; values = r.values.items } };
 }
 
 impl Row {

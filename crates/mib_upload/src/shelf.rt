@@ -74,7 +74,8 @@ impl Shelf {
     /// Adds the rows of the instances of a class.
     fn add_class(&mut self, mib: &Mib, class: u16)
         requires { length self.old + class_room class ≤ shelf_room }
-        ensures rows { self.new ≡ self.old ++ class_rows class (instances_of mib.now.entities class) }
+        ensures rows { self.new
+            ≡ self.old ++ class_rows class (instances_of mib.now.entities class) }
         ensures room { length self.new ≤ length self.old + class_room class }
         ensures each { All (AllFit class) (instances_of mib.now.entities class) }
     {

@@ -35,7 +35,13 @@ impl Model for Control {
 
     ghost Value = { Progress };
 
-    ghost view = { λ c. record { desk = c.desk; published = c.publisher.published; pending = c.publisher.pending; home = c.publisher.home } };
+    ghost view = { λ c.
+        record {
+          desk = c.desk;
+          published = c.publisher.published;
+          pending = c.publisher.pending;
+          home = c.publisher.home;
+        } };
 
     ghost invariant = { λ c. c.desk.mib.entities ≡ after (all_of c.publisher) };
 }
@@ -43,7 +49,8 @@ impl Model for Control {
 impl Control {
     pub(crate) fn new(desk: Desk, publisher: Publisher) -> Control
         requires { (desk ≡ start) × (publisher.published ≡ []) × (publisher.pending ≡ []) }
-        ensures { result ≡ record { desk = start; published = []; pending = []; home = publisher.home } }
+        ensures { result
+            ≡ record { desk = start; published = []; pending = []; home = publisher.home } }
     {
         Control { desk, publisher }
     }
@@ -53,13 +60,18 @@ impl Control {
     ///
     /// After a fault nothing has changed. `NoMemory` comes only for a request that is accepted: no other makes anything grow.
     pub fn message(&mut self, bytes: &[u8]) -> Result<Option<[u8; 48]>, ControlFault>
-        ensures no_request { IfErr (request_of bytes.now) (λ fault. result ≡ Err (ControlFault.Msg fault)) }
-        ensures msg { (fault : MsgFault) → IsErrOf result (ControlFault.Msg fault) → request_of bytes.now ≡ Err fault }
-        ensures answer { IfOk result (λ answer. IfOk (request_of bytes.now) (λ q. answer ≡ answer_to q (answered self.old.desk q).0)) }
-        ensures after { OnOk result (IfOk (request_of bytes.now) (λ q. self.new ≡ carried_out self.old q)) }
+        ensures no_request { IfErr (request_of bytes.now) (λ fault.
+            result ≡ Err (ControlFault.Msg fault)) }
+        ensures msg { (fault : MsgFault) → IsErrOf result (ControlFault.Msg fault)
+            → request_of bytes.now ≡ Err fault }
+        ensures answer { IfOk result (λ answer.
+            IfOk (request_of bytes.now) (λ q. answer ≡ answer_to q (answered self.old.desk q).0)) }
+        ensures after { OnOk result (IfOk (request_of bytes.now) (λ q.
+            self.new ≡ carried_out self.old q)) }
         ensures entities { OnOk result (self.new.desk.mib.entities ≡ after (accepted_of self.new)) }
         ensures err { OnErr result (self.new ≡ self.old) }
-        ensures no_memory { IsErrOf result ControlFault.NoMemory → (q : Request) × (request_of bytes.now ≡ Ok q) × (takes self.old q ≡ true) }
+        ensures no_memory { IsErrOf result ControlFault.NoMemory
+            → (q : Request) × (request_of bytes.now ≡ Ok q) × (takes self.old q ≡ true) }
     {
         let request = match read(bytes) {
             Ok(request) => request,
@@ -77,8 +89,10 @@ impl Control {
     /// Carries a request out: its reply, what it touched, and whether it is accepted. An accepted one will be in the next version
     /// that is published; it is kept for the copies first, and where there is no memory for that, nothing has changed.
     pub fn carry_out(&mut self, request: &Request) -> Result<Carried, AllocError>
-        ensures reply { IfOk result (λ carried. carried.reply ≡ (answered self.old.desk request.now).0) }
-        ensures touch { IfOk result (λ carried. carried.touch ≡ touched self.old.desk.mib request.now) }
+        ensures reply { IfOk result (λ carried.
+            carried.reply ≡ (answered self.old.desk request.now).0) }
+        ensures touch { IfOk result (λ carried.
+            carried.touch ≡ touched self.old.desk.mib request.now) }
         ensures accepted { IfOk result (λ carried. carried.accepted ≡ takes self.old request.now) }
         ensures after { OnOk result (self.new ≡ carried_out self.old request.now) }
         ensures entities { OnOk result (self.new.desk.mib.entities ≡ after (accepted_of self.new)) }
@@ -107,7 +121,8 @@ impl Control {
     /// processor again and again; it doesn't sleep. Lanes don't wait for it. (After 2^62 accepted messages it would wait for
     /// ever.)
     pub fn publish<R: Wait>(&mut self, rt: &R) -> Told
-        ensures published { self.new ≡ record self.old { published = accepted_of self.old; pending = [] } }
+        ensures published { self.new
+            ≡ record self.old { published = accepted_of self.old; pending = [] } }
         ensures entities { self.new.desk.mib.entities ≡ after self.new.published }
         ensures told { told_list result ≡ accepted_of self.old }
         ensures home { told_home result ≡ self.old.home }

@@ -45,7 +45,8 @@ impl Edition {
     pub(crate) fn shows(&self, learnt: &Beginning) -> bool
         requires { self.now.base.seen.book ≡ learnt.now.seen.book }
         ensures value { result ≡ shows self.now learnt.now }
-        ensures lists { OnTrue result ((now : _) → IsAfter self.now now → HasTrail self.now now → StartsWith now learnt.now.seen.log) }
+        ensures lists { OnTrue result ((now : _) → IsAfter self.now now → HasTrail self.now now
+            → StartsWith now learnt.now.seen.log) }
     {
         if learnt.begins(&self.base) {
             return true;

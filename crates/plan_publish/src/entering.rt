@@ -22,8 +22,12 @@ pub(crate) fn enter_with<J: Tests>(
 ) -> Result<PlanReading, PlanReader>
     requires home { (view reader.place).home ≡ Some (key_of learnt.now.seen.book) }
     requires test { J.passes ≡ (λ e. shows e learnt.now) }
-    ensures home { MatchResult result (λ r. (view r.place).home ≡ (view reader.place).home) (λ r. view r.place ≡ view reader.place) }
-    ensures holds { IfOk result (λ r. Holds (view reader.place).held learnt.now.seen.log r.part.value.live r.part.value.version (view r.place).held) }
+    ensures home { MatchResult result
+        (λ r. (view r.place).home ≡ (view reader.place).home)
+        (λ r. view r.place ≡ view reader.place) }
+    ensures holds { IfOk result (λ r.
+        Holds (view reader.place).held learnt.now.seen.log r.part.value.live r.part.value.version
+        (view r.place).held) }
 {
     let reading = match reader.enter_as::<Entering<J>>() {
         Ok(reading) => reading,

@@ -88,7 +88,8 @@ pub(crate) fn new_history() -> (Head, Beginning)
 
 impl Beginning {
     pub(crate) fn len(&self) -> u64
-        ensures { (result ≡ self.now.len) × (result ≡ length self.now.seen.log) × (result ≤ 2 ^ 62) }
+        ensures { (result ≡ self.now.len) × (result ≡ length self.now.seen.log)
+            × (result ≤ 2 ^ 62) }
     {
         self.len
     }
@@ -113,7 +114,11 @@ impl Beginning {
     pub(crate) fn begins(&self, other: &Beginning) -> bool
         requires { other.now.seen.book ≡ self.now.seen.book }
         ensures value { result ≡ nat_le self.now.len other.now.len }
-        ensures lists { MatchBool result ((length self.now.seen.log ≤ length other.now.seen.log) × StartsWith other.now.seen.log self.now.seen.log) ((length other.now.seen.log < length self.now.seen.log) × StartsWith self.now.seen.log other.now.seen.log) }
+        ensures lists { MatchBool result
+            ((length self.now.seen.log ≤ length other.now.seen.log)
+            × StartsWith other.now.seen.log self.now.seen.log)
+            ((length other.now.seen.log < length self.now.seen.log)
+            × StartsWith self.now.seen.log other.now.seen.log) }
     {
         let mut both = self.seen.again();
         both.learn(&other.seen);
@@ -127,7 +132,9 @@ impl Beginning {
     pub(crate) fn add(&mut self, head: &Head, request: &Request) -> bool
         requires { head.now ≡ head_of self.old.seen.book }
         ensures book { self.new.seen.book ≡ self.old.seen.book }
-        ensures log { MatchBool result (self.new.seen.log ≡ self.old.seen.log ++ request.now ∷ []) (self.new.seen.log ≡ self.old.seen.log) }
+        ensures log { MatchBool result
+            (self.new.seen.log ≡ self.old.seen.log ++ request.now ∷ [])
+            (self.new.seen.log ≡ self.old.seen.log) }
     {
         let len = self.len;
         if len >= MOST {

@@ -36,7 +36,8 @@ impl Lane {
 
     pub(crate) fn new(reader: PlanReader, number: u16, learnt: Beginning) -> Lane
         requires { (view reader.place).home ≡ Some (key_of learnt.seen.book) }
-        ensures { (number_of result ≡ number) × (known_by result ≡ Some (view reader.place)) × (result.learnt ≡ learnt) }
+        ensures { (number_of result ≡ number) × (known_by result ≡ Some (view reader.place))
+            × (result.learnt ≡ learnt) }
     {
         Lane {
             reader: Some(reader),
@@ -74,10 +75,12 @@ impl Lane {
     /// without being dropped. It would be `None` too where the copy didn't have all that the lane learnt, which never comes. The
     /// lane is then unchanged.
     pub fn enter(&mut self) -> Option<Held<'_>>
-        ensures* none { sem 𝓛 (RestsIfNone the_row self.entry (λ h. h.lane.ghost_name) result (λ after. IsUnchanged self.old after)) }
+        ensures* none { sem 𝓛 (RestsIfNone the_row self.entry (λ h. h.lane.ghost_name) result
+            (λ after. IsUnchanged self.old after)) }
         ensures same_reference { IfSome result (λ h. h.lane.ghost_name ≡ self.entry.ghost_name) }
         ensures lane { IfSome result (λ h. IsSameLane self.old (held_lane h)) }
-        ensures holds { IfSome result (λ h. (before : _) × (held_by self.old ≡ Some before) × Holds before (learnt_by self.old) (held_entities h) (held_version h) (held_lists h)) }
+        ensures holds { IfSome result (λ h. (before : _) × (held_by self.old ≡ Some before)
+            × Holds before (learnt_by self.old) (held_entities h) (held_version h) (held_lists h)) }
     {
         match enter_with::<Brand>(self.reader.take()?, &self.learnt) {
             Ok(reading) => Some(Guard {

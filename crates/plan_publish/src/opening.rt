@@ -23,9 +23,12 @@ const MOST_LANES: u16 = 16;
 
 /// A lane that knows which history it is of.
 fn make_lane(writer: &mut PlanWriter, number: u16, history: &Beginning) -> Result<Lane, AllocError>
-    requires { ((view writer.old.desk.place).home ≡ Some (key_of history.now.seen.book)) × (history.now.seen.log ≡ []) }
+    requires { ((view writer.old.desk.place).home ≡ Some (key_of history.now.seen.book))
+        × (history.now.seen.log ≡ []) }
     ensures lane { IfOk result (λ l. IsNew l number history.now.seen.book) }
-    ensures writer { (writer.new.desk.shown ≡ writer.old.desk.shown) × (view writer.new.desk.place ≡ view writer.old.desk.place) × (writer.new.log ≡ writer.old.log) × (writer.new.behind ≡ writer.old.behind) }
+    ensures writer { (writer.new.desk.shown ≡ writer.old.desk.shown)
+        × (view writer.new.desk.place ≡ view writer.old.desk.place)
+        × (writer.new.log ≡ writer.old.log) × (writer.new.behind ≡ writer.old.behind) }
 {
     let mut reader = writer.factory().reader()?;
     reader.learn::<Notes>(writer.tell::<Notes>());
@@ -40,9 +43,14 @@ fn make_lanes(
     history: &Beginning,
 ) -> Result<Vec<Lane>, AllocError>
     requires room { (vec_len all ≡ 0) × (lanes ≤ vec_capacity all) }
-    requires home { ((view writer.old.desk.place).home ≡ Some (key_of history.now.seen.book)) × (history.now.seen.log ≡ []) }
-    ensures lanes { IfOk result (λ all. (vec_len all ≡ lanes) × ((k : ℕ) → k < lanes → IfSome (slice_get all.items k) (λ l. IsNew l k history.now.seen.book))) }
-    ensures writer { (writer.new.desk.shown ≡ writer.old.desk.shown) × (view writer.new.desk.place ≡ view writer.old.desk.place) × (writer.new.log ≡ writer.old.log) × (writer.new.behind ≡ writer.old.behind) }
+    requires home { ((view writer.old.desk.place).home ≡ Some (key_of history.now.seen.book))
+        × (history.now.seen.log ≡ []) }
+    ensures lanes { IfOk result (λ all. (vec_len all ≡ lanes)
+        × ((k : ℕ) → k < lanes
+        → IfSome (slice_get all.items k) (λ l. IsNew l k history.now.seen.book))) }
+    ensures writer { (writer.new.desk.shown ≡ writer.old.desk.shown)
+        × (view writer.new.desk.place ≡ view writer.old.desk.place)
+        × (writer.new.log ≡ writer.old.log) × (writer.new.behind ≡ writer.old.behind) }
 {
     for number in 0..lanes {
         all.push_reserved(make_lane(writer, number, history)?);
@@ -54,8 +62,10 @@ fn make_lanes(
 fn new_writer(alloc: Global, history: &Beginning, lanes: u16) -> Result<PlanWriter, AllocError>
     requires lanes { (0 < lanes) × (lanes ≤ 16) }
     requires history { history.now.seen.log ≡ [] }
-    ensures stands { IfOk result (λ w. Stands w.desk.shown.value (view w.desk.place) (drop w.behind w.log.items)) }
-    ensures nothing { IfOk result (λ w. ((view w.desk.place).published ≡ []) × (drop w.behind w.log.items ≡ [])) }
+    ensures stands { IfOk result (λ w.
+        Stands w.desk.shown.value (view w.desk.place) (drop w.behind w.log.items)) }
+    ensures nothing { IfOk result (λ w. ((view w.desk.place).published ≡ [])
+        × (drop w.behind w.log.items ≡ [])) }
     ensures book { IfOk result (λ w. w.desk.shown.value.base.seen.book ≡ history.now.seen.book) }
 {
     let first = Edition::new(alloc, history.again())?;
@@ -71,14 +81,21 @@ fn with_lanes<R: Wait>(
     lanes: u16,
     history: &Beginning,
 ) -> Result<(PlanWriter, Vec<Lane>), AllocError>
-    requires stands { Stands writer.desk.shown.value (view writer.desk.place) (drop writer.behind writer.log.items) }
-    requires nothing { ((view writer.desk.place).published ≡ []) × (drop writer.behind writer.log.items ≡ []) × (history.now.seen.log ≡ []) }
+    requires stands { Stands writer.desk.shown.value (view writer.desk.place)
+        (drop writer.behind writer.log.items) }
+    requires nothing { ((view writer.desk.place).published ≡ [])
+        × (drop writer.behind writer.log.items ≡ []) × (history.now.seen.log ≡ []) }
     requires book { writer.desk.shown.value.base.seen.book ≡ history.now.seen.book }
     requires room { (vec_len all ≡ 0) × (lanes ≤ vec_capacity all) }
     ensures stands { IfOk result (λ t. Stands t.0.desk.shown.value (view t.0.desk.place) []) }
-    ensures nothing { IfOk result (λ t. ((view t.0.desk.place).published ≡ []) × (drop t.0.behind t.0.log.items ≡ [])) }
-    ensures home { IfOk result (λ t. ((view t.0.desk.place).home ≡ Some (key_of history.now.seen.book)) × (t.0.desk.shown.value.base.seen.book ≡ history.now.seen.book)) }
-    ensures lanes { IfOk result (λ t. (vec_len t.1 ≡ lanes) × ((k : ℕ) → k < lanes → IfSome (slice_get t.1.items k) (λ l. IsNew l k history.now.seen.book))) }
+    ensures nothing { IfOk result (λ t. ((view t.0.desk.place).published ≡ [])
+        × (drop t.0.behind t.0.log.items ≡ [])) }
+    ensures home { IfOk result (λ t. ((view t.0.desk.place).home
+        ≡ Some (key_of history.now.seen.book))
+        × (t.0.desk.shown.value.base.seen.book ≡ history.now.seen.book)) }
+    ensures lanes { IfOk result (λ t. (vec_len t.1 ≡ lanes)
+        × ((k : ℕ) → k < lanes
+        → IfSome (slice_get t.1.items k) (λ l. IsNew l k history.now.seen.book))) }
 {
     let (mut writer, ()) = publish_now(writer, rt);
     match make_lanes(&mut writer, all, lanes, history) {
@@ -102,9 +119,12 @@ fn room_for(alloc: Global, lanes: u16) -> Result<Vec<Lane>, AllocError>
 /// Opens a control with 1 to 16 lanes, with the numbers from 0. No instance is held, no request is accepted and none learnt, and
 /// the version is 0. Any other number of lanes is refused before memory is asked for.
 pub fn open<R: Wait>(rt: &R, alloc: Global, lanes: u16) -> Result<(Control, Vec<Lane>), OpenFault>
-    ensures lanes_fault { IsErrOf result (OpenFault.Lanes lanes) ↔ (¬ ((0 < lanes) × (lanes ≤ 16))) }
-    ensures control { IfOk result (λ t. t.0 ≡ record { desk = start; published = []; pending = []; home = t.0.home }) }
-    ensures lanes { IfOk result (λ t. (vec_len t.1 ≡ lanes) × ((k : ℕ) → k < lanes → IfSome (slice_get t.1.items k) (λ l. IsNew l k t.0.home))) }
+    ensures lanes_fault { IsErrOf result (OpenFault.Lanes lanes)
+        ↔ (¬ ((0 < lanes) × (lanes ≤ 16))) }
+    ensures control { IfOk result (λ t.
+        t.0 ≡ record { desk = start; published = []; pending = []; home = t.0.home }) }
+    ensures lanes { IfOk result (λ t. (vec_len t.1 ≡ lanes)
+        × ((k : ℕ) → k < lanes → IfSome (slice_get t.1.items k) (λ l. IsNew l k t.0.home))) }
 {
     if lanes < 1 || lanes > MOST_LANES {
         return Err(OpenFault::Lanes(lanes));

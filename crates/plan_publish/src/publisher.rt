@@ -38,26 +38,37 @@ impl Model for Publisher {
 
     ghost Value = { Lists };
 
-    ghost view = { λ c. record { published = (knows c.writer.desk.place).published; pending = requests_of (drop c.writer.behind c.writer.log.items); home = c.history.seen.book } };
+    ghost view = { λ c.
+        record {
+          published = (knows c.writer.desk.place).published;
+          pending = requests_of (drop c.writer.behind c.writer.log.items);
+          home = c.history.seen.book;
+        } };
 
     ghost invariant = { λ c.
-        Stands c.writer.desk.shown.value (knows c.writer.desk.place) (drop c.writer.behind c.writer.log.items)
+        Stands c.writer.desk.shown.value (knows c.writer.desk.place)
+        (drop c.writer.behind c.writer.log.items)
         × (c.writer.desk.shown.value.base.seen.book ≡ c.history.seen.book)
         × ((knows c.writer.desk.place).home ≡ Some (key_of c.history.seen.book))
-        × StartsWith ((knows c.writer.desk.place).published ++ requests_of (drop c.writer.behind c.writer.log.items)) c.history.seen.log
-        × (c.accepted ≡ version_of ((knows c.writer.desk.place).published ++ requests_of (drop c.writer.behind c.writer.log.items)))
+        × StartsWith ((knows c.writer.desk.place).published
+        ++ requests_of (drop c.writer.behind c.writer.log.items)) c.history.seen.log
+        × (c.accepted ≡ version_of ((knows c.writer.desk.place).published
+        ++ requests_of (drop c.writer.behind c.writer.log.items)))
         × (c.head ≡ head_of c.history.seen.book) };
 }
 
 /// Publishes the requests that the type names, which are all pending ones.
 fn publish_pending<J: Pending, R: Wait>(rt: &R, writer: PlanWriter) -> PlanWriter
-    requires stands { Stands writer.desk.shown.value (view writer.desk.place) (drop writer.behind writer.log.items) }
+    requires stands { Stands writer.desk.shown.value (view writer.desk.place)
+        (drop writer.behind writer.log.items) }
     requires pending { requests_of (drop writer.behind writer.log.items) ≡ J.pending }
-    ensures published { (view result.desk.place).published ≡ (view writer.desk.place).published ++ J.pending }
+    ensures published { (view result.desk.place).published
+        ≡ (view writer.desk.place).published ++ J.pending }
     ensures stands { Stands result.desk.shown.value (view result.desk.place) [] }
     ensures pending { drop result.behind result.log.items ≡ [] }
     ensures book { result.desk.shown.value.base.seen.book ≡ writer.desk.shown.value.base.seen.book }
-    ensures home { (view result.desk.place).home ≡ Some (key_of result.desk.shown.value.base.seen.book) }
+    ensures home { (view result.desk.place).home
+        ≡ Some (key_of result.desk.shown.value.base.seen.book) }
 {
     let (writer, done) = writer.publish_as::<Publishing<J>, R>(rt);
     match done {
@@ -68,12 +79,16 @@ fn publish_pending<J: Pending, R: Wait>(rt: &R, writer: PlanWriter) -> PlanWrite
 
 /// Publishes all pending requests.
 pub(crate) fn publish_now<R: Wait>(writer: PlanWriter, rt: &R) -> (PlanWriter, ())
-    requires { Stands writer.desk.shown.value (view writer.desk.place) (drop writer.behind writer.log.items) }
-    ensures published { (view result.0.desk.place).published ≡ (view writer.desk.place).published ++ requests_of (drop writer.behind writer.log.items) }
+    requires { Stands writer.desk.shown.value (view writer.desk.place)
+        (drop writer.behind writer.log.items) }
+    ensures published { (view result.0.desk.place).published
+        ≡ (view writer.desk.place).published ++ requests_of (drop writer.behind writer.log.items) }
     ensures stands { Stands result.0.desk.shown.value (view result.0.desk.place) [] }
     ensures pending { drop result.0.behind result.0.log.items ≡ [] }
-    ensures book { result.0.desk.shown.value.base.seen.book ≡ writer.desk.shown.value.base.seen.book }
-    ensures home { (view result.0.desk.place).home ≡ Some (key_of result.0.desk.shown.value.base.seen.book) }
+    ensures book { result.0.desk.shown.value.base.seen.book
+        ≡ writer.desk.shown.value.base.seen.book }
+    ensures home { (view result.0.desk.place).home
+        ≡ Some (key_of result.0.desk.shown.value.base.seen.book) }
 {
     (publish_pending::<Brand, R>(rt, writer), ())
 }
@@ -92,7 +107,8 @@ fn rule_out<R: Wait>(rt: &R, wrong: bool)
 fn follow(history: &mut Beginning, head: &Head, accepted: u64, request: &Request)
     requires { head.now ≡ head_of history.old.seen.book }
     ensures book { history.new.seen.book ≡ history.old.seen.book }
-    ensures log { (all : _) → StartsWith all history.old.seen.log → accepted ≡ version_of all → StartsWith (all ++ request.now ∷ []) history.new.seen.log }
+    ensures log { (all : _) → StartsWith all history.old.seen.log → accepted ≡ version_of all
+        → StartsWith (all ++ request.now ∷ []) history.new.seen.log }
 {
     if history.len() == accepted {
         history.add(head, request);
@@ -102,9 +118,13 @@ fn follow(history: &mut Beginning, head: &Head, accepted: u64, request: &Request
 impl Publisher {
     pub(crate) fn new(writer: PlanWriter, head: Head, history: Beginning) -> Publisher
         requires stands { Stands writer.desk.shown.value (view writer.desk.place) [] }
-        requires nothing { ((view writer.desk.place).published ≡ []) × (drop writer.behind writer.log.items ≡ []) × (history.seen.log ≡ []) }
-        requires home { ((view writer.desk.place).home ≡ Some (key_of history.seen.book)) × (head ≡ head_of history.seen.book) × (writer.desk.shown.value.base.seen.book ≡ history.seen.book) }
-        ensures { (result.published ≡ []) × (result.pending ≡ []) × (result.home ≡ history.seen.book) }
+        requires nothing { ((view writer.desk.place).published ≡ [])
+            × (drop writer.behind writer.log.items ≡ []) × (history.seen.log ≡ []) }
+        requires home { ((view writer.desk.place).home ≡ Some (key_of history.seen.book))
+            × (head ≡ head_of history.seen.book)
+            × (writer.desk.shown.value.base.seen.book ≡ history.seen.book) }
+        ensures { (result.published ≡ []) × (result.pending ≡ [])
+            × (result.home ≡ history.seen.book) }
     {
         Publisher {
             writer,
@@ -123,7 +143,8 @@ impl Publisher {
 
     /// A request is accepted.
     pub(crate) fn accept(&mut self, request: &Request) -> Result<(), AllocError>
-        ensures accepted { OnOk result (self.new ≡ record self.old { pending = self.old.pending ++ request.now ∷ [] }) }
+        ensures accepted { OnOk result (self.new
+            ≡ record self.old { pending = self.old.pending ++ request.now ∷ [] }) }
         ensures err { OnErr result (self.new ≡ self.old) }
     {
         let operation = Accepted {
@@ -141,7 +162,8 @@ impl Publisher {
     /// Publishes all pending requests, and gives all that are published. It waits for lanes that hold the copy from before the
     /// last call.
     pub(crate) fn publish<R: Wait>(&mut self, rt: &R) -> Beginning
-        ensures published { self.new ≡ record self.old { published = all_of self.old; pending = [] } }
+        ensures published { self.new
+            ≡ record self.old { published = all_of self.old; pending = [] } }
         ensures told { (result.seen.log ≡ all_of self.old) × (result.seen.book ≡ self.old.home) }
     {
         rule_out(rt, self.history.len() != self.accepted);

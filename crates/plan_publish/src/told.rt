@@ -13,7 +13,8 @@ pub struct Told {
 
 impl Told {
     pub(crate) fn new(published: Beginning) -> Told
-        ensures { (told_list result ≡ published.seen.log) × (told_home result ≡ published.seen.book) }
+        ensures { (told_list result ≡ published.seen.log)
+            × (told_home result ≡ published.seen.book) }
     {
         Told { published }
     }

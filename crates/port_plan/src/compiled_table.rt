@@ -48,7 +48,12 @@ impl Model for CompiledTable {
 
     ghost Value = { TablePlan };
 
-    ghost view = { λ t. record { table = record { settings = t.settings; entries = t.index }; uses_dscp = t.uses_dscp } };
+    ghost view = { λ t.
+        record {
+          table = record { settings = t.settings; entries = t.index };
+          uses_dscp =
+              t.uses_dscp;
+        } };
 
     ghost invariant = { λ t.
         (table_max_size ≤ vec_capacity t.treats)
@@ -175,9 +180,12 @@ impl CompiledTable {
     pub(crate) fn treat(&self, head: &Head) -> Result<&Treat, Reason>
         ensures treat { IfOk result (λ treat. (frame : Reading) → head_of frame ≡ head.now
             → (entry : List ℕ) × (entry_for self.now.table frame ≡ Some entry)
-            × Treats (treatment_of entry) self.now.table.settings (length frame.tags) (Some treat.now)) }
-        ensures dscp { IfOk result (λ treat. self.now.uses_dscp ≡ false → asks_dscp treat.now ≡ false) }
-        ensures reason { IfErr result (λ reason. (frame : Reading) → head_of frame ≡ head.now → All IsInRange frame.tags
+            × Treats (treatment_of entry) self.now.table.settings (length frame.tags)
+            (Some treat.now)) }
+        ensures dscp { IfOk result (λ treat. self.now.uses_dscp ≡ false
+            → asks_dscp treat.now ≡ false) }
+        ensures reason { IfErr result (λ reason. (frame : Reading) → head_of frame ≡ head.now
+            → All IsInRange frame.tags
             → tags_by self.now.table frame ≡ Err reason) }
     {
         match self
@@ -204,7 +212,8 @@ impl CompiledTable {
 
 /// What the entries of a configuration are applied with.
 fn settings_in(vlan: &VlanConfig) -> TableSettings
-    ensures { (n : ℕ) → record { settings = result; entries = vlan.now.table } ≡ table_of (vlan_instance n vlan.now) }
+    ensures { (n : ℕ) → record { settings = result; entries = vlan.now.table }
+        ≡ table_of (vlan_instance n vlan.now) }
 {
     let settings = &vlan.settings;
     settings_of(settings.input_tpid, settings.output_tpid, settings.dscp_map)
@@ -245,11 +254,14 @@ fn compile_treat(
     rules: &RuleTable,
 ) -> bool
     requires index { index.now ≡ rules.now }
-    ensures treats { (entries : List (List ℕ)) → IsTreated entries rules.now number → AreTreats settings.now entries treats.old.items
+    ensures treats { (entries : List (List ℕ)) → IsTreated entries rules.now number
+        → AreTreats settings.now entries treats.old.items
         → AreTreats settings.now rules.now treats.new.items }
     ensures room { vec_capacity treats.new ≡ vec_capacity treats.old }
-    ensures none { (asked ≡ false → NoneAsks treats.old.items) → result ≡ false → NoneAsks treats.new.items }
-    ensures some { (asked ≡ true → SomeAsks treats.old.items) → result ≡ true → SomeAsks treats.new.items }
+    ensures none { (asked ≡ false → NoneAsks treats.old.items) → result ≡ false
+        → NoneAsks treats.new.items }
+    ensures some { (asked ≡ true → SomeAsks treats.old.items) → result ≡ true
+        → SomeAsks treats.new.items }
 {
     let Some(place) = index.order(number) else {
         return asked;
@@ -283,8 +295,10 @@ fn insert_treat(
         → IsOneMore entries rules.now place number → AreTreats settings.now entries treats.old.items
         → AreTreats settings.now rules.now treats.new.items }
     ensures room { table_max_size ≤ vec_capacity treats.new }
-    ensures none { (asked ≡ false → NoneAsks treats.old.items) → result ≡ false → NoneAsks treats.new.items }
-    ensures some { (asked ≡ true → SomeAsks treats.old.items) → result ≡ true → SomeAsks treats.new.items }
+    ensures none { (asked ≡ false → NoneAsks treats.old.items) → result ≡ false
+        → NoneAsks treats.new.items }
+    ensures some { (asked ≡ true → SomeAsks treats.old.items) → result ≡ true
+        → SomeAsks treats.new.items }
 {
     let at = usize::from(number);
     if treats.len() < at {
@@ -309,8 +323,10 @@ fn remove_treat(treats: &mut Vec<Option<Treat>>, asked: bool, number: u8) -> boo
         → IsOneMore new old place number → AreTreats settings old treats.old.items
         → AreTreats settings new treats.new.items }
     ensures room { vec_capacity treats.new ≡ vec_capacity treats.old }
-    ensures none { (asked ≡ false → NoneAsks treats.old.items) → result ≡ false → NoneAsks treats.new.items }
-    ensures some { (asked ≡ true → SomeAsks treats.old.items) → result ≡ true → SomeAsks treats.new.items }
+    ensures none { (asked ≡ false → NoneAsks treats.old.items) → result ≡ false
+        → NoneAsks treats.new.items }
+    ensures some { (asked ≡ true → SomeAsks treats.old.items) → result ≡ true
+        → SomeAsks treats.new.items }
 {
     let at = usize::from(number);
     if treats.len() <= at {
@@ -323,7 +339,8 @@ fn remove_treat(treats: &mut Vec<Option<Treat>>, asked: bool, number: u8) -> boo
 /// Whether some treatment asks for the DSCP of a frame, where one that was compiled again does or doesn't, and some treatment did
 /// before or none.
 fn still_asks(asks: bool, asked: bool, treats: &[Option<Treat>]) -> bool
-    ensures none { (asks ≡ false → asked ≡ false → NoneAsks treats.now) → result ≡ false → NoneAsks treats.now }
+    ensures none { (asks ≡ false → asked ≡ false → NoneAsks treats.now) → result ≡ false
+        → NoneAsks treats.now }
     ensures some { (asks ≡ true → SomeAsks treats.now) → result ≡ true → SomeAsks treats.now }
 {
     asks || asked && any_asks(treats)

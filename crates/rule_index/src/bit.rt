@@ -2,7 +2,7 @@
 ghost use Rattle.std.specs.Prelude.{◌≡◌, ◌≤◌, ◌<◌, ◌^◌, ◌||◌, ◌==◌, ℕ, length, slice_set, slice_index_or, bit_or};
 ghost use Rattle.rule_index.specs.Masks.{with_bit, without_bit};
 
-// The bit of a place in the order.
+/// The bit of a place in the order.
 pub(crate) fn bit(place: usize) -> u128
     requires { place < 128 }
     ensures { result ≡ 2 ^ place }
@@ -10,16 +10,17 @@ pub(crate) fn bit(place: usize) -> u128
     1 << place
 }
 
-// Sets a bit in the mask of a key.
+/// Sets a bit in the mask of a key.
 pub(crate) fn set_bit(masks: &mut [u128], key: usize, place: usize)
     requires key { key < length masks.old }
     requires place { place < 128 }
-    ensures { masks.new ≡ slice_set masks.old key (bit_or (slice_index_or masks.old key 0) (2 ^ place)) }
+    ensures { masks.new
+        ≡ slice_set masks.old key (bit_or (slice_index_or masks.old key 0) (2 ^ place)) }
 {
     masks[key] |= bit(place);
 }
 
-// A mask with one bit more at a place: the bits from there on move up by one.
+/// A mask with one bit more at a place: the bits from there on move up by one.
 fn with_bit(mask: u128, place: usize, set: bool) -> u128
     requires { place < 128 }
     ensures { result ≡ with_bit place set mask }
@@ -33,7 +34,7 @@ fn with_bit(mask: u128, place: usize, set: bool) -> u128
     }
 }
 
-// A mask without the bit at a place: the bits behind it move down by one.
+/// A mask without the bit at a place: the bits behind it move down by one.
 fn without_bit(mask: u128, place: usize) -> u128
     requires { place < 128 }
     ensures { result ≡ without_bit place mask }
@@ -43,14 +44,14 @@ fn without_bit(mask: u128, place: usize) -> u128
     (mask & below) + (half - (half & below))
 }
 
-// Whether a bit is set: in all masks, or in that of a key alone.
+/// Whether a bit is set: in all masks, or in that of a key alone.
 fn is_set(all: bool, key: usize, mask: usize) -> bool
     ensures { result ≡ (all || key == mask) }
 {
     all || key == mask
 }
 
-// Gives the first masks one bit more at a place, which is set in all of them or in that of a key.
+/// Gives the first masks one bit more at a place, which is set in all of them or in that of a key.
 pub(crate) fn insert_bits(masks: &mut [u128], count: usize, place: usize, all: bool, key: usize)
     requires count { count ≤ length masks.old }
     requires place { place < 128 }
@@ -63,7 +64,7 @@ pub(crate) fn insert_bits(masks: &mut [u128], count: usize, place: usize, all: b
     }
 }
 
-// Takes the bit at a place out of the first masks.
+/// Takes the bit at a place out of the first masks.
 pub(crate) fn remove_bits(masks: &mut [u128], count: usize, place: usize)
     requires count { count ≤ length masks.old }
     requires place { place < 128 }

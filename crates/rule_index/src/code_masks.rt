@@ -9,7 +9,7 @@ ghost use Rattle.rule_index.specs.Codes.{joined_code, joined_priority, joined_tp
 use crate::bit::{insert_bits, remove_bits, set_bit};
 use vlan_rule::{PriorityFilter, TagFilter, TpidFilter};
 
-// The key of a filter for a priority.
+/// The key of a filter for a priority.
 fn priority_key(filter: PriorityFilter) -> usize
     ensures value { result ≡ priority_key filter }
     ensures bound { result < 10 }
@@ -21,7 +21,7 @@ fn priority_key(filter: PriorityFilter) -> usize
     }
 }
 
-// The key of a filter for a TPID and a DEI.
+/// The key of a filter for a TPID and a DEI.
 fn tpid_key(filter: TpidFilter) -> usize
     ensures value { result ≡ tpid_key filter }
     ensures bound { result < 5 }
@@ -35,8 +35,8 @@ fn tpid_key(filter: TpidFilter) -> usize
     }
 }
 
-// The code of the tag of a word: its TPID by whether it is 0x8100 and whether it is the input TPID, its
-// priority and its DEI.
+/// The code of the tag of a word: its TPID by whether it is 0x8100 and whether it is the input TPID, its
+/// priority and its DEI.
 #[inline(always)]
 pub(crate) fn code_of(tag: u32, input_tpid: u16) -> usize
     ensures value { result ≡ code_of input_tpid (tag_of tag) }
@@ -47,14 +47,14 @@ pub(crate) fn code_of(tag: u32, input_tpid: u16) -> usize
         + (tag >> 12 & 15) as usize
 }
 
-// A mask, or that of no entry.
+/// A mask, or that of no entry.
 fn only_if(condition: bool, mask: u128) -> u128
     ensures { result ≡ only_if condition mask }
 {
     if condition { mask } else { 0 }
 }
 
-// The mask of a TPID and a DEI from those by key.
+/// The mask of a TPID and a DEI from those by key.
 fn joined_tpid(masks: &[u128; 5], standard: bool, input: bool, dei: bool) -> u128
     ensures { result ≡ joined_tpid masks.now standard input dei }
 {
@@ -65,10 +65,11 @@ fn joined_tpid(masks: &[u128; 5], standard: bool, input: bool, dei: bool) -> u12
         | only_if(input && dei, masks[4])
 }
 
-// The masks of each TPID and DEI: those of a code from its bits 5, 4 and 0.
+/// The masks of each TPID and DEI: those of a code from its bits 5, 4 and 0.
 fn joined_tpids(masks: &[u128; 5]) -> [u128; 8]
     ensures { (k : ℕ) → k < 8
-        → slice_index_or result k 0 ≡ joined_tpid masks.now (k / 4 == 1) (k / 2 % 2 == 1) (k % 2 == 1) }
+        → slice_index_or result k 0
+        ≡ joined_tpid masks.now (k / 4 == 1) (k / 2 % 2 == 1) (k % 2 == 1) }
 {
     let mut joined = [0; 8];
     for k in 0..8 {
@@ -77,7 +78,7 @@ fn joined_tpids(masks: &[u128; 5]) -> [u128; 8]
     joined
 }
 
-// A mask for each code of a tag, joined from masks by priority and by TPID and DEI.
+/// A mask for each code of a tag, joined from masks by priority and by TPID and DEI.
 #[derive(Clone, Copy)]
 pub(crate) struct CodeMasks {
     priorities: [u128; 10],
@@ -85,7 +86,7 @@ pub(crate) struct CodeMasks {
     codes: [u128; 64],
 }
 
-// No filter.
+/// No filter.
 pub(crate) const NO_CODES: CodeMasks = CodeMasks {
     priorities: [0; 10],
     tpids: [0; 5],
@@ -102,7 +103,7 @@ impl CodeMasks {
         self.tpids = [0; 5];
     }
 
-    // One filter more, which has a place in the order.
+    /// One filter more, which has a place in the order.
     pub(crate) fn add(&mut self, filter: TagFilter, place: usize)
         requires place { place < 128 }
         ensures { (filters : List TagFilter) → length filters ≡ place
@@ -112,7 +113,7 @@ impl CodeMasks {
         set_bit(&mut self.tpids, tpid_key(filter.tpid), place);
     }
 
-    // A filter that comes to a place in the order, before those from there on.
+    /// A filter that comes to a place in the order, before those from there on.
     pub(crate) fn insert(&mut self, filter: TagFilter, place: usize)
         requires place { place < 128 }
         ensures { (before after : List TagFilter) → IsBetween before after place
@@ -124,7 +125,7 @@ impl CodeMasks {
         insert_bits(&mut self.tpids, 5, place, false, tpid_key(filter.tpid));
     }
 
-    // The filter at a place in the order goes.
+    /// The filter at a place in the order goes.
     pub(crate) fn remove(&mut self, place: usize)
         requires place { place < 128 }
         ensures { (before after : List TagFilter) (filter : TagFilter) → length before ≡ place
@@ -135,7 +136,7 @@ impl CodeMasks {
         remove_bits(&mut self.tpids, 5, place);
     }
 
-    // All filters are added.
+    /// All filters are added.
     pub(crate) fn finish(&mut self)
         ensures keys { (filters : List TagFilter)
             → IsCodeGrouping self.old filters → IsCodeGrouping self.new filters }
@@ -152,7 +153,7 @@ impl CodeMasks {
         }
     }
 
-    // The mask of the tag of a word.
+    /// The mask of the tag of a word.
     #[inline(always)]
     pub(crate) fn mask(&self, tag: u32, input_tpid: u16) -> u128
         ensures { result ≡ slice_index_or self.now.codes (code_of input_tpid (tag_of tag)) 0 }

@@ -8,11 +8,12 @@ ghost use Rattle.rule_index.specs.Order.{IsAlike};
 use byteorder::{BigEndian, ByteOrder};
 use vlan_rule::{Entry, RuleTable};
 
-// Copies the entries of a table from a place on, before which they are the same.
+/// Copies the entries of a table from a place on, before which they are the same.
 pub(crate) fn copy_entries(entries: &mut Vec<Entry>, table: &RuleTable, from: usize)
     requires room { table_max_size ≤ vec_capacity entries.old }
     requires within { (from ≤ length entries.old.items) × (from ≤ length table.now) }
-    requires same { (k : ℕ) → k < from → entry_at (map (λ entry. entry.0) entries.old.items) k ≡ entry_at table.now k }
+    requires same { (k : ℕ) → k < from → entry_at (map (λ entry. entry.0) entries.old.items) k
+        ≡ entry_at table.now k }
     ensures entries { map (λ entry. entry.0) entries.new.items ≡ table.now }
     ensures room { vec_capacity entries.new ≡ vec_capacity entries.old }
     ensures limit { length table.now ≤ table_max_size }
@@ -25,10 +26,11 @@ pub(crate) fn copy_entries(entries: &mut Vec<Entry>, table: &RuleTable, from: us
     }
 }
 
-// The first place, from one on, at which a table has another entry than these, or the length of the shorter
-// of both.
+/// The first place, from one on, at which a table has another entry than these, or the length of the shorter
+/// of both.
 pub(crate) fn first_other(entries: &[Entry], table: &RuleTable, from: usize) -> usize
-    ensures same { (k : ℕ) → from ≤ k → k < result → entry_at (map (λ entry. entry.0) entries.now) k ≡ entry_at table.now k }
+    ensures same { (k : ℕ) → from ≤ k → k < result
+        → entry_at (map (λ entry. entry.0) entries.now) k ≡ entry_at table.now k }
     ensures within { (result ≤ length entries.now) × (result ≤ length table.now) }
 {
     let len = entries.len().min(table.len());
@@ -42,9 +44,10 @@ pub(crate) fn first_other(entries: &[Entry], table: &RuleTable, from: usize) -> 
     len
 }
 
-// The entry at a place of a table, where it differs from these in this entry's treatment alone.
+/// The entry at a place of a table, where it differs from these in this entry's treatment alone.
 pub(crate) fn other_treatment(entries: &[Entry], table: &RuleTable, place: usize) -> Option<Entry>
-    requires { (k : ℕ) → k < place → entry_at (map (λ entry. entry.0) entries.now) k ≡ entry_at table.now k }
+    requires { (k : ℕ) → k < place → entry_at (map (λ entry. entry.0) entries.now) k
+        ≡ entry_at table.now k }
     ensures { IfSome result (λ entry. (place < length entries.now)
         × IsAlike (entry_at (map (λ e. e.0) entries.now) place) entry.0
         × (table.now ≡ slice_set (map (λ e. e.0) entries.now) place entry.0)) }
@@ -64,7 +67,7 @@ pub(crate) fn other_treatment(entries: &[Entry], table: &RuleTable, place: usize
     Some(entry)
 }
 
-// Whether a table has all of these entries but that at a place, before which they are the same.
+/// Whether a table has all of these entries but that at a place, before which they are the same.
 pub(crate) fn is_without(entries: &[Entry], table: &RuleTable, place: usize) -> bool
     requires within { place ≤ length table.now }
     requires same { (k : ℕ) → k < place
@@ -78,7 +81,7 @@ pub(crate) fn is_without(entries: &[Entry], table: &RuleTable, place: usize) -> 
     first_other(&entries[1..], table, place) == table.len()
 }
 
-// Whether the bytes of two entries begin with one key.
+/// Whether the bytes of two entries begin with one key.
 fn have_one_key(one: &[u8], other: &[u8]) -> bool
     requires one { length one.now ≡ 16 }
     requires other { length other.now ≡ 16 }
@@ -87,7 +90,7 @@ fn have_one_key(one: &[u8], other: &[u8]) -> bool
     BigEndian::read_u64(one) == BigEndian::read_u64(other)
 }
 
-// Whether two entries have the same bytes.
+/// Whether two entries have the same bytes.
 fn are_equal(one: &[u8], other: &[u8]) -> bool
     requires one { length one.now ≡ 16 }
     requires other { length other.now ≡ 16 }

@@ -98,8 +98,8 @@ impl Index {
         Followed::Rebuilt
     }
 
-    // Takes the entry that a table has behind all of the index, where there is one alone and a class for its
-    // VIDs, and gives its number.
+    /// Takes the entry that a table has behind all of the index, where there is one alone and a class for its
+    /// VIDs, and gives its number.
     fn follow_added(&mut self, table: &RuleTable) -> Option<u8>
         requires { (k : ℕ) → k < length self.old → entry_at self.old k ≡ entry_at table.now k }
         ensures { MatchOption result (self.new ≡ self.old)
@@ -125,8 +125,8 @@ impl Index {
         Some(number as u8)
     }
 
-    // Lets the entry at a place go, where a table has all of the index but this, and gives the number that it
-    // had.
+    /// Lets the entry at a place go, where a table has all of the index but this, and gives the number that it
+    /// had.
     fn follow_deleted(&mut self, table: &RuleTable, place: usize) -> Option<u8>
         requires within { place ≤ length table.now }
         requires same { (k : ℕ) → k < place → entry_at self.old k ≡ entry_at table.now k }
@@ -145,8 +145,8 @@ impl Index {
         Some(number)
     }
 
-    // Takes the entries of a table from a place on, before which they are the same, and makes order and masks
-    // of all of them.
+    /// Takes the entries of a table from a place on, before which they are the same, and makes order and masks
+    /// of all of them.
     fn compile_from(&mut self, table: &RuleTable, from: usize)
         requires within { (from ≤ length self.old) × (from ≤ length table.now) }
         requires same { (k : ℕ) → k < from → entry_at self.old k ≡ entry_at table.now k }
@@ -161,8 +161,10 @@ impl Index {
     /// The place of the entry that is used for a frame, or None where none matches it: of those that match,
     /// the first of least rank. It takes no memory, and the same time whatever the entries are.
     pub fn find(&self, frame: &FrameView<'_>, input_tpid: u16) -> Option<usize>
-        ensures used { IsChoice (matches input_tpid frame.now.tags (type_at 0 frame.now.rest)) self.now result }
-        ensures computed { result ≡ choice (matches input_tpid frame.now.tags (type_at 0 frame.now.rest)) self.now }
+        ensures used { IsChoice (matches input_tpid frame.now.tags (type_at 0 frame.now.rest))
+            self.now result }
+        ensures computed { result
+            ≡ choice (matches input_tpid frame.now.tags (type_at 0 frame.now.rest)) self.now }
     {
         place_at(&self.rows, self.number(&Head::of(frame), input_tpid))
     }
@@ -172,7 +174,8 @@ impl Index {
     /// `order` of it.
     #[inline(always)]
     pub fn number(&self, head: &Head, input_tpid: u16) -> usize
-        ensures used { slice_get (order_of self.now) result ≡ choice (matches input_tpid head.now.tags head.now.type) self.now }
+        ensures used { slice_get (order_of self.now) result
+            ≡ choice (matches input_tpid head.now.tags head.now.type) self.now }
         ensures none { choice (matches input_tpid head.now.tags head.now.type) self.now ≡ None
             → result ≡ 128 }
         ensures limit { result ≤ 128 }

@@ -8,19 +8,19 @@ ghost use Rattle.rule_index.specs.Kinds.{joined_kind, AreKinds, AreTags, AreType
 use crate::bit::{insert_bits, remove_bits, set_bit};
 use crate::row::Row;
 
-// The types that filters ask for, each at its place. No two have the same.
+/// The types that filters ask for, each at its place. No two have the same.
 static TYPES: [u16; 32] = [
     0, 0, 0, 0, 0, 0, 0x888e, 0, 0x0800, 0, 0, 0x8863, 0x8864, 0, 0x0806, 0, 0, 0, 0, 0, 0, 0, 0,
     0, 0, 0, 0, 0x86dd, 0, 0, 0, 0,
 ];
 
-// The class of the type at each place.
+/// The class of the type at each place.
 static CLASSES: [u8; 32] = [
     0, 0, 0, 0, 0, 0, 5, 0, 1, 0, 0, 2, 2, 0, 3, 0, 0, 0, 0, 0, 0, 0, 0, 0, 0, 0, 0, 4, 0, 0, 0, 0,
 ];
 
-// The class of a type: the key of the filter that asks for it, or 0, as for a type that isn't at its place.
-// It has no branch, for types come in no order that a processor could foresee.
+/// The class of a type: the key of the filter that asks for it, or 0, as for a type that isn't at its place.
+/// It has no branch, for types come in no order that a processor could foresee.
 #[inline(always)]
 pub(crate) fn type_class(ethertype: u16) -> usize
     ensures value { result ≡ type_class ethertype }
@@ -30,7 +30,7 @@ pub(crate) fn type_class(ethertype: u16) -> usize
     usize::from(CLASSES[place]) * usize::from(TYPES[place] == ethertype)
 }
 
-// A mask for each number of tags and class of types, joined from masks by either.
+/// A mask for each number of tags and class of types, joined from masks by either.
 #[derive(Clone, Copy)]
 pub(crate) struct KindMasks {
     tags: [u128; 3],
@@ -38,7 +38,7 @@ pub(crate) struct KindMasks {
     joined: [u128; 18],
 }
 
-// No row.
+/// No row.
 pub(crate) const NO_KINDS: KindMasks = KindMasks {
     tags: [0; 3],
     types: [0; 6],
@@ -54,7 +54,7 @@ impl KindMasks {
         self.types = [0; 6];
     }
 
-    // One row more, which has a place in the order.
+    /// One row more, which has a place in the order.
     pub(crate) fn add(&mut self, row: &Row, place: usize)
         requires place { place < 128 }
         ensures tags { (rows : List Row) → length rows ≡ place
@@ -66,7 +66,7 @@ impl KindMasks {
         set_bit(&mut self.types, row.type_key(), place);
     }
 
-    // A row that comes to a place in the order, before those from there on.
+    /// A row that comes to a place in the order, before those from there on.
     pub(crate) fn insert(&mut self, row: &Row, place: usize)
         requires place { place < 128 }
         ensures tags { (before after : List Row) → IsBetween before after place
@@ -80,7 +80,7 @@ impl KindMasks {
         insert_bits(&mut self.types, 6, place, false, row.type_key());
     }
 
-    // The row at a place in the order goes.
+    /// The row at a place in the order goes.
     pub(crate) fn remove(&mut self, place: usize)
         requires place { place < 128 }
         ensures tags { (before after : List Row) (row : Row) → length before ≡ place
@@ -94,11 +94,12 @@ impl KindMasks {
         remove_bits(&mut self.types, 6, place);
     }
 
-    // All rows are added.
+    /// All rows are added.
     pub(crate) fn finish(&mut self)
         ensures tags { self.new.tags ≡ self.old.tags }
         ensures types { self.new.types ≡ self.old.types }
-        ensures kinds { (rows : List Row) → AreTags self.old.tags rows → AreTypes self.old.types rows
+        ensures kinds { (rows : List Row) → AreTags self.old.tags rows
+            → AreTypes self.old.types rows
             → AreKinds self.new.joined rows }
     {
         for k in 0..18 {
@@ -106,7 +107,7 @@ impl KindMasks {
         }
     }
 
-    // The mask of a number of tags and a class.
+    /// The mask of a number of tags and a class.
     #[inline(always)]
     pub(crate) fn mask(&self, tags: usize, class: usize) -> u128
         requires tags { tags ≤ 2 }
@@ -116,7 +117,7 @@ impl KindMasks {
         self.joined[tags * 6 + class]
     }
 
-    // The mask of a number of tags.
+    /// The mask of a number of tags.
     pub(crate) fn tag_mask(&self, tags: usize) -> u128
         requires { tags ≤ 2 }
         ensures { result ≡ slice_index_or self.now.tags tags 0 }

@@ -11,7 +11,7 @@ use crate::row::Row;
 use crate::tag_masks::TagMasks;
 use std::alloc::{AllocError, Global};
 
-// The masks of an index: a mask for each value of each field.
+/// The masks of an index: a mask for each value of each field.
 #[derive(Drop)]
 pub(crate) struct Masks {
     kinds: KindMasks,
@@ -30,7 +30,7 @@ impl Masks {
         })
     }
 
-    // The masks of some rows.
+    /// The masks of some rows.
     pub(crate) fn rebuild(&mut self, rows: &[Row])
         requires { length rows.now ≤ 128 }
         ensures { IsBuilt self.new rows.now }
@@ -41,7 +41,7 @@ impl Masks {
         self.inner.finish();
     }
 
-    // Sets the bits of some rows.
+    /// Sets the bits of some rows.
     fn group(&mut self, rows: &[Row])
         requires { length rows.now ≤ 128 }
         ensures { IsGrouping self.new rows.now }
@@ -57,7 +57,7 @@ impl Masks {
         }
     }
 
-    // A row that comes to a place in the order, before those from there on.
+    /// A row that comes to a place in the order, before those from there on.
     pub(crate) fn insert(&mut self, row: &Row, place: usize)
         requires place { place < 128 }
         requires outer { self.old.outer.vids.named < 128 }
@@ -71,7 +71,7 @@ impl Masks {
         self.inner.insert(row.inner(), place);
     }
 
-    // The row at a place in the order goes.
+    /// The row at a place in the order goes.
     pub(crate) fn remove(&mut self, place: usize)
         requires { place < 128 }
         ensures { (before after : List Row) (row : Row) → length before ≡ place
@@ -83,7 +83,7 @@ impl Masks {
         self.inner.remove(place);
     }
 
-    // Whether there is a class for one VID more of each tag.
+    /// Whether there is a class for one VID more of each tag.
     pub(crate) fn has_room(&self) -> bool
         ensures outer { IsTrue result → self.now.outer.vids.named < 128 }
         ensures inner { IsTrue result → self.now.inner.vids.named < 128 }
@@ -91,12 +91,13 @@ impl Masks {
         self.outer.has_room() && self.inner.has_room()
     }
 
-    // The mask of the rows that are for a frame with this head, joined from those of the tags that it has.
-    // Inlined where the number of tags is known, only its arm is left.
+    /// The mask of the rows that are for a frame with this head, joined from those of the tags that it has.
+    /// Inlined where the number of tags is known, only its arm is left.
     #[inline(always)]
     pub(crate) fn mask(&self, head: &Head, input_tpid: u16) -> u128
         ensures { (rows : List Row) → IsBuilt self.now rows
-            → result ≡ mask_of (λ row. row_matches input_tpid head.now.tags head.now.type row) rows }
+            → result ≡ mask_of (λ row.
+            row_matches input_tpid head.now.tags head.now.type row) rows }
     {
         let class = type_class(head.ethertype);
         match head.tags {
@@ -110,7 +111,7 @@ impl Masks {
         }
     }
 
-    // The mask of the rows of a number of tags.
+    /// The mask of the rows of a number of tags.
     pub(crate) fn tag_mask(&self, tags: usize) -> u128
         requires { tags ≤ 2 }
         ensures { (rows : List Row) → IsBuilt self.now rows
@@ -119,7 +120,7 @@ impl Masks {
         self.kinds.tag_mask(tags)
     }
 
-    // The mask of the rows that admit an inner VID.
+    /// The mask of the rows that admit an inner VID.
     pub(crate) fn inner_vid_mask(&self, vid: u16) -> u128
         requires { vid < 4096 }
         ensures { (rows : List Row) → IsBuilt self.now rows

@@ -3,7 +3,7 @@ ghost use Rattle.std.specs.Prelude.{◌≡◌};
 
 use vlan_rule::{EthertypeFilter, Filter, PriorityFilter, TagFilter, TpidFilter, VidFilter};
 
-// The place of an entry in its table, and which frames it is for.
+/// The place of an entry in its table, and which frames it is for.
 #[derive(Clone, Copy)]
 pub(crate) struct Row {
     pub(crate) place: usize,
@@ -11,7 +11,7 @@ pub(crate) struct Row {
     pub(crate) ethertype: EthertypeFilter,
 }
 
-// A filter that every tag passes.
+/// A filter that every tag passes.
 const ANY_TAG: TagFilter = TagFilter {
     priority: PriorityFilter::Any,
     vid: VidFilter::Any,
@@ -22,7 +22,7 @@ impl Row {
     ghost use Rattle.rule_index.specs.Filters.{inner_in, outer_in, tags_in, type_key};
     ghost use Rattle.rule_index.specs.Order.{lowered};
 
-    // The number of tags of its kind.
+    /// The number of tags of its kind.
     pub(crate) fn tags(&self) -> usize
         ensures { result ≡ tags_in self.now.filter }
     {
@@ -52,7 +52,7 @@ impl Row {
         }
     }
 
-    // The row in a table without the entry of a place.
+    /// The row in a table without the entry of a place.
     pub(crate) fn lowered(self, place: usize) -> Row
         ensures { result ≡ lowered place self }
     {
@@ -63,7 +63,7 @@ impl Row {
         row
     }
 
-    // The key of its type.
+    /// The key of its type.
     pub(crate) fn type_key(&self) -> usize
         ensures { result ≡ type_key self.now.ethertype }
     {

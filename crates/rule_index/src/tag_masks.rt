@@ -11,7 +11,7 @@ use crate::vid_masks::VidMasks;
 use std::alloc::{AllocError, Global};
 use vlan_rule::TagFilter;
 
-// A mask for each tag, joined from two.
+/// A mask for each tag, joined from two.
 #[derive(Drop)]
 pub(crate) struct TagMasks {
     codes: CodeMasks,
@@ -28,7 +28,7 @@ impl TagMasks {
         })
     }
 
-    // No filter.
+    /// No filter.
     pub(crate) fn clear(&mut self)
         ensures few { self.new.vids.named ≡ 0 }
         ensures grouping { IsTagGrouping self.new [] }
@@ -37,7 +37,7 @@ impl TagMasks {
         self.vids.clear();
     }
 
-    // One filter more, which has a place in the order.
+    /// One filter more, which has a place in the order.
     pub(crate) fn add(&mut self, filter: TagFilter, place: usize)
         requires place { place < 128 }
         requires room { self.old.vids.named ≤ place }
@@ -49,15 +49,16 @@ impl TagMasks {
         self.vids.add(filter.vid, place);
     }
 
-    // All filters are added.
+    /// All filters are added.
     pub(crate) fn finish(&mut self)
-        ensures { (filters : List TagFilter) → IsTagGrouping self.old filters → IsTagIndex self.new filters }
+        ensures { (filters : List TagFilter) → IsTagGrouping self.old filters
+            → IsTagIndex self.new filters }
     {
         self.codes.finish();
         self.vids.finish();
     }
 
-    // A filter that comes to a place in the order, before those from there on.
+    /// A filter that comes to a place in the order, before those from there on.
     pub(crate) fn insert(&mut self, filter: TagFilter, place: usize)
         requires place { place < 128 }
         requires room { self.old.vids.named < 128 }
@@ -70,7 +71,7 @@ impl TagMasks {
         self.vids.insert(filter.vid, place);
     }
 
-    // The filter at a place in the order goes.
+    /// The filter at a place in the order goes.
     pub(crate) fn remove(&mut self, place: usize)
         requires { place < 128 }
         ensures { (before after : List TagFilter) (filter : TagFilter) → length before ≡ place
@@ -82,14 +83,14 @@ impl TagMasks {
         self.vids.remove(place);
     }
 
-    // Whether there is a class for one VID more.
+    /// Whether there is a class for one VID more.
     pub(crate) fn has_room(&self) -> bool
         ensures { IsTrue result → self.now.vids.named < 128 }
     {
         self.vids.has_room()
     }
 
-    // The mask of the filters that the tag of a word passes.
+    /// The mask of the filters that the tag of a word passes.
     #[inline(always)]
     pub(crate) fn mask(&self, tag: u32, input_tpid: u16) -> u128
         ensures { (filters : List TagFilter) → IsTagIndex self.now filters
@@ -98,7 +99,7 @@ impl TagMasks {
         self.codes.mask(tag, input_tpid) & self.vids.mask((tag % 4096) as u16)
     }
 
-    // The mask of the filters that admit a VID.
+    /// The mask of the filters that admit a VID.
     #[inline(always)]
     pub(crate) fn vid_mask(&self, vid: u16) -> u128
         requires { vid < 4096 }

@@ -9,8 +9,8 @@ use crate::bit::{bit, insert_bits, remove_bits};
 use std::alloc::{AllocError, Global};
 use vlan_rule::{TABLE_MAX_SIZE, VidFilter};
 
-// A mask for each class of VIDs. Those that filters name have a class each, from 1 on, and all others have
-// class 0. While filters are added, the mask of a class is of those that name its VID.
+/// A mask for each class of VIDs. Those that filters name have a class each, from 1 on, and all others have
+/// class 0. While filters are added, the mask of a class is of those that name its VID.
 #[derive(Drop)]
 pub(crate) struct VidMasks {
     // By VID.
@@ -37,7 +37,7 @@ impl VidMasks {
         })
     }
 
-    // No filter.
+    /// No filter.
     pub(crate) fn clear(&mut self)
         ensures few { self.new.named ≡ 0 }
         ensures naming { IsVidGrouping self.new.class.items self.new.masks.items self.new.any [] }
@@ -48,12 +48,13 @@ impl VidMasks {
         self.any = 0;
     }
 
-    // The class of a VID, made where it has none.
+    /// The class of a VID, made where it has none.
     fn class_of(&mut self, vid: u16) -> usize
         requires vid { vid < 4096 }
         requires room { self.old.named < 128 }
         ensures few { self.new.named ≤ self.old.named + 1 }
-        ensures class { (0 < result) × (result ≤ 128) × (result ≡ class_at self.new.class.items vid) }
+        ensures class { (0 < result) × (result ≤ 128)
+            × (result ≡ class_at self.new.class.items vid) }
         ensures any { self.new.any ≡ self.old.any }
         ensures classes { (mask : ℕ → ℕ) (none : ℕ)
             → AreClasses self.old.class.items self.old.masks.items mask none
@@ -70,14 +71,15 @@ impl VidMasks {
         self.named
     }
 
-    // One filter more, which has a place in the order.
+    /// One filter more, which has a place in the order.
     pub(crate) fn add(&mut self, filter: VidFilter, place: usize)
         requires place { place < 128 }
         requires room { self.old.named ≤ place }
         ensures few { self.new.named ≤ place + 1 }
         ensures naming { (filters : List VidFilter) → length filters ≡ place
             → IsVidGrouping self.old.class.items self.old.masks.items self.old.any filters
-            → IsVidGrouping self.new.class.items self.new.masks.items self.new.any (filters ++ filter ∷ []) }
+            → IsVidGrouping self.new.class.items self.new.masks.items self.new.any (filters
+            ++ filter ∷ []) }
     {
         match filter {
             VidFilter::Any => self.any |= bit(place),
@@ -89,7 +91,7 @@ impl VidMasks {
         }
     }
 
-    // All filters are added: the masks get those that name no VID, too.
+    /// All filters are added: the masks get those that name no VID, too.
     pub(crate) fn finish(&mut self)
         ensures { (filters : List VidFilter)
             → IsVidGrouping self.old.class.items self.old.masks.items self.old.any filters
@@ -100,7 +102,7 @@ impl VidMasks {
         }
     }
 
-    // A filter that comes to a place in the order, before those from there on.
+    /// A filter that comes to a place in the order, before those from there on.
     pub(crate) fn insert(&mut self, filter: VidFilter, place: usize)
         requires place { place < 128 }
         requires room { self.old.named < 128 }
@@ -120,7 +122,7 @@ impl VidMasks {
         }
     }
 
-    // The filter at a place in the order goes. A VID that no filter names any longer keeps its class.
+    /// The filter at a place in the order goes. A VID that no filter names any longer keeps its class.
     pub(crate) fn remove(&mut self, place: usize)
         requires { place < 128 }
         ensures { (before after : List VidFilter) (filter : VidFilter) → length before ≡ place
@@ -130,14 +132,14 @@ impl VidMasks {
         remove_bits(&mut self.masks, self.named + 1, place);
     }
 
-    // Whether there is a class for one VID more.
+    /// Whether there is a class for one VID more.
     pub(crate) fn has_room(&self) -> bool
         ensures { IsTrue result → self.now.named < 128 }
     {
         self.named < TABLE_MAX_SIZE as usize
     }
 
-    // The mask of a VID.
+    /// The mask of a VID.
     #[inline(always)]
     pub(crate) fn mask(&self, vid: u16) -> u128
         requires { vid < 4096 }

@@ -59,7 +59,8 @@ fn put_batches(
     frames: usize,
     versions: &[u64],
 ) -> Result<(), AllocError>
-    ensures { OnOk result (text.new.items ≡ text.old.items ++ batch_lines_from 0 size frames versions.now) }
+    ensures { OnOk result (text.new.items ≡ text.old.items
+        ++ batch_lines_from 0 size frames versions.now) }
 {
     let mut left = frames;
     let mut number = 0;
@@ -109,7 +110,8 @@ pub(crate) fn lines_of(
     frames: usize,
 ) -> Result<Vec<u8>, AllocError>
     ensures { IfOk result (λ text. text.items ≡
-        accepted_line ran.now.accepted ++ batch_lines_from 0 size frames ran.now.versions.items ++ figure_lines (counted ran.now.counts)) }
+        accepted_line ran.now.accepted ++ batch_lines_from 0 size frames ran.now.versions.items
+        ++ figure_lines (counted ran.now.counts)) }
 {
     let mut text = Vec::new(alloc);
     put_number(&mut text, b"accepted ", ran.accepted)?;

@@ -20,7 +20,8 @@ fn write_words<W: Write>(writer: &mut W, words: &[u8])
 
 /// Writes words, a number and more words, up to the write that fails.
 fn write_number<W: Write>(writer: &mut W, front: &[u8], number: u64, behind: &[u8])
-    ensures { AppendsPart (W.contents writer.old) (W.contents writer.new) (front.now ++ (decimal number ++ behind.now)) }
+    ensures { AppendsPart (W.contents writer.old) (W.contents writer.new) (front.now
+        ++ (decimal number ++ behind.now)) }
 {
     let mut digits = Buffer::new();
     let Ok(()) = write_whole(writer, front) else {
@@ -34,7 +35,8 @@ fn write_number<W: Write>(writer: &mut W, front: &[u8], number: u64, behind: &[u
 
 /// Writes the words for a capture's fault, up to the write that fails.
 fn write_capture_fault<W: Write>(writer: &mut W, fault: CaptureFault)
-    ensures { AppendsPart (W.contents writer.old) (W.contents writer.new) (words_of (Capture fault)) }
+    ensures { AppendsPart (W.contents writer.old) (W.contents writer.new)
+        (words_of (Capture fault)) }
 {
     match fault {
         CaptureFault::Magic => write_words(writer, b"capture fault 1\n"),
@@ -70,7 +72,8 @@ fn write_fault<W: Write>(writer: &mut W, fault: RunFault)
 /// 1. A write that fails is passed over, and nothing is written behind it.
 pub fn report_run<W: Write>(outcome: &Result<(), RunFault>, writer: &mut W) -> u8
     ensures status { result ≡ status_of outcome.now }
-    ensures words { AppendsPart (W.contents writer.old) (W.contents writer.new) (words_at outcome.now) }
+    ensures words { AppendsPart (W.contents writer.old) (W.contents writer.new)
+        (words_at outcome.now) }
 {
     let Err(fault) = outcome else {
         return 0;

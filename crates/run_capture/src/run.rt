@@ -83,7 +83,8 @@ fn without_memory(file: &[u8]) -> RunFault
 fn write_lines<W: Write>(writer: &mut W, out: &[u8]) -> Result<(), RunFault>
     ensures ok { OnOk result (Appends (W.contents writer.old) (W.contents writer.new) out.now) }
     ensures fault { IfErr result (λ fault. fault ≡ RunFault.Write) }
-    ensures err { OnErr result (AppendsPart (W.contents writer.old) (W.contents writer.new) out.now) }
+    ensures err { OnErr result
+        (AppendsPart (W.contents writer.old) (W.contents writer.new) out.now) }
 {
     match write_whole(writer, out) {
         Ok(()) => Ok(()),
@@ -107,7 +108,8 @@ pub fn run_over<R: Threads + Wait + Sync, W: Write>(
     settings: &RunSettings,
     writer: &mut W,
 ) -> Result<(), RunFault>
-    ensures { Runs trace.now frames.now settings.now result (W.contents writer.old) (W.contents writer.new) }
+    ensures { Runs trace.now frames.now settings.now result (W.contents writer.old)
+        (W.contents writer.new) }
 {
     let out = match output_of(rt, alloc, trace, frames, settings, &Progress::new()) {
         Ok(out) => out,
@@ -128,16 +130,20 @@ pub fn run_over_shown<R: Threads + Wait + Clock + Sync, W: Write, E: Write + Sen
     writer: &mut W,
     err: &mut E,
 ) -> Result<(), RunFault>
-    ensures { Runs trace.now frames.now settings.now result (W.contents writer.old) (W.contents writer.new) }
+    ensures { Runs trace.now frames.now settings.now result (W.contents writer.old)
+        (W.contents writer.new) }
 {
     let progress = Progress::new();
     let (_, made) = join(
         rt,
         || show(rt, &progress, settings, err),
         || -> Result<Vec<u8>, RunFault>
-            ensures fits { IfOk result (λ out. input_fault trace.entry.now frames.entry.now settings.entry.now ≡ None) }
-            ensures output { IfOk result (λ out. IsOutput trace.entry.now frames.entry.now settings.entry.now out.items) }
-            ensures fault { IfErr result (IsWhyNone trace.entry.now frames.entry.now settings.entry.now) }
+            ensures fits { IfOk result (λ out.
+                input_fault trace.entry.now frames.entry.now settings.entry.now ≡ None) }
+            ensures output { IfOk result (λ out.
+                IsOutput trace.entry.now frames.entry.now settings.entry.now out.items) }
+            ensures fault { IfErr result (IsWhyNone trace.entry.now frames.entry.now
+                settings.entry.now) }
         {
             let made = output_of(rt, alloc, trace, frames, settings, &progress);
             progress.end();

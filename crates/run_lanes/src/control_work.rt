@@ -57,7 +57,8 @@ fn publish_one<G: Gate, R: Wait>(
     job: &Job<'_, '_>,
     gate: &G,
 ) -> Result<(), LaneFault>
-    ensures { control.new ≡ record control.old { published = accepted_of control.old; pending = [] } }
+    ensures { control.new
+        ≡ record control.old { published = accepted_of control.old; pending = [] } }
 {
     let told = control.publish(rt);
     let version = (told.version() & 0xffff_ffff) as u32;

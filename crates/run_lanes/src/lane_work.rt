@@ -19,7 +19,9 @@ pub(crate) fn lane_batches<'a, G: Gate, R: Wait>(
 ) -> Result<Vec<Tally>, LaneFault>
     requires { IsOut lane.old }
     ensures same { IsSameLane lane.old lane.new }
-    ensures worked { IfOk result (λ tallies. (held : _) × (held_by lane.new ≡ Some held) × Worked job.now.settings job.now.frames.now held (learnt_by lane.old) (number_of lane.old) tallies.items) }
+    ensures worked { IfOk result (λ tallies. (held : _) × (held_by lane.new ≡ Some held)
+        × Worked job.now.settings job.now.frames.now held (learnt_by lane.old)
+        (number_of lane.old) tallies.items) }
 {
     let mut tallies = Vec::new(job.alloc);
     let mut k = u32::from(lane.number());
@@ -42,7 +44,10 @@ fn forward_batch<'a, G: Gate>(
     gate: &G,
 ) -> Result<Tally, LaneFault>
     ensures same { IsSameLane lane.old lane.new }
-    ensures forwarded { IfOk result (λ tally. (before now : _) × (held_by lane.old ≡ Some before) × (held_by lane.new ≡ Some now) × Forwarded job.now.settings job.now.frames.now before (learnt_by lane.old) now batch tally) }
+    ensures forwarded { IfOk result (λ tally. (before now : _) × (held_by lane.old ≡ Some before)
+        × (held_by lane.new ≡ Some now)
+        × Forwarded job.now.settings job.now.frames.now before (learnt_by lane.old) now batch
+        tally) }
 {
     let frames = frames_of(job.frames, job.settings.batch, batch);
     if !gate.pass(lane.number(), batch, job.turns) {

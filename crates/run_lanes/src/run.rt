@@ -45,11 +45,14 @@ fn run_at_once<G: Gate + Sync, R: Threads + Wait + Sync>(
     job: &Job<'_, '_>,
     gate: &G,
 ) -> Result<Settled, LaneFault>
-    requires job { (job.now.settings.after ≡ false) × (job.now.count ≡ batches_in job.now.settings.batch (length job.now.frames.now)) }
+    requires job { (job.now.settings.after ≡ false)
+        × (job.now.count ≡ batches_in job.now.settings.batch (length job.now.frames.now)) }
     requires control { IsNewControl control.old }
     requires lanes { AreNew job.now.settings.lanes control.old.home lanes.items }
     ensures accepted { IfOk result (λ settled. settled.accepted ≡ length (accepted requests.now)) }
-    ensures run { IfOk result (λ settled. IsRun (accepted requests.now) job.now.settings (map (λ frame. frame.now) job.now.frames.now) settled.versions.items settled.counts) }
+    ensures run { IfOk result (λ settled.
+        IsRun (accepted requests.now) job.now.settings
+        (map (λ frame. frame.now) job.now.frames.now) settled.versions.items settled.counts) }
 {
     let (done, applied) = work_at_once(rt, control, lanes, requests, job, gate);
     applied?;
@@ -73,7 +76,9 @@ fn run_after<G: Gate + Sync, R: Threads + Wait + Sync>(
     requires control { IsNewControl control.old }
     requires lanes { AreNew job.now.settings.lanes control.old.home lanes.items }
     ensures accepted { IfOk result (λ settled. settled.accepted ≡ length (accepted requests.now)) }
-    ensures run { IfOk result (λ settled. IsRun (accepted requests.now) job.now.settings (map (λ frame. frame.now) job.now.frames.now) settled.versions.items settled.counts) }
+    ensures run { IfOk result (λ settled.
+        IsRun (accepted requests.now) job.now.settings
+        (map (λ frame. frame.now) job.now.frames.now) settled.versions.items settled.counts) }
 {
     let mut lanes = lanes;
     apply_requests(rt, control, requests, job, gate)?;
@@ -105,7 +110,9 @@ fn run_job<G: Gate + Sync, R: Threads + Wait + Sync>(
 ) -> Result<Settled, LaneFault>
     requires { job.now.count ≡ batches_in job.now.settings.batch (length job.now.frames.now) }
     ensures accepted { IfOk result (λ settled. settled.accepted ≡ length (accepted requests.now)) }
-    ensures run { IfOk result (λ settled. IsRun (accepted requests.now) job.now.settings (map (λ frame. frame.now) job.now.frames.now) settled.versions.items settled.counts) }
+    ensures run { IfOk result (λ settled.
+        IsRun (accepted requests.now) job.now.settings
+        (map (λ frame. frame.now) job.now.frames.now) settled.versions.items settled.counts) }
 {
     let (mut control, lanes) = match open(rt, job.alloc, job.settings.lanes) {
         Ok(opened) => opened,
@@ -150,7 +157,8 @@ pub fn run_lanes<G: Gate + Sync, R: Threads + Wait + Sync>(
 ) -> Result<Ran, LaneFault>
     requires settings { CanRun input.now.settings.now }
     requires frames { length input.now.frames.now < 2 ^ 32 }
-    ensures accepted { IfOk result (λ ran. ran.accepted ≡ length (accepted input.now.requests.now)) }
+    ensures accepted { IfOk result (λ ran. ran.accepted
+        ≡ length (accepted input.now.requests.now)) }
     ensures run { IfOk result (λ ran. IsRun (accepted input.now.requests.now) input.now.settings.now
         (map (λ frame. frame.now) input.now.frames.now) ran.versions.items ran.counts) }
 {

@@ -70,7 +70,8 @@ fn versions_of(alloc: Global, tallies: &[Tally]) -> Result<Vec<u64>, LaneFault>
 /// The tallies of a lane, which then holds what was told.
 fn confirmed(done: Done, told: &Told) -> Result<Vec<Tally>, LaneFault>
     requires { told_home told.now ≡ home_of done.lane }
-    ensures { IfOk result (λ tallies. (done.tallies ≡ Ok tallies) × HeldBeginnings (told_list told.now) done.lane) }
+    ensures { IfOk result (λ tallies. (done.tallies ≡ Ok tallies)
+        × HeldBeginnings (told_list told.now) done.lane) }
 {
     let Done { lane, tallies } = done;
     let mut lane = lane;

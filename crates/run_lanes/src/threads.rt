@@ -35,7 +35,8 @@ pub(crate) fn lanes_work<G: Gate + Sync, R: Threads + Wait + Sync>(
     gate: &G,
 ) -> Result<Vec<Done>, AllocError>
     requires { All IsOut lanes.items }
-    ensures { IfOk result (λ all. AllZip (Did job.now.settings job.now.frames.now) lanes.items all.items) }
+    ensures { IfOk result (λ all.
+        AllZip (Did job.now.settings job.now.frames.now) lanes.items all.items) }
 {
     map_vec(
         rt,
@@ -55,7 +56,8 @@ fn waiting_work<G: Gate + Sync, R: Threads + Wait + Sync>(
     gate: &G,
 ) -> Result<Vec<Done>, AllocError>
     requires { ForSome waiting.old (λ lanes. All IsOut lanes.items) }
-    ensures { ForSome waiting.old (λ lanes. IfOk result (λ all. AllZip (Did job.now.settings job.now.frames.now) lanes.items all.items)) }
+    ensures { ForSome waiting.old (λ lanes. IfOk result (λ all.
+        AllZip (Did job.now.settings job.now.frames.now) lanes.items all.items)) }
 {
     match waiting.take() {
         Some(lanes) => lanes_work(rt, lanes, job, gate),
@@ -73,7 +75,8 @@ pub(crate) fn work_at_once<G: Gate + Sync, R: Threads + Wait + Sync>(
     gate: &G,
 ) -> (Result<Vec<Done>, AllocError>, Result<(), LaneFault>)
     requires { All IsOut lanes.items }
-    ensures done { IfOk result.0 (λ all. AllZip (Did job.now.settings job.now.frames.now) lanes.items all.items) }
+    ensures done { IfOk result.0 (λ all.
+        AllZip (Did job.now.settings job.now.frames.now) lanes.items all.items) }
     ensures applied { OnOk result.1 (Applied control.old control.new requests.now) }
 {
     let mut waiting = Some(lanes);
@@ -81,7 +84,10 @@ pub(crate) fn work_at_once<G: Gate + Sync, R: Threads + Wait + Sync>(
         rt,
         &mut || -> Result<Vec<Done>, AllocError>
             requires { ForSome waiting (λ lanes. All IsOut lanes.items) }
-            ensures { ForSome waiting.entry (λ lanes. IfOk result (λ all. AllZip (Did job.entry.now.settings job.entry.now.frames.now) lanes.items all.items)) }
+            ensures { ForSome waiting.entry (λ lanes.
+                IfOk result (λ all.
+                AllZip (Did job.entry.now.settings job.entry.now.frames.now) lanes.items
+                all.items)) }
         { waiting_work(rt, &mut waiting, job, gate) },
         &mut || -> Result<(), LaneFault>
             ensures { OnOk result (Applied control.entry.now control.exit.now requests.entry.now) }

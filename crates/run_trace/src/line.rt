@@ -18,7 +18,8 @@ pub(crate) fn read_request(
     buffer: &mut [u8; MOST_SPELLED],
 ) -> Result<Option<Request>, BadLine>
     ensures stands { IfOk result (λ request. may_stand (asked_by line.now) ≡ true) }
-    ensures request { IfOk result (λ request. option_to_list request ≡ request_in (asked_by line.now)) }
+    ensures request { IfOk result (λ request.
+        option_to_list request ≡ request_in (asked_by line.now)) }
     ensures bad { OnErr result (may_stand (asked_by line.now) ≡ false) }
 {
     match read_line(line, buffer) {

@@ -67,7 +67,8 @@ fn put_fault(answers: &mut Vec<u8>, fault: MsgFault)
 /// Puts the digits of tags behind the answers so far.
 fn put_tags(answers: &mut Vec<u8>, tags: &[Tag])
     requires { vec_len answers.old + 8 * length tags.now ≤ vec_capacity answers.old }
-    ensures items { answers.new.items ≡ answers.old.items ++ encode_lower (flat_map tag_bytes tags.now) }
+    ensures items { answers.new.items ≡ answers.old.items
+        ++ encode_lower (flat_map tag_bytes tags.now) }
     ensures len { vec_len answers.new ≡ vec_len answers.old + 8 * length tags.now }
     ensures capacity { vec_capacity answers.old ≤ vec_capacity answers.new }
 {
@@ -80,9 +81,12 @@ fn put_tags(answers: &mut Vec<u8>, tags: &[Tag])
 /// nowhere as a whole.
 #[tactic(auto, using(crate::proofs::Messages::frame_length, crate::proofs::Messages::frame_digits))]
 fn put_forwarded(answers: &mut Vec<u8>, gem: u16, frame: &OutFrame)
-    requires { vec_len answers.old + 2 * length (spelled frame.now.addresses frame.now.tags frame.now.rest) + 9 ≤ vec_capacity answers.old }
+    requires { vec_len answers.old + 2 * length
+        (spelled frame.now.addresses frame.now.tags frame.now.rest) + 9 ≤ vec_capacity answers.old }
     ensures items { answers.new.items ≡ answers.old.items ++ forwarded_line gem frame.now }
-    ensures len { vec_len answers.new ≤ vec_len answers.old + 2 * length (spelled frame.now.addresses frame.now.tags frame.now.rest) + 9 }
+    ensures len { vec_len answers.new
+        ≤ vec_len answers.old + 2 * length (spelled frame.now.addresses frame.now.tags
+        frame.now.rest) + 9 }
     ensures capacity { vec_capacity answers.old ≤ vec_capacity answers.new }
 {
     let mut digits = Buffer::new();
@@ -110,7 +114,8 @@ fn put_dropped(answers: &mut Vec<u8>, reason: Reason)
 /// times the line that spells it.
 fn answer_frame(onu: &mut Onu, port: u16, bytes: &[u8], answers: &mut Vec<u8>)
     requires { vec_len answers.old + 6 * length bytes.now + 15 ≤ vec_capacity answers.old }
-    ensures items { answers.new.items ≡ answers.old.items ++ verdict_line (meaning onu.old.mib.entities port bytes.now) }
+    ensures items { answers.new.items ≡ answers.old.items
+        ++ verdict_line (meaning onu.old.mib.entities port bytes.now) }
     ensures onu { onu.new ≡ onu.old }
     ensures len { vec_len answers.new ≤ vec_len answers.old + 6 * length bytes.now + 15 }
     ensures capacity { vec_capacity answers.old ≤ vec_capacity answers.new }
@@ -125,7 +130,8 @@ fn answer_frame(onu: &mut Onu, port: u16, bytes: &[u8], answers: &mut Vec<u8>)
 /// line that spells it.
 fn answer_message(onu: &mut Onu, bytes: &[u8], answers: &mut Vec<u8>)
     requires { vec_len answers.old + 4 * length bytes.now + 6 ≤ vec_capacity answers.old }
-    ensures items { answers.new.items ≡ answers.old.items ++ (message_answer onu.old (request_of bytes.now)).0 }
+    ensures items { answers.new.items ≡ answers.old.items
+        ++ (message_answer onu.old (request_of bytes.now)).0 }
     ensures onu { onu.new ≡ (message_answer onu.old (request_of bytes.now)).1 }
     ensures len { vec_len answers.new ≤ vec_len answers.old + 4 * length bytes.now + 6 }
     ensures capacity { vec_capacity answers.old ≤ vec_capacity answers.new }
@@ -153,7 +159,8 @@ pub fn answer_line(
 ) -> bool
     requires { vec_len answers.old + 3 * length line.now + 3 ≤ vec_capacity answers.old }
     ensures bad { result ≡ is_none (asked_by line.now) }
-    ensures items { answers.new.items ≡ answers.old.items ++ (line_answer onu.old (asked_by line.now)).0 }
+    ensures items { answers.new.items ≡ answers.old.items
+        ++ (line_answer onu.old (asked_by line.now)).0 }
     ensures onu { onu.new ≡ (line_answer onu.old (asked_by line.now)).1 }
     ensures len { vec_len answers.new ≤ vec_len answers.old + 3 * length line.now + 3 }
     ensures capacity { vec_capacity answers.old ≤ vec_capacity answers.new }

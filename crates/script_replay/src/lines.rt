@@ -32,12 +32,14 @@ pub fn answer_lines(
     requires within { searched ≤ length piece.now }
     requires searched { (k : ℕ) → k < searched → slice_index piece.now k ≢ 10 }
     requires room { vec_len answers.old + 3 * length piece.now ≤ vec_capacity answers.old }
-    ensures bad { before_bad (map asked_by (cut piece.now).ended) ≡ (if result.is_bad then Some result.lines else None) }
+    ensures bad { before_bad (map asked_by (cut piece.now).ended)
+        ≡ (if result.is_bad then Some result.lines else None) }
     ensures lines { result.is_bad ≡ false → result.lines ≡ length (cut piece.now).ended }
     ensures within { result.rest ≤ length piece.now }
     ensures rest { result.is_bad ≡ false → drop result.rest piece.now ≡ (cut piece.now).rest }
     ensures few { result.lines ≤ length piece.now }
-    ensures items { answers.new.items ≡ answers.old.items ++ answers_from onu.old (map asked_by (cut piece.now).ended) }
+    ensures items { answers.new.items ≡ answers.old.items
+        ++ answers_from onu.old (map asked_by (cut piece.now).ended) }
     ensures onu { onu.new ≡ state_from onu.old (map asked_by (cut piece.now).ended) }
     ensures capacity { vec_capacity answers.old ≤ vec_capacity answers.new }
 {

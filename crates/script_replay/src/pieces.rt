@@ -10,7 +10,9 @@ pub fn read_piece<R: Read>(reader: &mut R, text: &mut [u8], begun: usize) -> Opt
     requires { begun < length text.old }
     ensures kept { take begun text.new ≡ take begun text.old }
     ensures within { IfSome result (λ count. begun + count ≤ length text.new) }
-    ensures given { IfSome result (λ count. Consumes (R.remaining reader.old) (R.remaining reader.new) (take count (drop begun text.new))) }
+    ensures given { IfSome result (λ count.
+        Consumes (R.remaining reader.old) (R.remaining reader.new)
+        (take count (drop begun text.new))) }
     ensures end { IfSome result (λ count. count ≡ 0 → IsAtEnd (R.remaining reader.new)) }
     ensures failed { IfNone result (Keeps (R.remaining reader.old) (R.remaining reader.new)) }
 {

@@ -40,7 +40,8 @@ fn words(fault: ReplayFault) -> Words
 /// status: 0, 2 for a bad line, else 1. A write that fails is passed over.
 pub fn report_replay<W: Write>(outcome: &Result<(), ReplayFault>, writer: &mut W) -> u8
     ensures status { result ≡ status_of outcome.now }
-    ensures words { AppendsPart (W.contents writer.old) (W.contents writer.new) (words_at outcome.now) }
+    ensures words { AppendsPart (W.contents writer.old) (W.contents writer.new)
+        (words_at outcome.now) }
 {
     let Err(fault) = outcome else {
         return 0;

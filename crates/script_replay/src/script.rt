@@ -37,7 +37,8 @@ fn finish<W: Write>(
     requires none { answers.old.items ≡ [] }
     requires room { 3 * length line.now + 3 ≤ vec_capacity answers.old }
     requires lines { lines < 2 ^ 63 }
-    ensures { Finishes onu.old line.now lines result (W.contents writer.old) (W.contents writer.new) }
+    ensures { Finishes onu.old line.now lines result (W.contents writer.old)
+        (W.contents writer.new) }
 {
     if line.is_empty() {
         return Ok(());
@@ -65,7 +66,9 @@ fn replay_through<R: Read, W: Write>(
     requires empty { vec_len answers.old ≡ 0 }
     requires none { answers.old.items ≡ [] }
     requires room { 3 * 85536 ≤ vec_capacity answers.old }
-    ensures { IfSome (R.remaining reader.old) (λ text. Replays text result (R.remaining reader.new) (W.contents writer.old) (W.contents writer.new)) }
+    ensures { IfSome (R.remaining reader.old) (λ text.
+        Replays text result (R.remaining reader.new) (W.contents writer.old)
+        (W.contents writer.new)) }
 {
     let mut total = 0;
     let mut lines = 0;
@@ -136,7 +139,9 @@ pub fn replay<R: Read, W: Write>(
     reader: &mut R,
     writer: &mut W,
 ) -> Result<(), ReplayFault>
-    ensures { IfSome (R.remaining reader.old) (λ text. Replays text result (R.remaining reader.new) (W.contents writer.old) (W.contents writer.new)) }
+    ensures { IfSome (R.remaining reader.old) (λ text.
+        Replays text result (R.remaining reader.new) (W.contents writer.old)
+        (W.contents writer.new)) }
 {
     let Ok(mut room) = Room::new(alloc) else {
         return Err(ReplayFault::NoMemory);

@@ -249,7 +249,8 @@ fn forward_last<'a, R: Wait>(
     bytes: &'a [u8],
 ) -> Option<Verdict<'a>>
     requires { home_of lane.old ≡ control.old.home }
-    ensures { IfSome result (λ verdict. verdict ≡ meaning (after control.new.published) 257 bytes.now) }
+    ensures { IfSome result (λ verdict. verdict
+        ≡ meaning (after control.new.published) 257 bytes.now) }
 {
     let told = control.publish(rt);
     lane.learn(&told);
