@@ -2,6 +2,7 @@
 -- place n - 1 of the list.
 use Rattle.std.specs.Prelude.{ℕ, suc, zero, Bool, true, false, ◌&&◌, List, [], ◌∷◌, Option, Some, None, is_some, unwrap_or, if◌then◌else◌, ◌==◌}
 use Rattle.byteorder.specs.Endian.{big_bytes}
+use Rattle.tag_view.specs.Tag.{customer_tpid}
 use Rattle.vlan_rule.specs.Table.{predefined, table_max_size}
 use Rattle.managed_entity.specs.declared.attribute.Access.{Access}
 use Rattle.managed_entity.specs.declared.attribute.Access.TheVariants.{SetByCreate, Writable, ReadOnly, Table}
@@ -78,8 +79,8 @@ abbrev pub vlan_layout : List Attribute
 vlan_layout =
     set_by_create 1  -- 1 association type
     ∷ read_only 2 table_max_size  -- 2 received frame VLAN tagging operation table max size, in entries
-    ∷ writable 2 0x8100  -- 3 input TPID
-    ∷ writable 2 0x8100  -- 4 output TPID
+    ∷ writable 2 customer_tpid  -- 3 input TPID
+    ∷ writable 2 customer_tpid  -- 4 output TPID
     ∷ writable 1 0  -- 5 downstream mode
     ∷ table  -- 6 received frame VLAN tagging operation table
     ∷ set_by_create 2  -- 7 associated ME pointer
@@ -149,6 +150,12 @@ class_number Mapper = 130
 class_number Vlan = 171
 class_number Interwork = 266
 class_number GemPort = 268
+
+abbrev pub mapper_class : ℕ
+mapper_class = class_number Mapper
+
+abbrev pub vlan_class : ℕ
+vlan_class = class_number Vlan
 
 -- the class of a number, if it is known
 abbrev pub class_of : ℕ → Option Class

@@ -8,7 +8,7 @@ use crate::description::{AttributeKind, Description};
 use crate::entity::ManagedEntity;
 use crate::refusal::Refusal;
 use std::alloc::{AllocError, Global};
-use tag_view::DscpMap;
+use tag_view::{CUSTOMER_TPID, DscpMap};
 use vlan_rule::{Entry, RuleTable, TABLE_MAX_SIZE, TableSettings};
 
 /// An extended VLAN tagging operation configuration data, which says how the tags of a port's frames are treated (ITU-T
@@ -27,8 +27,8 @@ pub struct VlanConfig {
     pub table: RuleTable,
 }
 
-/// What both TPIDs are after Create: that of a customer's tag (IEEE 802.1Q, 9.6), which is a choice of this project.
-const TPID: u16 = 0x8100;
+/// What both TPIDs are after Create, which is a choice of this project.
+const TPID: u16 = CUSTOMER_TPID;
 
 pub(crate) static LAYOUT: [Attribute; 8] = [
     Attribute::GIVEN_1, // association type

@@ -1,7 +1,7 @@
 //! The management information base, and what it shows.
 ghost use Rattle.std.specs.Prelude.{◌≡◌, ◌<◌, ◌-◌, IfOk, IfSome, is_some, option_map, length, slice_get};
 ghost use Rattle.std.specs.Option.{option_and_then};
-ghost use Rattle.managed_entity.specs.Class.{attributes_of, class_number, room_of, width_at};
+ghost use Rattle.managed_entity.specs.Class.{attributes_of, class_number, mapper_class, room_of, vlan_class, width_at};
 ghost use Rattle.mib_state.specs.Entities.{nothing, unlatched, instances_of, find, next, place_in};
 ghost use Rattle.managed_entity.specs.Instance.{attribute_of, value_at};
 ghost use Rattle.mib_state.specs.Attached.{is_table_of, least_instance, mapper_of_port, table_of_port};
@@ -153,7 +153,7 @@ impl Mib {
             ≡ slice_get self.now.entities.mappers place }
         ensures found { IfSome result (λ held.
             find held.0 self.now.entities.mappers ≡ slice_get self.now.entities.mappers place) }
-        ensures room { IfSome result (λ held. place < room_of 130) }
+        ensures room { IfSome result (λ held. place < room_of mapper_class) }
     {
         self.mappers.at(place)
     }
@@ -165,7 +165,7 @@ impl Mib {
             ≡ slice_get self.now.entities.vlans place }
         ensures found { IfSome result (λ held.
             find held.0 self.now.entities.vlans ≡ slice_get self.now.entities.vlans place) }
-        ensures room { IfSome result (λ held. place < room_of 171) }
+        ensures room { IfSome result (λ held. place < room_of vlan_class) }
     {
         self.vlans.at(place)
     }
