@@ -95,8 +95,10 @@ impl Shelf {
     {
         let mut row = Row::begin(held.class(), held.number());
         for n in 1..=16 {
-            if let Some(value) = held.attribute(n) {
-                self.add_attribute(&mut row, n, &value);
+            // Lent and not moved: a value that has just been written is slow to copy.
+            let value = held.attribute(n);
+            if let Some(value) = &value {
+                self.add_attribute(&mut row, n, value);
             }
         }
         if row.mask != 0 {

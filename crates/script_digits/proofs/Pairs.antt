@@ -25,14 +25,14 @@ masked high low fits_high fits_low =
 value_of_digit : (c : ℕ) → is_hex_digit c ≡ true → hex_digit_value c ≡ Some (value_by_bits c)
 value_of_digit c h = grind arith
 
-value_lt : (c : ℕ) → is_hex_digit c ≡ true → value_by_bits c < 16
+pub value_lt : (c : ℕ) → is_hex_digit c ≡ true → value_by_bits c < 16
 value_lt c h = grind arith
 
 -- the byte of two values, the first of which stands for the higher digit
 abbrev pub byte_by_bits : ℕ → ℕ
 byte_by_bits values = values % 16 * 16 + values / 256
 
-byte_of_values : (first second : ℕ) → first < 16 → second < 16 → byte_by_bits (second * 256 + first) ≡ first * 16 + second
+pub byte_of_values : (first second : ℕ) → first < 16 → second < 16 → byte_by_bits (second * 256 + first) ≡ first * 16 + second
 byte_of_values first second h k = omega arith
 
 pub byte_of_pair : (high low place : ℕ) → is_hex_digit high ≡ true → is_hex_digit low ≡ true

@@ -5,8 +5,10 @@
 //! compiler can do it for many digits at once. Which digit is wrong isn't said.
 #![tactic(auto)]
 
+mod lower;
 mod read;
 mod write;
 
-pub use read::read_digits;
+pub use lower::make_lower;
+pub use read::{are_pairs, read_digits};
 pub use write::write_digits;

@@ -1,7 +1,8 @@
 //! Bytes from their digits.
 ghost use Rattle.std.specs.Prelude.{◌≡◌, ◌≢◌, ◌*◌, ℕ, Ok, true, false, length, slice_index, MatchResult};
 ghost use Rattle.std.specs.List.{list_all};
-ghost use Rattle.hex.specs.Hex.{decode_pairs, decode_sized, is_hex_digit, pair_value};
+ghost use Rattle.std.specs.Result.{is_ok};
+ghost use Rattle.hex.specs.Hex.{decode_of, decode_pairs, decode_sized, is_hex_digit, pair_value};
 
 /// Whether a character is a digit, of either case.
 fn is_digit(character: u8) -> bool
@@ -21,6 +22,13 @@ fn are_digits(characters: &[u8]) -> bool
         are_digits &= is_digit(*character);
     }
     are_digits
+}
+
+/// Whether characters are the hexadecimal digits of bytes: an even number of digits, of either case.
+pub fn are_pairs(characters: &[u8]) -> bool
+    ensures { result ≡ is_ok (decode_of characters.now) }
+{
+    characters.len() % 2 == 0 && are_digits(characters)
 }
 
 /// The byte of two digits. Both are worked on at once, side by side in one number.

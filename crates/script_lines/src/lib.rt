@@ -7,7 +7,9 @@ mod number;
 pub mod reading;
 mod text;
 
-pub use line::Line;
+pub use line::{Line, Parts};
 pub use number::read_port;
-pub use reading::{LINE_LIMIT, MOST_SPELLED, Numbered, read_bytes, read_line, read_numbered};
+pub use reading::{
+    LINE_LIMIT, MOST_SPELLED, Numbered, read_bytes, read_line, read_numbered, split_line,
+};
 pub use text::first_line;

@@ -1,10 +1,11 @@
 //! A line of a script, read.
 ghost use Rattle.std.specs.Prelude.{◌≡◌, ◌≤◌, ◌+◌, ◌*◌, ◌==◌, IfSome, length, option_map, position};
-ghost use Rattle.script_lines.specs.Line.{asked_by, content_of, frame_asked_by, letter_asked_by, spelled_bytes, without_cr};
+ghost use Rattle.std.specs.Option.{option_and_then};
+ghost use Rattle.script_lines.specs.Line.{asked_by, content_of, frame_asked_by, letter_asked_by, spelled_bytes};
 ghost use Rattle.script_lines.specs.Line.{Frame};
-ghost use Rattle.script_lines.specs.Shown.{IsSpelledWithin, shown};
+ghost use Rattle.script_lines.specs.Shown.{AreDigitsWithin, IsSpelledWithin, asked_in, frame_in, shown};
 
-use crate::line::Line;
+use crate::line::{Line, Parts};
 use crate::number::read_port;
 use script_digits::read_digits;
 
@@ -44,6 +45,17 @@ fn space_in(parts: &[u8]) -> Option<usize>
     parts.iter().position(|byte| *byte == b' ')
 }
 
+/// A number of 16 bits in one to five decimal digits, and what stands behind the first space; None where there is no such number.
+fn split_numbered(parts: &[u8]) -> Option<(u16, &[u8])>
+    ensures asked { option_and_then (λ (frame : _). frame_in frame.0 frame.1.now) result
+        ≡ frame_asked_by parts.now }
+    ensures within { IfSome result (λ frame. length frame.1.now + 2 ≤ length parts.now) }
+{
+    let space = space_in(parts)?;
+    let number = read_port(parts.split_at(space).0)?;
+    Some((number, parts.split_at(space + 1).1))
+}
+
 /// A number of 16 bits in one to five decimal digits, and behind the first space the digits of a frame; None where they are
 /// anything else.
 pub fn read_numbered<'a>(parts: &[u8], buffer: &'a mut [u8]) -> Option<Numbered<'a>>
@@ -52,56 +64,46 @@ pub fn read_numbered<'a>(parts: &[u8], buffer: &'a mut [u8]) -> Option<Numbered<
         ≡ frame_asked_by parts.now }
     ensures within { IfSome result (λ frame. 2 * length frame.bytes.now + 2 ≤ length parts.now) }
 {
-    let space = space_in(parts)?;
-    let number = read_port(parts.split_at(space).0)?;
-    let (_, digits) = parts.split_at(space + 1);
+    let (number, digits) = split_numbered(parts)?;
     let bytes = read_bytes(digits, buffer)?;
     Some(Numbered { number, bytes })
 }
 
-/// The port and the frame of a line, behind its `f` and the space.
-fn read_frame<'a>(parts: &[u8], buffer: &'a mut [u8]) -> Option<Line<'a>>
-    requires { length parts.now ≤ 2 * length buffer.old }
-    ensures asked { option_map shown result ≡ frame_asked_by parts.now }
-    ensures within { IfSome result (IsSpelledWithin (length parts.now + 2)) }
-{
-    let frame = read_numbered(parts, buffer)?;
-    Some(Line::Frame(frame.number, frame.bytes))
-}
-
-/// A line that is neither empty nor a comment.
-fn read_asked<'a>(content: &[u8], buffer: &'a mut [u8]) -> Option<Line<'a>>
-    requires { length content.now ≤ 2 * length buffer.old }
-    ensures asked { option_map shown result ≡ letter_asked_by content.now }
-    ensures within { IfSome result (IsSpelledWithin (length content.now)) }
+/// The parts of a line that is neither empty nor a comment.
+fn split_asked(content: &[u8]) -> Option<Parts<'_>>
+    ensures asked { option_and_then asked_in result ≡ letter_asked_by content.now }
+    ensures within { IfSome result (AreDigitsWithin (length content.now)) }
 {
     if let Some(digits) = content.strip_prefix(b"o ") {
-        return Some(Line::Message(read_bytes(digits, buffer)?));
+        return Some(Parts::Message(digits));
     }
-    let parts = content.strip_prefix(b"f ")?;
-    read_frame(parts, buffer)
+    let (port, digits) = split_numbered(content.strip_prefix(b"f ")?)?;
+    Some(Parts::Frame(port, digits))
 }
 
-/// A line without the CR at its end.
-fn read_content<'a>(content: &[u8], buffer: &'a mut [u8]) -> Option<Line<'a>>
-    requires { length content.now ≤ 2 * length buffer.old }
-    ensures asked { option_map shown result ≡ content_of content.now }
-    ensures within { IfSome result (IsSpelledWithin (length content.now)) }
+/// The parts of a line without the CR at its end.
+fn split_content(content: &[u8]) -> Option<Parts<'_>>
+    ensures asked { option_and_then asked_in result ≡ content_of content.now }
+    ensures within { IfSome result (AreDigitsWithin (length content.now)) }
 {
     if content.is_empty() || content.starts_with(b"#") {
-        return Some(Line::Nothing);
+        return Some(Parts::Nothing);
     }
-    read_asked(content, buffer)
+    split_asked(content)
 }
 
-/// A line that isn't too long.
-fn read_short<'a>(line: &[u8], buffer: &'a mut [u8]) -> Option<Line<'a>>
-    requires { length line.now ≤ 2 * length buffer.old }
-    ensures asked { option_map shown result ≡ content_of (without_cr line.now) }
-    ensures within { IfSome result (IsSpelledWithin (length line.now)) }
+/// The parts of a line, as [`read_line`] reads it, but for its digits, at which it doesn't look: a line whose digits spell no bytes
+/// is bad too. None where it is bad for another reason.
+#[tactic(auto, unfolding(crate::specs::Line::asked_by))]
+pub fn split_line(line: &[u8]) -> Option<Parts<'_>>
+    ensures asked { option_and_then asked_in result ≡ asked_by line.now }
+    ensures within { IfSome result (AreDigitsWithin (length line.now)) }
+    ensures short { IfSome result (λ _. length line.now ≤ 20000) }
 {
-    let content = line.strip_suffix(b"\r").unwrap_or(line);
-    read_content(content, buffer)
+    if line.len() > LINE_LIMIT {
+        return None;
+    }
+    split_content(line.strip_suffix(b"\r").unwrap_or(line))
 }
 
 /// What a line of a script asks for, without its line feed, or None where it is bad. A line is
@@ -110,13 +112,13 @@ fn read_short<'a>(line: &[u8], buffer: &'a mut [u8]) -> Option<Line<'a>>
 /// at most 65535. One CR at its end is dropped. Every other line is bad, and so is one of over
 /// 20,000 bytes, the CR among them. The bytes that it spells are put into the buffer; what else
 /// that holds is left open.
-#[tactic(auto, unfolding(crate::specs::Line::asked_by))]
 pub fn read_line<'a>(line: &[u8], buffer: &'a mut [u8; 10_000]) -> Option<Line<'a>>
     ensures asked { option_map shown result ≡ asked_by line.now }
     ensures within { IfSome result (IsSpelledWithin (length line.now)) }
 {
-    if line.len() > LINE_LIMIT {
-        return None;
+    match split_line(line)? {
+        Parts::Message(digits) => Some(Line::Message(read_bytes(digits, buffer)?)),
+        Parts::Frame(port, digits) => Some(Line::Frame(port, read_bytes(digits, buffer)?)),
+        Parts::Nothing => Some(Line::Nothing),
     }
-    read_short(line, buffer)
 }

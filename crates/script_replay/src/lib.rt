@@ -14,6 +14,7 @@
 
 mod answer;
 mod fault;
+mod frame;
 mod lines;
 mod onu;
 mod pieces;

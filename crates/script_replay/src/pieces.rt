@@ -21,16 +21,13 @@ pub fn read_piece<R: Read>(reader: &mut R, text: &mut [u8], begun: usize) -> Opt
 }
 
 /// Moves the bytes from `start` to `end` to the front of the text.
-pub fn move_to_front(text: &mut [u8], spare: &mut [u8], start: usize, end: usize)
+pub fn move_to_front(text: &mut [u8], start: usize, end: usize)
     requires order { start ≤ end }
     requires within { end ≤ length text.old }
-    requires spare { end - start ≤ length spare.old }
     ensures { take (end - start) text.new ≡ take (end - start) (drop start text.old) }
 {
     if start == 0 {
         return;
     }
-    let spare = &mut spare[..end - start];
-    spare.copy_from_slice(&text[start..end]);
-    text[..end - start].copy_from_slice(spare);
+    text.copy_within(start..end, 0);
 }

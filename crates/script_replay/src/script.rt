@@ -56,13 +56,11 @@ fn replay_through<R: Read, W: Write>(
     writer: &mut W,
     onu: &mut Onu,
     text: &mut [u8],
-    spare: &mut [u8],
     buffer: &mut [u8; MOST_SPELLED],
     answers: &mut Vec<u8>,
 ) -> Result<(), ReplayFault>
     requires begins { onu.old ≡ start }
     requires text { length text.old ≡ 85536 }
-    requires spare { length spare.old ≡ 20000 }
     requires empty { vec_len answers.old ≡ 0 }
     requires none { answers.old.items ≡ [] }
     requires room { 3 * 85536 ≤ vec_capacity answers.old }
@@ -93,7 +91,7 @@ fn replay_through<R: Read, W: Write>(
         if begun > LINE_LIMIT {
             return Err(ReplayFault::BadLine(lines + 1));
         }
-        move_to_front(text, spare, answered.rest, end);
+        move_to_front(text, answered.rest, end);
     }
     Err(ReplayFault::Read(total))
 }
@@ -102,7 +100,6 @@ fn replay_through<R: Read, W: Write>(
 #[derive(Drop)]
 struct Room {
     text: Vec<u8>,
-    spare: Vec<u8>,
     answers: Vec<u8>,
 }
 
@@ -111,14 +108,12 @@ impl Room {
 
     fn new(alloc: Global) -> Result<Room, AllocError>
         ensures text { IfOk result (λ room. vec_len room.text ≡ 85536) }
-        ensures spare { IfOk result (λ room. vec_len room.spare ≡ 20000) }
         ensures empty { IfOk result (λ room. vec_len room.answers ≡ 0) }
         ensures none { IfOk result (λ room. room.answers.items ≡ []) }
         ensures answers { IfOk result (λ room. 3 * 85536 ≤ vec_capacity room.answers) }
     {
         Ok(Room {
             text: vec![in alloc; 0; TEXT_ROOM]?,
-            spare: vec![in alloc; 0; LINE_LIMIT]?,
             answers: Vec::with_capacity(alloc, 3 * TEXT_ROOM)?,
         })
     }
@@ -155,7 +150,6 @@ pub fn replay<R: Read, W: Write>(
         writer,
         &mut onu,
         &mut room.text,
-        &mut room.spare,
         &mut buffer,
         &mut room.answers,
     )

@@ -3,13 +3,13 @@ use Rattle.std.specs.Fmt.{decimal}
 use Rattle.std.specs.List.{flat_map}
 use Rattle.tag_view.specs.Tag.{tag_bytes}
 use Rattle.script_replay.proofs.Messages.{frame_digits, line_parts}
-use Rattle.script_replay.proofs.answer.put_forwarded.Goals as goal
+use Rattle.script_replay.proofs.frame.put_forwarded.Goals as goal
 
 pub returns-clause-items : goal.returns-clause-items
-returns-clause-items c =
+returns-clause-items c rest is =
     rw (
       c.put-4.ensures.items,
-      c.put_digits-2.ensures.items,
+      c.put_lower.ensures.items rest is,
       c.put_tags.ensures.items,
       c.put_digits.ensures.items,
       c.put-3.ensures.items,
@@ -19,7 +19,6 @@ returns-clause-items c =
       c.format.ensures.text,
       c.addresses.ensures,
       c.tags.ensures.value,
-      c.rest.ensures,
-      frame_digits c.args.frame.now.addresses c.args.frame.now.tags c.args.frame.now.rest,
+      frame_digits c.args.frame.now.addresses c.args.frame.now.tags rest,
     )
-    (line_parts c.args.answers.now.items (decimal c.args.gem) (encode_lower c.args.frame.now.addresses) (encode_lower (flat_map tag_bytes c.args.frame.now.tags)) (encode_lower c.args.frame.now.rest))
+    (line_parts c.args.answers.now.items (decimal c.args.gem) (encode_lower c.args.frame.now.addresses) (encode_lower (flat_map tag_bytes c.args.frame.now.tags)) (encode_lower rest))

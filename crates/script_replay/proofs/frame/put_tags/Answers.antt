@@ -2,7 +2,7 @@ use Rattle.std.proofs.Common.{sym, arith, append_assoc}
 use Rattle.std.proofs.lemmas.List.{append-nil}
 use Rattle.hex.specs.Hex.{encode_with}
 use Rattle.script_replay.proofs.Messages.{tags_more}
-use Rattle.script_replay.proofs.answer.put_tags.Goals as goal
+use Rattle.script_replay.proofs.frame.put_tags.Goals as goal
 
 pub loop-tag-init : goal.loop-tag-init
 unfolding encode_with
