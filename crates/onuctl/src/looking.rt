@@ -2,56 +2,36 @@
 use crate::files::{read_whole, report_unread};
 use command_line::{ExplainWords, MibWords, RulesWords};
 use mib_state::Mib;
-use run_capture::{RunFault, report_run};
 use run_trace::{TraceFault, apply_requests, read_requests};
-use script_replay::{ReplayFault, report_replay};
 use std::alloc::Global;
 use std::io::{Read, Write};
 use std::rt::Files;
 use text_entities::{write_mib, write_mib_json};
 use text_explanations::{write_explanation, write_explanation_json, write_rules, write_rules_json};
 use text_messages::decode;
-use text_writing::{DecodeFault, TextFault};
+use text_writing::{LookFault, TextFault, report_look};
 
-/// Why a text isn't written, as a run says it.
-fn run_fault(fault: TextFault) -> RunFault {
+/// Why a trace isn't read.
+fn trace_fault(fault: TraceFault) -> LookFault {
     match fault {
-        TextFault::Write => RunFault::Write,
-        TextFault::NoMemory => RunFault::NoMemory,
-    }
-}
-
-/// Why a script isn't decoded, as a replay says it.
-fn replay_fault(fault: DecodeFault) -> ReplayFault {
-    match fault {
-        DecodeFault::BadLine(line) => ReplayFault::BadLine(line),
-        DecodeFault::Read => ReplayFault::Read(0),
-        DecodeFault::Write => ReplayFault::Write,
-        DecodeFault::NoMemory => ReplayFault::NoMemory,
+        TraceFault::BadLine(line) => LookFault::BadTrace(line),
+        TraceFault::NoMemory => LookFault::NoMemory,
     }
 }
 
 /// Says how a text ended, and gives the status.
 fn report_text<E: Write>(outcome: Result<(), TextFault>, err: &mut E) -> u8 {
-    report_run(&outcome.map_err(run_fault), err)
-}
-
-/// Why a trace isn't read, as a run says it.
-fn trace_fault(fault: TraceFault) -> RunFault {
-    match fault {
-        TraceFault::BadLine(line) => RunFault::BadTrace(line),
-        TraceFault::NoMemory => RunFault::NoMemory,
-    }
+    report_look(&outcome.map_err(LookFault::from), err)
 }
 
 /// The managed entities after a trace.
-fn mib_after(alloc: Global, trace: &[u8]) -> Result<Mib, RunFault> {
+fn mib_after(alloc: Global, trace: &[u8]) -> Result<Mib, LookFault> {
     let requests = match read_requests(alloc, trace) {
         Ok(requests) => requests,
         Err(fault) => return Err(trace_fault(fault)),
     };
     let Ok(mut mib) = Mib::new(alloc) else {
-        return Err(RunFault::NoMemory);
+        return Err(LookFault::NoMemory);
     };
     apply_requests(&mut mib, &requests);
     Ok(mib)
@@ -69,7 +49,7 @@ fn entities_after<R: Files + Alloc<A = Global>, E: Write>(
     };
     match mib_after(rt.alloc(), &trace) {
         Ok(mib) => Ok(mib),
-        Err(fault) => Err(report_run(&Err(fault), err)),
+        Err(fault) => Err(report_look(&Err(fault), err)),
     }
 }
 
@@ -81,7 +61,7 @@ pub fn decode_lines<I: Read, O: Write, E: Write>(
     err: &mut E,
 ) -> u8 {
     let outcome = decode(alloc, reader, out);
-    report_replay(&outcome.map_err(replay_fault), err)
+    report_look(&outcome.map_err(LookFault::from), err)
 }
 
 /// Writes managed entities, as text or as JSON.
@@ -141,7 +121,7 @@ pub fn show_rules<R: Files + Alloc<A = Global>, O: Write, E: Write>(
 /// The bytes that hexadecimal digits spell, or the status where they spell none; why is written to `err`.
 fn frame_of<E: Write>(alloc: Global, digits: &str, err: &mut E) -> Result<Vec<u8>, u8> {
     let Ok(mut bytes) = vec![in alloc; 0u8; digits.len() / 2] else {
-        return Err(report_run(&Err(RunFault::NoMemory), err));
+        return Err(report_look(&Err(LookFault::NoMemory), err));
     };
     match hex::decode_to_slice(digits.as_bytes(), &mut bytes) {
         Ok(()) => Ok(bytes),

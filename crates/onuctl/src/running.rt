@@ -24,7 +24,7 @@ pub fn run<
         Err(error) => return report_unread(&error, b"cannot read frames\n", err),
     };
     let outcome = if err.is_terminal() {
-        run_over_shown(rt, rt.alloc(), &trace, &frames, &words.settings, out, err)
+        run_over_shown(rt, &trace, &frames, &words.settings, out, err)
     } else {
         run_over(rt, rt.alloc(), &trace, &frames, &words.settings, out)
     };

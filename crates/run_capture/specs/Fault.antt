@@ -1,4 +1,4 @@
--- The numbers of the faults of a run.
+-- The numbers of the faults of a run, and the status with which the program ends.
 use Rattle.std.specs.Prelude.{ℕ}
 use Rattle.run_capture.specs.declared.fault.RunFault.{RunFault}
 use Rattle.run_capture.specs.declared.fault.RunFault.TheVariants.{Settings, BadTrace, Capture, NoMemory, Refused, CountFull, Write}
@@ -11,3 +11,13 @@ number_of_fault NoMemory = 4
 number_of_fault Refused = 5
 number_of_fault CountFull = 6
 number_of_fault Write = 7
+
+-- 2 for a bad trace line or capture, else 1
+abbrev pub status_of_fault : RunFault → ℕ
+status_of_fault Settings = 1
+status_of_fault (BadTrace n) = 2
+status_of_fault (Capture fault) = 2
+status_of_fault NoMemory = 1
+status_of_fault Refused = 1
+status_of_fault CountFull = 1
+status_of_fault Write = 1

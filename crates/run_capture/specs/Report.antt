@@ -6,6 +6,7 @@ use Rattle.capture.specs.declared.fault.CaptureFault.TheVariants.{Magic, Header,
 use Rattle.capture.specs.Fault as capture
 use Rattle.run_capture.specs.declared.fault.RunFault.{RunFault}
 use Rattle.run_capture.specs.declared.fault.RunFault.TheVariants.{Settings, BadTrace, Capture, NoMemory, Refused, CountFull, Write}
+use Rattle.run_capture.specs.Fault.{status_of_fault}
 
 -- the number that a capture's fault has
 abbrev pub place_words : CaptureFault → List ℕ
@@ -29,12 +30,7 @@ abbrev pub words_at : Result (Unit {0}) RunFault → List ℕ
 words_at (Ok done) = []
 words_at (Err fault) = words_of fault
 
+-- 0 where there was no fault
 abbrev pub status_of : Result (Unit {0}) RunFault → ℕ
 status_of (Ok done) = 0
-status_of (Err Settings) = 1
-status_of (Err (BadTrace n)) = 2
-status_of (Err (Capture fault)) = 2
-status_of (Err NoMemory) = 1
-status_of (Err Refused) = 1
-status_of (Err CountFull) = 1
-status_of (Err Write) = 1
+status_of (Err fault) = status_of_fault fault

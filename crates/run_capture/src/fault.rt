@@ -1,6 +1,6 @@
 //! Why a run wrote nothing, or not all.
 ghost use Rattle.std.specs.Prelude.{◌≡◌};
-ghost use Rattle.run_capture.specs.Fault.{number_of_fault};
+ghost use Rattle.run_capture.specs.Fault.{number_of_fault, status_of_fault};
 
 use capture::CaptureFault;
 use thiserror::Error;
@@ -45,6 +45,19 @@ impl RunFault {
             RunFault::Refused => 5,
             RunFault::CountFull => 6,
             RunFault::Write => 7,
+        }
+    }
+    /// The status with which the program ends: 2 for a bad trace line or a capture that can't be read, else 1.
+    pub fn status(self) -> u8
+        ensures { result ≡ status_of_fault self }
+    {
+        match self {
+            RunFault::BadTrace(_) | RunFault::Capture(_) => 2,
+            RunFault::Settings
+            | RunFault::NoMemory
+            | RunFault::Refused
+            | RunFault::CountFull
+            | RunFault::Write => 1,
         }
     }
 }

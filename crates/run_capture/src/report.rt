@@ -79,12 +79,5 @@ pub fn report_run<W: Write>(outcome: &Result<(), RunFault>, writer: &mut W) -> u
         return 0;
     };
     write_fault(writer, *fault);
-    match fault {
-        RunFault::BadTrace(_) | RunFault::Capture(_) => 2,
-        RunFault::Settings
-        | RunFault::NoMemory
-        | RunFault::Refused
-        | RunFault::CountFull
-        | RunFault::Write => 1,
-    }
+    fault.status()
 }

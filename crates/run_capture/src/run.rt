@@ -121,9 +121,12 @@ pub fn run_over<R: Threads + Wait + Sync, W: Write>(
 /// The same as [`run_over`], and meanwhile a line on `err`, which is to be a terminal, says how many frames were forwarded and how
 /// many messages are published, or with `after` that they are being published and then how many frames were forwarded. It is
 /// written anew about twice a second, and is gone before the lines are written. A write to `err` that fails is passed over.
-pub fn run_over_shown<R: Threads + Wait + Clock + Sync, W: Write, E: Write + Send>(
+pub fn run_over_shown<
+    R: Threads + Wait + Clock + Alloc<A = Global> + Sync,
+    W: Write,
+    E: Write + Send,
+>(
     rt: &R,
-    alloc: Global,
     trace: &[u8],
     frames: &[u8],
     settings: &RunSettings,
@@ -145,7 +148,7 @@ pub fn run_over_shown<R: Threads + Wait + Clock + Sync, W: Write, E: Write + Sen
             ensures fault { IfErr result (IsWhyNone trace.entry.now frames.entry.now
                 settings.entry.now) }
         {
-            let made = output_of(rt, alloc, trace, frames, settings, &progress);
+            let made = output_of(rt, rt.alloc(), trace, frames, settings, &progress);
             progress.end();
             made
         },

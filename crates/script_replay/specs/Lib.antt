@@ -1,4 +1,5 @@
 pub mod Answers
+pub mod Fault
 pub mod Finish
 pub mod Heads
 pub mod Replay

@@ -3,6 +3,7 @@ use Rattle.std.specs.Prelude.{ℕ, List, [], ◌∷◌, ◌++◌, Result, Ok, Er
 use Rattle.std.specs.Fmt.{decimal}
 use Rattle.script_replay.specs.declared.fault.ReplayFault.{ReplayFault}
 use Rattle.script_replay.specs.declared.fault.ReplayFault.TheVariants.{BadLine, Read, Write, NoMemory}
+use Rattle.script_replay.specs.Fault.{status_of}
 
 abbrev pub words_of : ReplayFault → List ℕ
 words_of (BadLine n) = codes "line " ++ decimal n ++ codes " is bad" ++ 10 ∷ []
@@ -15,9 +16,7 @@ abbrev pub words_at : Result (Unit {0}) ReplayFault → List ℕ
 words_at (Ok done) = []
 words_at (Err fault) = words_of fault
 
-abbrev pub status_of : Result (Unit {0}) ReplayFault → ℕ
-status_of (Ok done) = 0
-status_of (Err (BadLine n)) = 2
-status_of (Err (Read n)) = 1
-status_of (Err Write) = 1
-status_of (Err NoMemory) = 1
+-- 0 where there was no fault
+abbrev pub status_at : Result (Unit {0}) ReplayFault → ℕ
+status_at (Ok done) = 0
+status_at (Err fault) = status_of fault

@@ -1,5 +1,6 @@
 //! Why a replay ended before the end of its script.
 ghost use Rattle.std.specs.Prelude.{◌≡◌};
+ghost use Rattle.script_replay.specs.Fault.{number_of, status_of};
 ghost use Rattle.script_replay.specs.declared.fault.ReplayFault.TheVariants.{Write};
 
 use text_writing::WriteFault;
@@ -21,6 +22,30 @@ pub enum ReplayFault {
     /// There was no memory to begin with. Nothing is read, and nothing written.
     #[error("no memory")]
     NoMemory,
+}
+
+impl ReplayFault {
+    /// The number under which the fault is reported.
+    pub fn code(self) -> u8
+        ensures { result ≡ number_of self }
+    {
+        match self {
+            ReplayFault::BadLine(_) => 1,
+            ReplayFault::Read(_) => 2,
+            ReplayFault::Write => 3,
+            ReplayFault::NoMemory => 4,
+        }
+    }
+
+    /// The status with which the program ends: 2 for a bad line, else 1.
+    pub fn status(self) -> u8
+        ensures { result ≡ status_of self }
+    {
+        match self {
+            ReplayFault::BadLine(_) => 2,
+            ReplayFault::Read(_) | ReplayFault::Write | ReplayFault::NoMemory => 1,
+        }
+    }
 }
 
 impl From<WriteFault> for ReplayFault {

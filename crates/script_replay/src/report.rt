@@ -1,7 +1,7 @@
 //! The words and the status with which a replay ends.
 ghost use Rattle.std.specs.Prelude.{◌≡◌};
 ghost use Rattle.text_writing.specs.Written.{AppendsPart};
-ghost use Rattle.script_replay.specs.Report.{status_of, words_at, words_of};
+ghost use Rattle.script_replay.specs.Report.{status_at, words_at, words_of};
 
 use crate::fault::ReplayFault;
 use arrayvec::ArrayVec;
@@ -39,7 +39,7 @@ fn words(fault: ReplayFault) -> Words
 /// Writes the words for how a replay ended, if it wasn't at the end of its script, and gives the
 /// status: 0, 2 for a bad line, else 1. A write that fails is passed over.
 pub fn report_replay<W: Write>(outcome: &Result<(), ReplayFault>, writer: &mut W) -> u8
-    ensures status { result ≡ status_of outcome.now }
+    ensures status { result ≡ status_at outcome.now }
     ensures words { AppendsPart (W.contents writer.old) (W.contents writer.new)
         (words_at outcome.now) }
 {
@@ -47,8 +47,5 @@ pub fn report_replay<W: Write>(outcome: &Result<(), ReplayFault>, writer: &mut W
         return 0;
     };
     let _ = write_whole(writer, &words(*fault));
-    match fault {
-        ReplayFault::BadLine(_) => 2,
-        ReplayFault::Read(_) | ReplayFault::Write | ReplayFault::NoMemory => 1,
-    }
+    fault.status()
 }

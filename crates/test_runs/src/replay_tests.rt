@@ -79,7 +79,6 @@ fn a_run_has_the_same_lines_on_any_number_of_lanes(rt: HostRuntime) -> Result<()
     let mut err = Vec::new(alloc);
     run_over_shown(
         &rt,
-        alloc,
         trace.as_bytes(),
         &file,
         &applied_first(3, 64),

@@ -161,17 +161,18 @@ fn a_report_has_the_words_and_the_status(rt: HostRuntime) -> Result<(), Fail> {
 }
 
 #[test]
-fn each_fault_has_its_number(rt: HostRuntime) -> Result<(), Fail> {
-    for (fault, number) in [
-        (RunFault::Settings, 1),
-        (RunFault::BadTrace(7), 2),
-        (RunFault::Capture(CaptureFault::Magic), 3),
-        (RunFault::NoMemory, 4),
-        (RunFault::Refused, 5),
-        (RunFault::CountFull, 6),
-        (RunFault::Write, 7),
+fn each_fault_has_its_number_and_its_status(rt: HostRuntime) -> Result<(), Fail> {
+    for (fault, number, status) in [
+        (RunFault::Settings, 1, 1),
+        (RunFault::BadTrace(7), 2, 2),
+        (RunFault::Capture(CaptureFault::Magic), 3, 2),
+        (RunFault::NoMemory, 4, 1),
+        (RunFault::Refused, 5, 1),
+        (RunFault::CountFull, 6, 1),
+        (RunFault::Write, 7, 1),
     ] {
         same!(rt; fault.code(), number);
+        same!(rt; fault.status(), status);
     }
     Ok(())
 }

@@ -1,7 +1,7 @@
 use std::alloc::AllocError;
 use std::test::Fail;
 use test_fixtures::{Sink, compare, same};
-use text_writing::{DecodeFault, WriteFault, write_whole};
+use text_writing::{DecodeFault, LookFault, TextFault, WriteFault, report_look, write_whole};
 
 #[test]
 fn bytes_are_written_whole_or_to_where_a_write_fails(rt: HostRuntime) -> Result<(), Fail> {
@@ -38,16 +38,51 @@ fn what_differs_is_said_with_both(rt: HostRuntime) -> Result<(), Fail> {
 }
 
 #[test]
-fn a_fault_of_a_decoding_has_words_and_a_status(rt: HostRuntime) -> Result<(), AllocError> {
-    for (fault, words, status) in [
-        (DecodeFault::BadLine(7), "line 7 is bad", 2),
-        (DecodeFault::Read, "read failed", 1),
-        (DecodeFault::Write, "write failed", 1),
-        (DecodeFault::NoMemory, "no memory", 1),
+fn a_fault_of_a_decoding_has_words(rt: HostRuntime) -> Result<(), AllocError> {
+    for (fault, words) in [
+        (DecodeFault::BadLine(7), "line 7 is bad"),
+        (DecodeFault::Read, "read failed"),
+        (DecodeFault::Write, "write failed"),
+        (DecodeFault::NoMemory, "no memory"),
     ] {
-        same!(rt; fault.status(), status);
         let text = fault.to_string(rt.alloc())?;
         same!(rt; text.as_str(), words);
+    }
+    Ok(())
+}
+
+#[test]
+fn a_look_inside_ends_with_a_number_and_a_status(rt: HostRuntime) -> Result<(), Fail> {
+    for (fault, number, status) in [
+        (LookFault::BadLine(7), 1, 2),
+        (LookFault::BadTrace(7), 2, 2),
+        (LookFault::Read, 3, 1),
+        (LookFault::Write, 4, 1),
+        (LookFault::NoMemory, 5, 1),
+    ] {
+        same!(rt; fault.code(), number);
+        same!(rt; fault.status(), status);
+    }
+    Ok(())
+}
+
+#[test]
+fn a_look_inside_ends_with_words(rt: HostRuntime) -> Result<(), AllocError> {
+    for (outcome, words, status) in [
+        (Ok(()), "", 0),
+        (Err(LookFault::BadLine(7)), "line 7 is bad\n", 2),
+        (
+            Err(LookFault::BadTrace(18_446_744_073_709_551_615)),
+            "trace line 18446744073709551615 is bad\n",
+            2,
+        ),
+        (Err(LookFault::from(DecodeFault::Read)), "read failed\n", 1),
+        (Err(LookFault::from(TextFault::Write)), "write failed\n", 1),
+        (Err(LookFault::from(TextFault::NoMemory)), "no memory\n", 1),
+    ] {
+        let mut sink = Sink::new(rt.alloc(), 3, 100, true);
+        same!(rt; report_look(&outcome, &mut sink), status);
+        same!(rt; sink.bytes.as_slice(), words.as_bytes());
     }
     Ok(())
 }

@@ -81,3 +81,16 @@ fn a_report_has_the_words_and_the_status(rt: HostRuntime) {
         compare_report(&rt, rt.alloc(), &outcome, words, status);
     }
 }
+
+#[test]
+fn each_fault_has_its_number_and_its_status(rt: HostRuntime) {
+    for (fault, number, status) in [
+        (ReplayFault::BadLine(2), 1, 2),
+        (ReplayFault::Read(7), 2, 1),
+        (ReplayFault::Write, 3, 1),
+        (ReplayFault::NoMemory, 4, 1),
+    ] {
+        same!(rt; fault.code(), number);
+        same!(rt; fault.status(), status);
+    }
+}

@@ -1,10 +1,11 @@
 //! The table in force at a port, as text.
+use crate::words::entity_of;
 use explain::{TableInForce, number_of, shadow_of, table_in_force, tried_order};
-use managed_entity::class::{MAPPER, VLAN};
+use managed_entity::Class;
 use mib_state::Mib;
 use std::alloc::{AllocError, Global};
 use std::io::Write;
-use text_entities::{EntityWords, RuleWords};
+use text_entities::RuleWords;
 use text_writing::{TextFault, write_whole};
 use vlan_rule::RuleTable;
 
@@ -58,17 +59,12 @@ pub(crate) fn put_force(
             )
         }
         TableInForce::OfPort(instance) => {
-            let class = VLAN;
-            let entity = EntityWords { class, instance };
+            let entity = entity_of(Class::Vlan, instance);
             writeln!(text, "table: {entity} points to port {port}")
         }
         TableInForce::OfMapper { mapper, instance } => {
-            let class = VLAN;
-            let entity = EntityWords { class, instance };
-            let mapper = EntityWords {
-                class: MAPPER,
-                instance: mapper,
-            };
+            let entity = entity_of(Class::Vlan, instance);
+            let mapper = entity_of(Class::Mapper, mapper);
             writeln!(text, "table: {entity} points to {mapper} of port {port}")
         }
     }

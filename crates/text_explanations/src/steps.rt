@@ -1,14 +1,14 @@
 //! Why a frame goes where it goes, as text.
 use crate::rules::{put_force, table_of};
 use crate::verdict::VerdictWords;
-use crate::words::{MismatchWords, OriginWords};
+use crate::words::{MismatchWords, OriginWords, entity_of};
 use explain::{OutgoingTag, PriorityOrigin, Step, explain, number_of, table_in_force};
 use frame_meaning::Verdict;
-use managed_entity::class::{GEM_PORT, INTERWORK, MAPPER};
+use managed_entity::Class;
 use mib_state::Mib;
 use std::alloc::{AllocError, Global};
 use std::io::Write;
-use text_entities::{EntityWords, RuleWords, TagWords};
+use text_entities::{RuleWords, TagWords};
 use text_messages::put_view;
 use text_writing::{TextFault, write_whole};
 use vlan_rule::RuleTable;
@@ -99,7 +99,7 @@ fn put_tags(text: &mut String, tags: &[OutgoingTag]) -> Result<(), AllocError> {
 fn put_route(text: &mut String, step: &Step<'_>) -> Result<(), AllocError> {
     match step {
         Step::Mapper(instance) => {
-            let mapper = entity(MAPPER, *instance);
+            let mapper = entity_of(Class::Mapper, *instance);
             writeln!(text, "mapper: {mapper}")
         }
         Step::Priority { priority, origin } => put_priority(text, *priority, *origin),
@@ -108,7 +108,7 @@ fn put_route(text: &mut String, step: &Step<'_>) -> Result<(), AllocError> {
             instance,
             gem_port_pointer,
         } => {
-            let point = entity(INTERWORK, *instance);
+            let point = entity_of(Class::Interwork, *instance);
             writeln!(
                 text,
                 "interworking: {point}, GEM port pointer 0x{gem_port_pointer:04x}"
@@ -119,17 +119,12 @@ fn put_route(text: &mut String, step: &Step<'_>) -> Result<(), AllocError> {
             port_id,
             direction,
         } => {
-            let gem_port = entity(GEM_PORT, *instance);
+            let gem_port = entity_of(Class::GemPort, *instance);
             let direction = direction_words(*direction);
             writeln!(text, "GEM port: {gem_port}, port-ID {port_id}, {direction}")
         }
         _ => Ok(()),
     }
-}
-
-/// An instance of a class in words.
-fn entity(class: u16, instance: u16) -> EntityWords {
-    EntityWords { class, instance }
 }
 
 /// Puts the priority of a frame and where it comes from.

@@ -1,7 +1,14 @@
 //! The parts of an explanation in words.
 use explain::{Mismatch, TagField, TagOrigin};
+use managed_entity::Class;
 use std::fmt;
-use text_entities::AddedTagWords;
+use text_entities::{AddedTagWords, EntityWords};
+
+/// An instance of a class in words.
+pub(crate) fn entity_of(class: Class, instance: u16) -> EntityWords {
+    let class = class.number();
+    EntityWords { class, instance }
+}
 
 /// The field of an entry by which it doesn't admit a frame, in words.
 #[derive(Clone, Copy, Debug)]

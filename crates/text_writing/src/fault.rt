@@ -1,7 +1,4 @@
 //! Why a text wasn't written, or not whole.
-ghost use Rattle.std.specs.Prelude.{◌≡◌};
-ghost use Rattle.text_writing.specs.Status.{status_of};
-
 use crate::whole::WriteFault;
 use std::alloc::AllocError;
 use thiserror::Error;
@@ -44,18 +41,6 @@ pub enum DecodeFault {
     /// There was no memory for the script or for the text of a line. The texts of the lines before it are written.
     #[error("no memory")]
     NoMemory,
-}
-
-impl DecodeFault {
-    /// The status with which the program ends: 2 for a bad line, else 1.
-    pub fn status(self) -> u8
-        ensures { result ≡ status_of self }
-    {
-        match self {
-            DecodeFault::BadLine(_) => 2,
-            DecodeFault::Read | DecodeFault::Write | DecodeFault::NoMemory => 1,
-        }
-    }
 }
 
 impl From<WriteFault> for DecodeFault {
