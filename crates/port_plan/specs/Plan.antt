@@ -1,5 +1,6 @@
 -- What is compiled of a table and of a mapper for forwarding: each is a function of the managed entities.
 use Rattle.std.specs.Prelude.{◌≡◌, ◌<◌, ℕ, Bool, false, Option, Some, None, IfSome, Result, Err, slice_get, slice_index, replicate}
+use Rattle.tag_view.specs.Tag.{customer_tpid}
 use Rattle.vlan_rule.specs.Table.{predefined}
 use Rattle.pmapper.specs.Mapper.{unmarked_priority_of}
 use Rattle.managed_entity.specs.Instance.{Instance, attribute_number}
@@ -32,7 +33,7 @@ pub record TablePlan : Type 0 where
 abbrev pub transparent : Table
 transparent =
     record {
-      settings = record { input_tpid = 0x8100; output_tpid = 0x8100; dscp_map = record { 0 = replicate 24 0 } };
+      settings = record { input_tpid = customer_tpid; output_tpid = customer_tpid; dscp_map = record { 0 = replicate 24 0 } };
       entries = predefined;
     }
 

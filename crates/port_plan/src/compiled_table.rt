@@ -15,14 +15,14 @@ use mib_state::VlanConfig;
 use rule_index::{Followed, Head, Index};
 use std::alloc::{AllocError, Global};
 use std::marker::Model;
-use tag_view::DscpMap;
+use tag_view::{CUSTOMER_TPID, DscpMap};
 use treatment::Treat;
 use vlan_rule::{Filter, RuleTable, TABLE_MAX_SIZE, TableSettings};
 
 /// The settings of a new table: the TPID of a customer's tag (IEEE 802.1Q, clause 9.6), and priority 0 for each DSCP.
 const SETTINGS: TableSettings = TableSettings {
-    input_tpid: 0x8100,
-    output_tpid: 0x8100,
+    input_tpid: CUSTOMER_TPID,
+    output_tpid: CUSTOMER_TPID,
     dscp_map: DscpMap([0; 24]),
 };
 

@@ -1,6 +1,6 @@
 -- The keys by which an index groups its entries.
 use Rattle.std.specs.Prelude.{ℕ, ◌+◌, ◌*◌, ◌/◌, ◌%◌, Bool, true, false, not, ◌&&◌, ◌||◌, if◌then◌else◌, ◌==◌, nat_lt}
-use Rattle.tag_view.specs.Tag.{TagFields}
+use Rattle.tag_view.specs.Tag.{TagFields, customer_tpid}
 use Rattle.vlan_rule.specs.declared.filter.PriorityFilter.{PriorityFilter}
 use Rattle.vlan_rule.specs.declared.filter.PriorityFilter.TheVariants as priority
 use Rattle.vlan_rule.specs.declared.filter.VidFilter.{VidFilter}
@@ -76,12 +76,12 @@ type_class type =
     else (if type == 0x888E then 5
     else 0))))
 
--- the code of a tag: whether its TPID is 0x8100, whether it is the input TPID, priority, DEI
+-- the code of a tag: whether its TPID is that of a customer tag, whether it is the input TPID, priority, DEI
 abbrev pub code_by : Bool → Bool → ℕ → Bool → ℕ
 code_by standard input pcp dei = bit_of standard * 32 + bit_of input * 16 + pcp * 2 + bit_of dei
 
 abbrev pub code_of : ℕ → TagFields → ℕ
-code_of input tag = code_by (tag.tpid == 0x8100) (tag.tpid == input) tag.pcp tag.dei
+code_of input tag = code_by (tag.tpid == customer_tpid) (tag.tpid == input) tag.pcp tag.dei
 
 -- ---- which filters admit a class
 

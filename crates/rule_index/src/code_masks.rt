@@ -7,6 +7,7 @@ ghost use Rattle.rule_index.specs.Filters.{code_of, priority_key, tpid_key};
 ghost use Rattle.rule_index.specs.Codes.{joined_code, joined_priority, joined_tpid, only_if, AreCodes};
 
 use crate::bit::{insert_bits, remove_bits, set_bit};
+use tag_view::CUSTOMER_TPID;
 use vlan_rule::{PriorityFilter, TagFilter, TpidFilter};
 
 /// The key of a filter for a priority.
@@ -35,14 +36,14 @@ fn tpid_key(filter: TpidFilter) -> usize
     }
 }
 
-/// The code of the tag of a word: its TPID by whether it is 0x8100 and whether it is the input TPID, its
+/// The code of the tag of a word: its TPID by whether it is that of a customer tag and whether it is the input TPID, its
 /// priority and its DEI.
 #[inline(always)]
 pub(crate) fn code_of(tag: u32, input_tpid: u16) -> usize
     ensures value { result ≡ code_of input_tpid (tag_of tag) }
     ensures bound { result < 64 }
 {
-    usize::from(tag >> 16 == 0x8100) * 32
+    usize::from(tag >> 16 == u32::from(CUSTOMER_TPID)) * 32
         + usize::from(tag >> 16 == u32::from(input_tpid)) * 16
         + (tag >> 12 & 15) as usize
 }
