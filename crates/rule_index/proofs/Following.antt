@@ -1,18 +1,19 @@
 -- What stays where one treatment of a table is set.
 use Rattle.std.proofs.Common.{◌≡◌, ◌≢◌, ◌==◌, ℕ, ◌+◌, ◌-◌, ◌*◌, ◌/◌, ◌%◌, ◌^◌, ◌<◌, ◌≤◌, true, false, ◌||◌, ◌&&◌, leb, nat_lt, map, List, [], Some, length, get_or, set, take, drop, slice_index, refl, ap, sym, ◌∙◌, subst, arith, ◌⊎◌, inl, inr}
 use Rattle.std.specs.Prelude.{slice_get, slice_set}
+use Rattle.std.specs.Option.{option_map}
 use Rattle.std.proofs.lemmas.Bool.{le-ltb}
 use Rattle.std.proofs.lemmas.Bool.Decides.{eqb_tells, leb_tells}
 use Rattle.std.proofs.Math.Bool.{and-false}
 use Rattle.std.proofs.lemmas.List.{ext_get_or, get_or-drop, get_or-set_other, get_or-take, length-set, length-take-le}
 use Rattle.std.proofs.lemmas.Grind.{get_or-set_at}
-use Rattle.std.proofs.lemmas.Option.{get_or_from_slice_get, slice_get_within}
+use Rattle.std.proofs.lemmas.Option.{get_or_from_slice_get, same_Some, slice_get-map, slice_get_within}
 use Rattle.byteorder.specs.Endian.{big_number}
 use Rattle.vlan_rule.specs.Choice.{entry_at, is_before, rank_at}
 use Rattle.tag_view.proofs.Bytes.{bytes_within}
 use Rattle.rule_index.specs.declared.row.Row.{Row}
 use Rattle.rule_index.specs.Order.{order_of, rows_of, IsAlike}
-use Rattle.rule_index.specs.Followed.{IsTreated}
+use Rattle.rule_index.specs.Followed.{IsTaken, IsTreated}
 use Rattle.rule_index.proofs.Alike.{rows_of-alike}
 use Rattle.rule_index.proofs.Sorted.{is_order}
 
@@ -111,3 +112,35 @@ treated old new place number e within alike is at =
           ap (λ entries. entry_at entries q) is
           ∙ get_or-set_other old place q e [] (λ same. once old k number q (ap (λ o. slice_get o k) (sym order) ∙ at_k) (at ∙ ap (λ n. Some n) (sym same)) differ);
     }
+
+-- the number of an entry in the order, as its row has the place
+pub numbered-at : (entries : List (List ℕ)) (rows : List Row) (place number : ℕ) → rows ≡ rows_of entries
+    → option_map (λ (row : Row). row.place) (slice_get rows number) ≡ Some place → slice_get (order_of entries) number ≡ Some place
+numbered-at entries rows place number is held =
+    slice_get-map (λ (row : Row). row.place) (rows_of entries) number
+    ∙ ap (λ (rs : List Row). option_map (λ (row : Row). row.place) (slice_get rs number)) (sym is) ∙ held
+
+-- ---- what a step towards a table takes
+
+-- the same entries up to the end of both
+pub same-table : (entries table : List (List ℕ)) (n : ℕ) → n ≡ length entries → n ≡ length table
+    → ((k : ℕ) → 0 ≤ k → k < n → entry_at entries k ≡ entry_at table k) → entries ≡ table
+same-table entries table n long ends same = ext_get_or [] entries table (sym long ∙ ends) (λ k h. same k (omega arith) (omega (arith, h, long)))
+
+taken-at : (entries table : List (List ℕ)) (place number : ℕ) → slice_get (order_of entries) number ≡ Some place
+    → place < length table → entry_at entries place ≡ entry_at table place → IsTaken entries table number
+taken-at entries table place number at within same other there =
+    let P : ℕ → Type 0 = λ q. (q < length table) × (entry_at entries q ≡ entry_at table q) in
+    subst P (same_Some _ _ (sym at ∙ there)) (within, same)
+
+pub set-taken : (old new table : List (List ℕ)) (place number : ℕ) (e : List ℕ) → place < length old → new ≡ slice_set old place e
+    → slice_get table place ≡ Some e → slice_get (order_of new) number ≡ Some place → IsTaken new table number
+set-taken old new table place number e within is held at =
+    taken-at new table place number at (slice_get_within table place e held)
+    (ap (λ es. entry_at es place) is ∙ get_or-set_at old place place e [] refl within ∙ sym (get_or_from_slice_get table place e [] held))
+
+pub added-taken : (old new table : List (List ℕ)) (number : ℕ) → length old < length table → new ≡ take (length old + 1) table
+    → slice_get (order_of new) number ≡ Some (length old) → IsTaken new table number
+added-taken old new table number more is at =
+    taken-at new table (length old) number at more
+    (ap (λ es. entry_at es (length old)) is ∙ get_or-take (length old + 1) table (length old) [] (omega arith))

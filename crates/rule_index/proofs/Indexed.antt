@@ -137,15 +137,15 @@ deleted-index entries rows rows' masks masks' place number is inside at made mov
     fewer : length (rows_of (remove entries place)) ≤ length (rows_of entries)
     fewer = omega (arith, ap (λ (rs : List Row). length rs) more.rows, length-insert (map (raised place) (rows_of (remove entries place))) number (row_of place (entry_at entries place)) within, length-map (rows_of (remove entries place)) (raised place))
 
--- ---- a table with one entry more at the end
+-- ---- the entry that a table has next
 
 pub record IsLast (entries table : List (List ℕ)) (place : ℕ) (e : List ℕ) : Type 0 where
   pub long : length entries ≡ place
-  pub whole : table ≡ entries ++ e ∷ []
+  pub whole : take (place + 1) table ≡ entries ++ e ∷ []
   pub front : take place table ≡ entries
   pub there : entry_at table place ≡ e
 
-pub last : (entries table : List (List ℕ)) (place : ℕ) (e : List ℕ) → length entries ≡ place → length table ≡ place + 1
+pub last : (entries table : List (List ℕ)) (place : ℕ) (e : List ℕ) → length entries ≡ place → place < length table
     → ((k : ℕ) → k < length entries → entry_at entries k ≡ entry_at table k) → Some e ≡ slice_get table place → IsLast entries table place e
 last entries table place e long more same held = record { long = long; whole = whole; front = front; there = there }
   where
@@ -157,9 +157,9 @@ last entries table place e long more same held = record { long = long; whole = w
         sym (same-take entries table place (omega (arith, long)) (omega (arith, more)) (λ k h. same k (omega (arith, h, long))))
         ∙ take_all place entries (omega (arith, long))
 
-    whole : table ≡ entries ++ e ∷ []
+    whole : take (place + 1) table ≡ entries ++ e ∷ []
     whole =
-        sym (take_all (place + 1) table (omega (arith, more))) ∙ take_more table place [] (omega (arith, more))
+        take_more table place [] more
         ∙ ap₂ (λ (es : List (List ℕ)) (x : List ℕ). es ++ x ∷ []) front there
 
 pub number-is : (entries table : List (List ℕ)) (place number rank : ℕ) (e : List ℕ) (r : Rank) → IsLast entries table place e

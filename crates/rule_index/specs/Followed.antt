@@ -1,5 +1,5 @@
 -- What an index tells of a table that it follows, which has new entries in place of old ones.
-use Rattle.std.specs.Prelude.{◌≡◌, ◌≢◌, ◌≤◌, ℕ, List, Some, length, map, slice_get}
+use Rattle.std.specs.Prelude.{◌≡◌, ◌≢◌, ◌<◌, ◌≤◌, ℕ, List, Some, length, map, slice_get}
 use Rattle.std.specs.List.{insert}
 use Rattle.vlan_rule.specs.Choice.{entry_at}
 use Rattle.rule_index.specs.declared.followed.Followed.{Followed}
@@ -30,3 +30,15 @@ IsFollowed old new (Treatment number) = IsTreated old new number
 IsFollowed old new (Added number) = IsOneMore old new (length old) number
 IsFollowed old new (Deleted number) = (place : ℕ) × IsOneMore new old place number
 IsFollowed old new Rebuilt = Unit {0}
+
+-- the entry of a number in the order is that which a table has at the same place
+abbrev pub IsTaken : List (List ℕ) → List (List ℕ) → ℕ → Type 0
+IsTaken entries table number = (place : ℕ) → slice_get (order_of entries) number ≡ Some place → (place < length table) × (entry_at entries place ≡ entry_at table place)
+
+-- what a step towards a table reaches
+abbrev pub IsTowards : List (List ℕ) → List (List ℕ) → Followed → Type 0
+IsTowards entries table Unchanged = entries ≡ table
+IsTowards entries table (Treatment number) = IsTaken entries table number
+IsTowards entries table (Added number) = IsTaken entries table number
+IsTowards entries table (Deleted number) = Unit {0}
+IsTowards entries table Rebuilt = entries ≡ table

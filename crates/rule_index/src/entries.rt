@@ -1,5 +1,5 @@
 //! The entries that an index is of.
-ghost use Rattle.std.specs.Prelude.{◌≡◌, ◌≤◌, ◌<◌, ◌+◌, ℕ, IfSome, IsTrue, length, map, slice_set, vec_capacity};
+ghost use Rattle.std.specs.Prelude.{◌≡◌, ◌≤◌, ◌<◌, ◌+◌, ℕ, IfSome, IsTrue, Some, length, map, slice_get, slice_set, vec_capacity};
 ghost use Rattle.vlan_rule.specs.Choice.{entry_at};
 ghost use Rattle.vlan_rule.specs.Table.{table_max_size};
 ghost use Rattle.std.specs.List.{remove};
@@ -44,6 +44,23 @@ pub(crate) fn first_other(entries: &[Entry], table: &RuleTable, from: usize) -> 
     len
 }
 
+/// The entry at a place of a table, where it has the key of that which is there among these.
+pub(crate) fn of_one_key(entries: &[Entry], table: &RuleTable, place: usize) -> Option<Entry>
+    ensures { IfSome result (λ entry. (place < length entries.now)
+        × IsAlike (entry_at (map (λ e. e.0) entries.now) place) entry.0
+        × (slice_get table.now place ≡ Some entry.0)) }
+{
+    if entries.len() <= place {
+        return None;
+    }
+    let entry = table.entry(place)?;
+    if have_one_key(&entries[place].0, &entry.0) {
+        Some(entry)
+    } else {
+        None
+    }
+}
+
 /// The entry at a place of a table, where it differs from these in this entry's treatment alone.
 pub(crate) fn other_treatment(entries: &[Entry], table: &RuleTable, place: usize) -> Option<Entry>
     requires { (k : ℕ) → k < place → entry_at (map (λ entry. entry.0) entries.now) k
@@ -55,12 +72,7 @@ pub(crate) fn other_treatment(entries: &[Entry], table: &RuleTable, place: usize
     if entries.len() != table.len() {
         return None;
     }
-    let Some(entry) = table.entry(place) else {
-        return None;
-    };
-    if !have_one_key(&entries[place].0, &entry.0) {
-        return None;
-    }
+    let entry = of_one_key(entries, table, place)?;
     if first_other(entries, table, place + 1) < entries.len() {
         return None;
     }

@@ -1,9 +1,10 @@
 //! The index of a table.
-ghost use Rattle.std.specs.Prelude.{◌≡◌, ◌<◌, ◌≤◌, [], ℕ, None, IfOk, List, MatchOption, length, slice_get};
-ghost use Rattle.rule_index.specs.Order.{order_of};
+ghost use Rattle.std.specs.Prelude.{◌≡◌, ◌<◌, ◌≤◌, ◌+◌, [], ℕ, None, Some, IfOk, List, MatchOption, length, slice_get, slice_set, take};
+ghost use Rattle.std.specs.List.{remove};
+ghost use Rattle.rule_index.specs.Order.{order_of, IsAlike};
 ghost use Rattle.rule_index.specs.Readers.{has_inner_vid, has_tags, mask_in_order, IsMaskInOrder};
 
-use crate::entries::{copy_entries, first_other, is_without, other_treatment};
+use crate::entries::{copy_entries, first_other, is_without, of_one_key, other_treatment};
 use crate::followed::Followed;
 use crate::head::Head;
 use crate::masks::Masks;
@@ -43,7 +44,7 @@ impl Model for Index {
 impl Index {
     ghost use Rattle.tag_view.specs.Frame.{type_at};
     ghost use Rattle.vlan_rule.specs.Choice.{choice, entry_at, matches, IsChoice};
-    ghost use Rattle.rule_index.specs.Followed.{IsFollowed, IsOneMore};
+    ghost use Rattle.rule_index.specs.Followed.{IsFollowed, IsOneMore, IsTowards, IsTreated};
 
     /// An index of no entries, with room for those of any table.
     pub fn new(alloc: Global) -> Result<Self, AllocError>
@@ -75,39 +76,113 @@ impl Index {
         ensures index { self.new ≡ table.now }
         ensures followed { IsFollowed self.old self.new result }
     {
-        let place = first_other(&self.entries, table, 0);
-        if place == self.entries.len() && place == table.len() {
+        let Some(place) = self.other_place(table) else {
             return Followed::Unchanged;
-        }
-        if let Some(entry) = other_treatment(&self.entries, table, place) {
-            self.entries[place] = entry;
-            return match number_at(&self.numbers, &self.rows, place) {
-                Some(number) => Followed::Treatment(number),
-                None => Followed::Rebuilt,
-            };
-        }
-        if place == self.entries.len()
-            && let Some(number) = self.follow_added(table)
-        {
-            return Followed::Added(number);
-        }
-        if let Some(number) = self.follow_deleted(table, place) {
-            return Followed::Deleted(number);
+        };
+        if let Some(followed) = self.only_step(table, place) {
+            return followed;
         }
         self.compile_from(table, place);
         Followed::Rebuilt
     }
 
-    /// Takes the entry that a table has behind all of the index, where there is one alone and a class for its
-    /// VIDs, and gives its number.
-    fn follow_added(&mut self, table: &RuleTable) -> Option<u8>
+    /// Comes one step nearer to a table, and says which. The step is at the first place at which both differ: where
+    /// the table's entry there has the same key, that one entry is taken; where the index ends there, the table's
+    /// entry comes at its end; else the entry that the index has there is deleted. It takes no memory. A table is
+    /// changed by treatments that are set in place, by deletions, and by keys that come at its end, so that a few
+    /// steps reach a table that few changes have made. Only where an entry names a VID for which no class is
+    /// left, all is made anew.
+    pub fn approach(&mut self, table: &RuleTable) -> Followed
+        ensures followed { IsFollowed self.old self.new result }
+        ensures towards { IsTowards self.new table.now result }
+    {
+        let Some(place) = self.other_place(table) else {
+            return Followed::Unchanged;
+        };
+        if let Some(followed) = self.step(table, place) {
+            return followed;
+        }
+        self.compile_from(table, place);
+        Followed::Rebuilt
+    }
+
+    /// The first place at which a table has another entry, or from which on one of both has no more, or None where
+    /// they are the same.
+    fn other_place(&self, table: &RuleTable) -> Option<usize>
+        ensures { MatchOption result (self.now ≡ table.now)
+            (λ place. (place ≤ length self.now) × (place ≤ length table.now)
+            × ((k : ℕ) → k < place → entry_at self.now k ≡ entry_at table.now k)) }
+    {
+        let place = first_other(&self.entries, table, 0);
+        if place == self.entries.len() && place == table.len() {
+            return None;
+        }
+        Some(place)
+    }
+
+    /// Takes the step by which alone a table differs, at a place before which both are the same, or leaves all as it
+    /// is where there is no such step or it can't be taken.
+    fn only_step(&mut self, table: &RuleTable, place: usize) -> Option<Followed>
+        requires within { (place ≤ length self.old) × (place ≤ length table.now) }
+        requires same { (k : ℕ) → k < place → entry_at self.old k ≡ entry_at table.now k }
+        ensures { MatchOption result (self.new ≡ self.old)
+            (λ followed. (self.new ≡ table.now) × IsFollowed self.old self.new followed) }
+    {
+        if place == self.entries.len() && place + 1 == table.len() {
+            return Some(Followed::Added(self.take_next(table)?));
+        }
+        if let Some(entry) = other_treatment(&self.entries, table, place) {
+            return Some(Followed::Treatment(self.set_entry(place, entry)?));
+        }
+        if is_without(&self.entries, table, place) {
+            return Some(Followed::Deleted(self.delete_at(place)?));
+        }
+        None
+    }
+
+    /// Takes the step towards a table at a place before which both are the same, or leaves all as it is where it
+    /// can't be taken.
+    fn step(&mut self, table: &RuleTable, place: usize) -> Option<Followed>
+        requires within { (place ≤ length self.old) × (place ≤ length table.now) }
+        requires same { (k : ℕ) → k < place → entry_at self.old k ≡ entry_at table.now k }
+        ensures { MatchOption result (self.new ≡ self.old)
+            (λ followed. IsFollowed self.old self.new followed
+            × IsTowards self.new table.now followed) }
+    {
+        if place == self.entries.len() {
+            return Some(Followed::Added(self.take_next(table)?));
+        }
+        if let Some(entry) = of_one_key(&self.entries, table, place) {
+            return Some(Followed::Treatment(self.set_entry(place, entry)?));
+        }
+        Some(Followed::Deleted(self.delete_at(place)?))
+    }
+
+    /// Sets the entry at a place to one of the same key, and gives its number.
+    fn set_entry(&mut self, place: usize, entry: Entry) -> Option<u8>
+        requires within { place < length self.old }
+        requires alike { IsAlike (entry_at self.old place) entry.0 }
+        ensures { MatchOption result (self.new ≡ self.old)
+            (λ number. (self.new ≡ slice_set self.old place entry.0)
+            × (slice_get (order_of self.new) number ≡ Some place)
+            × IsTreated self.old self.new number) }
+    {
+        let number = number_at(&self.numbers, &self.rows, place)?;
+        self.entries[place] = entry;
+        Some(number)
+    }
+
+    /// Takes the entry that a table has next behind all of the index, where there is one and a class for its VIDs,
+    /// and gives its number.
+    fn take_next(&mut self, table: &RuleTable) -> Option<u8>
         requires { (k : ℕ) → k < length self.old → entry_at self.old k ≡ entry_at table.now k }
         ensures { MatchOption result (self.new ≡ self.old)
-            (λ number. (self.new ≡ table.now)
+            (λ number. (length self.old < length table.now)
+            × (self.new ≡ take (length self.old + 1) table.now)
             × IsOneMore self.old self.new (length self.old) number) }
     {
         let place = self.entries.len();
-        if table.len() != place + 1 || !self.masks.has_room() {
+        if table.len() <= place || !self.masks.has_room() {
             return None;
         }
         let entry = table.entry(place)?;
@@ -125,17 +200,13 @@ impl Index {
         Some(number as u8)
     }
 
-    /// Lets the entry at a place go, where a table has all of the index but this, and gives the number that it
-    /// had.
-    fn follow_deleted(&mut self, table: &RuleTable, place: usize) -> Option<u8>
-        requires within { place ≤ length table.now }
-        requires same { (k : ℕ) → k < place → entry_at self.old k ≡ entry_at table.now k }
+    /// Lets the entry at a place go, and gives the number that it had.
+    fn delete_at(&mut self, place: usize) -> Option<u8>
+        requires { place < length self.old }
         ensures { MatchOption result (self.new ≡ self.old)
-            (λ number. (self.new ≡ table.now) × IsOneMore self.new self.old place number) }
+            (λ number. (self.new ≡ remove self.old place)
+            × IsOneMore self.new self.old place number) }
     {
-        if !is_without(&self.entries, table, place) {
-            return None;
-        }
         let number = number_at(&self.numbers, &self.rows, place)?;
         self.entries.remove(place);
         self.rows.remove(usize::from(number));

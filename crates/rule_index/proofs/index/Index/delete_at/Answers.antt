@@ -1,9 +1,7 @@
 use Rattle.std.proofs.Common.{◌≡◌, ◌<◌, ℕ, List, Some, length, map, refl, ap, sym, subst, ◌∙◌, arith}
 use Rattle.std.specs.Prelude.{slice_get}
 use Rattle.std.specs.List.{remove}
-use Rattle.std.specs.Option.{option_map}
 use Rattle.std.proofs.lemmas.List.{length-map}
-use Rattle.std.proofs.lemmas.Option.{slice_get-map}
 use Rattle.vlan_rule.specs.declared.entry.Entry.{Entry}
 use Rattle.vlan_rule.specs.Choice.{entry_at}
 use Rattle.vlan_rule.proofs.Places.{map-remove}
@@ -11,36 +9,25 @@ use Rattle.rule_index.specs.declared.row.Row.{Row}
 use Rattle.rule_index.specs.Built.{IsIndexOf}
 use Rattle.rule_index.specs.Followed.{IsOneMore}
 use Rattle.rule_index.specs.Order.{lowered, order_of, rows_of}
+use Rattle.rule_index.proofs.Following.{numbered-at}
 use Rattle.rule_index.proofs.Indexed.{deleted-index}
 use Rattle.rule_index.proofs.Inserted.{deleted, one-more}
 use Rattle.rule_index.proofs.Moving.{written}
-use Rattle.rule_index.proofs.index.Index.follow_deleted.Goals as goal
+use Rattle.rule_index.proofs.index.Index.delete_at.Goals as goal
 
 bytes : Entry → List ℕ
 bytes entry = entry.0
 
--- what is known of a table without one of the entries
-IsLeft : List (List ℕ) → ℕ → List Entry → Type 0
-IsLeft table place entries = (place < length entries) × (table ≡ remove (map bytes entries) place)
-
--- the number of an entry in the order, as its row has the place
-numbered : (entries : List (List ℕ)) (rows : List Row) (place number : ℕ) → rows ≡ rows_of entries
-    → option_map (λ (row : Row). row.place) (slice_get rows number) ≡ Some place → slice_get (order_of entries) number ≡ Some place
-numbered entries rows place number is held =
-    slice_get-map (λ (row : Row). row.place) (rows_of entries) number
-    ∙ ap (λ (rs : List Row). option_map (λ (row : Row). row.place) (slice_get rs number)) (sym is) ∙ held
-
 pub invariant_of-self : goal.invariant_of-self
-unfolding bytes IsLeft
+unfolding bytes
 invariant_of-self c =
     let entries = c.self.inside.entries.items in
     let kept = map bytes entries in
     let rows = c.self.inside.rows.items in
     let place = c.args.place in
     let n = c.in_ok-number.number in
-    let known = subst (IsLeft c.args.table.now place) c.deref.ensures.value (c.if-not-is_without.ensures refl) in
-    let inside : place < length kept = omega (arith, known.0, length-map entries bytes) in
-    let at : slice_get (order_of kept) n ≡ Some place = numbered kept c.deref-2.result.now place n (c.deref-2.ensures.value ∙ c.self.invariant.2.in_order) c.in_ok-number.ensures in
+    let inside : place < length kept = subst (λ (es : List (List ℕ)). place < length es) (sym c.self.view_is) c.requires in
+    let at : slice_get (order_of kept) n ≡ Some place = numbered-at kept c.deref.result.now place n (c.deref.ensures.value ∙ c.self.invariant.2.in_order) c.in_ok-number.ensures in
     let less : map bytes c.remove.new.self.items ≡ remove kept place = ap (map bytes) c.remove.ensures.items ∙ map-remove bytes entries place in
     let new = c.close_gap.new.rows in
     let gap : new ≡ map (λ row. lowered place row) (remove rows n) =
@@ -55,17 +42,16 @@ invariant_of-self c =
     )
 
 pub returns : goal.returns
-unfolding bytes IsLeft
+unfolding bytes
 returns c =
     let entries = c.self.inside.entries.items in
     let kept = map bytes entries in
     let place = c.args.place in
     let n = c.in_ok-number.number in
-    let known = subst (IsLeft c.args.table.now place) c.deref.ensures.value (c.if-not-is_without.ensures refl) in
-    let inside : place < length kept = omega (arith, known.0, length-map entries bytes) in
-    let at : slice_get (order_of kept) n ≡ Some place = numbered kept c.deref-2.result.now place n (c.deref-2.ensures.value ∙ c.self.invariant.2.in_order) c.in_ok-number.ensures in
+    let inside : place < length kept = subst (λ (es : List (List ℕ)). place < length es) (sym c.self.view_is) c.requires in
+    let at : slice_get (order_of kept) n ≡ Some place = numbered-at kept c.deref.result.now place n (c.deref.ensures.value ∙ c.self.invariant.2.in_order) c.in_ok-number.ensures in
     let less : map bytes c.remove.new.self.items ≡ remove kept place = ap (map bytes) c.remove.ensures.items ∙ map-remove bytes entries place in
     let more : IsOneMore (remove kept place) kept place n = one-more (remove kept place) kept place n (entry_at kept place) (deleted kept place n inside at) in
     let S : List (List ℕ) → Type 0 = λ es. IsOneMore (remove kept place) es place n in
     let V : List (List ℕ) → Type 0 = λ es. IsOneMore es c.args.self.now place n in
-    (less ∙ sym known.1, subst V (sym less) (subst S c.self.view_is more))
+    (less ∙ ap (λ es. remove es place) c.self.view_is, subst V (sym less) (subst S c.self.view_is more))

@@ -1,4 +1,4 @@
-use Rattle.std.proofs.Common.{◌≡◌, ◌<◌, ◌++◌, ◌∷◌, [], ℕ, List, Bool, true, cond, length, map, ap, sym, subst, ◌∙◌, refl, arith}
+use Rattle.std.proofs.Common.{◌≡◌, ◌<◌, ◌+◌, ◌++◌, ◌∷◌, take, [], ℕ, List, Bool, true, cond, length, map, ap, sym, subst, ◌∙◌, refl, arith}
 use Rattle.std.specs.List.{insert}
 use Rattle.std.specs.Result.{is_ok}
 use Rattle.std.proofs.lemmas.List.{length-map, map-append}
@@ -12,7 +12,7 @@ use Rattle.rule_index.specs.Order.{up_to_rank}
 use Rattle.rule_index.proofs.Found.{no_more_rows}
 use Rattle.rule_index.proofs.Indexed.{added-index, last, number-is, row-is, IsLast}
 use Rattle.rule_index.proofs.Inserted.{added, one-more, IsRowMore}
-use Rattle.rule_index.proofs.index.Index.follow_added.Goals as goal
+use Rattle.rule_index.proofs.index.Index.take_next.Goals as goal
 
 bytes : Entry → List ℕ
 bytes entry = entry.0
@@ -77,4 +77,8 @@ returns c =
     let more : IsOneMore kept (kept ++ e ∷ []) (length kept) n = one-more kept (kept ++ e ∷ []) (length kept) n e (subst N (sym number) (added kept e)) in
     let S : List (List ℕ) → Type 0 = λ es. IsOneMore es (kept ++ e ∷ []) (length es) n in
     let V : List (List ℕ) → Type 0 = λ es. IsOneMore c.args.self.now es (length c.args.self.now) n in
-    (grown ∙ sym is.whole, subst V (sym grown) (subst S c.self.view_is more))
+    let same : length c.args.self.now ≡ c.len-place.result = ap (λ (es : List (List ℕ)). length es) (sym c.self.view_is) ∙ long in (
+      omega (arith, same, c.if-len-place.false, c.len.ensures.value),
+      grown ∙ sym is.whole ∙ ap (λ (n : ℕ). take (n + 1) table) (sym same),
+      subst V (sym grown) (subst S c.self.view_is more),
+    )
