@@ -13,7 +13,7 @@ use Rattle.vlan_rule.specs.Choice.{entry_at, is_before, rank_at}
 use Rattle.tag_view.proofs.Bytes.{bytes_within}
 use Rattle.rule_index.specs.declared.row.Row.{Row}
 use Rattle.rule_index.specs.Order.{order_of, rows_of, IsAlike}
-use Rattle.rule_index.specs.Followed.{IsTaken, IsTreated}
+use Rattle.rule_index.specs.Followed.{IsSet, IsTaken, IsTreated}
 use Rattle.rule_index.proofs.Alike.{rows_of-alike}
 use Rattle.rule_index.proofs.Sorted.{is_order}
 
@@ -133,11 +133,10 @@ taken-at entries table place number at within same other there =
     let P : ℕ → Type 0 = λ q. (q < length table) × (entry_at entries q ≡ entry_at table q) in
     subst P (same_Some _ _ (sym at ∙ there)) (within, same)
 
-pub set-taken : (old new table : List (List ℕ)) (place number : ℕ) (e : List ℕ) → place < length old → new ≡ slice_set old place e
-    → slice_get table place ≡ Some e → slice_get (order_of new) number ≡ Some place → IsTaken new table number
-set-taken old new table place number e within is held at =
-    taken-at new table place number at (slice_get_within table place e held)
-    (ap (λ es. entry_at es place) is ∙ get_or-set_at old place place e [] refl within ∙ sym (get_or_from_slice_get table place e [] held))
+pub set-taken : (old new table : List (List ℕ)) (number : ℕ) → IsSet old new table number → IsTaken new table number
+set-taken old new table number is =
+    taken-at new table is.place number is.there is.within.1
+    (ap (λ es. entry_at es is.place) is.entries ∙ get_or-set_at old is.place is.place (entry_at table is.place) [] refl is.within.0)
 
 pub added-taken : (old new table : List (List ℕ)) (number : ℕ) → length old < length table → new ≡ take (length old + 1) table
     → slice_get (order_of new) number ≡ Some (length old) → IsTaken new table number

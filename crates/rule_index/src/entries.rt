@@ -1,5 +1,5 @@
 //! The entries that an index is of.
-ghost use Rattle.std.specs.Prelude.{◌≡◌, ◌≤◌, ◌<◌, ◌+◌, ℕ, IfSome, IsTrue, Some, length, map, slice_get, slice_set, vec_capacity};
+ghost use Rattle.std.specs.Prelude.{◌≡◌, ◌≢◌, ◌≤◌, ◌<◌, ◌+◌, ◌↔◌, ℕ, IfSome, IsTrue, Some, length, map, slice_get, slice_set, vec_capacity};
 ghost use Rattle.vlan_rule.specs.Choice.{entry_at};
 ghost use Rattle.vlan_rule.specs.Table.{table_max_size};
 ghost use Rattle.std.specs.List.{remove};
@@ -32,6 +32,8 @@ pub(crate) fn first_other(entries: &[Entry], table: &RuleTable, from: usize) -> 
     ensures same { (k : ℕ) → from ≤ k → k < result
         → entry_at (map (λ entry. entry.0) entries.now) k ≡ entry_at table.now k }
     ensures within { (result ≤ length entries.now) × (result ≤ length table.now) }
+    ensures differ { result < length entries.now → result < length table.now
+        → entry_at (map (λ entry. entry.0) entries.now) result ≢ entry_at table.now result }
 {
     let len = entries.len().min(table.len());
     for place in from..len {
@@ -106,7 +108,7 @@ fn have_one_key(one: &[u8], other: &[u8]) -> bool
 fn are_equal(one: &[u8], other: &[u8]) -> bool
     requires one { length one.now ≡ 16 }
     requires other { length other.now ≡ 16 }
-    ensures { IsTrue result → one.now ≡ other.now }
+    ensures { IsTrue result ↔ (one.now ≡ other.now) }
 {
     BigEndian::read_u128(one) == BigEndian::read_u128(other)
 }

@@ -44,7 +44,7 @@ impl Model for Index {
 impl Index {
     ghost use Rattle.tag_view.specs.Frame.{type_at};
     ghost use Rattle.vlan_rule.specs.Choice.{choice, entry_at, matches, IsChoice};
-    ghost use Rattle.rule_index.specs.Followed.{IsFollowed, IsOneMore, IsTowards, IsTreated};
+    ghost use Rattle.rule_index.specs.Followed.{IsFirstOther, IsFollowed, IsOneMore, IsStep, IsTreated};
 
     /// An index of no entries, with room for those of any table.
     pub fn new(alloc: Global) -> Result<Self, AllocError>
@@ -94,7 +94,7 @@ impl Index {
     /// left, all is made anew.
     pub fn approach(&mut self, table: &RuleTable) -> Followed
         ensures followed { IsFollowed self.old self.new result }
-        ensures towards { IsTowards self.new table.now result }
+        ensures step { IsStep self.old self.new table.now result }
     {
         let Some(place) = self.other_place(table) else {
             return Followed::Unchanged;
@@ -110,8 +110,7 @@ impl Index {
     /// they are the same.
     fn other_place(&self, table: &RuleTable) -> Option<usize>
         ensures { MatchOption result (self.now ≡ table.now)
-            (λ place. (place ≤ length self.now) × (place ≤ length table.now)
-            × ((k : ℕ) → k < place → entry_at self.now k ≡ entry_at table.now k)) }
+            (λ place. IsFirstOther self.now table.now place) }
     {
         let place = first_other(&self.entries, table, 0);
         if place == self.entries.len() && place == table.len() {
@@ -120,11 +119,10 @@ impl Index {
         Some(place)
     }
 
-    /// Takes the step by which alone a table differs, at a place before which both are the same, or leaves all as it
-    /// is where there is no such step or it can't be taken.
+    /// Takes the step by which alone a table differs, at the first place at which both differ, or leaves all as it is
+    /// where there is no such step or it can't be taken.
     fn only_step(&mut self, table: &RuleTable, place: usize) -> Option<Followed>
-        requires within { (place ≤ length self.old) × (place ≤ length table.now) }
-        requires same { (k : ℕ) → k < place → entry_at self.old k ≡ entry_at table.now k }
+        requires { IsFirstOther self.old table.now place }
         ensures { MatchOption result (self.new ≡ self.old)
             (λ followed. (self.new ≡ table.now) × IsFollowed self.old self.new followed) }
     {
@@ -140,14 +138,13 @@ impl Index {
         None
     }
 
-    /// Takes the step towards a table at a place before which both are the same, or leaves all as it is where it
-    /// can't be taken.
+    /// Takes the step towards a table at the first place at which both differ, or leaves all as it is where it can't
+    /// be taken.
     fn step(&mut self, table: &RuleTable, place: usize) -> Option<Followed>
-        requires within { (place ≤ length self.old) × (place ≤ length table.now) }
-        requires same { (k : ℕ) → k < place → entry_at self.old k ≡ entry_at table.now k }
+        requires { IsFirstOther self.old table.now place }
         ensures { MatchOption result (self.new ≡ self.old)
             (λ followed. IsFollowed self.old self.new followed
-            × IsTowards self.new table.now followed) }
+            × IsStep self.old self.new table.now followed) }
     {
         if place == self.entries.len() {
             return Some(Followed::Added(self.take_next(table)?));

@@ -35,6 +35,11 @@
 //! ([`Followed`]), and so which of what is kept for each entry stays or moves. A VID whose last entry is deleted
 //! keeps its class until the masks are made anew, as they are where an entry names another one and no class is
 //! left.
+//!
+//! Where several entries differ, [`Index::approach`] takes one such step alone, at the first place at which index
+//! and table differ, and returns which. A caller takes as many as it holds to be cheaper than all anew: a table is
+//! changed by treatments that are set in place, by deletions, and by keys that come at its end, and a step is as dear
+//! as the move of each mask by one bit.
 #![tactic(auto)]
 
 mod bit;
