@@ -1,5 +1,5 @@
 -- What is kept of a table, so that it gives a frame its tags without a look at each entry.
-use Rattle.std.specs.Prelude.{◌≡◌, ◌<◌, ◌≤◌, ℕ, true, false, List, Option, Some, length, slice_get, slice_index}
+use Rattle.std.specs.Prelude.{◌≡◌, ◌<◌, ◌≤◌, ℕ, Bool, true, false, List, Option, Some, length, slice_get, slice_index}
 use Rattle.vlan_rule.specs.declared.settings.TableSettings.{TableSettings}
 use Rattle.vlan_rule.specs.Choice.{entry_at}
 use Rattle.vlan_rule.specs.Meaning.{filter_of, treatment_of}
@@ -28,6 +28,14 @@ NoneAsks treats = (place : ℕ) (treat : Compiled) → slice_get treats place �
 -- some tag gets it
 abbrev pub SomeAsks : List (Option Compiled) → Type 0
 SomeAsks treats = (place : ℕ) × (treat : Compiled) × (slice_get treats place ≡ Some (Some treat)) × (asks_dscp treat ≡ true)
+
+-- where it was right of old treatments that none asks, it is of new ones
+abbrev pub KeepsNone : Bool → Bool → List (Option Compiled) → List (Option Compiled) → Type 0
+KeepsNone asked asks old new = (asked ≡ false → NoneAsks old) → asks ≡ false → NoneAsks new
+
+-- and where it was right that some asks
+abbrev pub KeepsSome : Bool → Bool → List (Option Compiled) → List (Option Compiled) → Type 0
+KeepsSome asked asks old new = (asked ≡ true → SomeAsks old) → asks ≡ true → SomeAsks new
 
 -- the priorities that a mapping has for each DSCP and, behind them, without one
 pub record AreMarkings (map : List ℕ) (markings : List ℕ) : Type 0 where

@@ -1,15 +1,11 @@
 //! The table of a port (ITU-T G.988, clause 9.3.13), compiled.
-ghost use Rattle.std.specs.Prelude.{◌≡◌, ◌≤◌, ◌<◌, ◌↔◌, ℕ, List, IsTrue, true, false, length, vec_capacity};
-ghost use Rattle.std.specs.Option.{option_map_or};
-ghost use Rattle.vlan_rule.specs.Table.{table_max_size};
-ghost use Rattle.rule_index.specs.Filters.{tags_in};
-ghost use Rattle.rule_index.specs.Followed.{IsOneMore, IsTreated};
+ghost use Rattle.std.specs.Prelude.{◌≡◌, ◌↔◌, ℕ, IsTrue};
 ghost use Rattle.vlan_rule.specs.declared.settings.TableSettings.{TableSettings};
-ghost use Rattle.treatment.specs.Compiled.{asks_dscp};
 ghost use Rattle.managed_entity.specs.Shown.{vlan_instance};
 ghost use Rattle.frame_meaning.specs.Meaning.{Table, table_of};
-ghost use Rattle.port_plan.specs.CompiledTable.{AreMarkings, AreTreats, NoneAsks, SomeAsks};
+ghost use Rattle.port_plan.specs.CompiledTable.{AreMarkings};
 
+use crate::treats::{any_asks, compile_treat, compile_treats, insert_treat, remove_treat};
 use frame_meaning::{Reason, settings_of};
 use mib_state::VlanConfig;
 use rule_index::{Followed, Head, Index};
@@ -17,7 +13,7 @@ use std::alloc::{AllocError, Global};
 use std::marker::Model;
 use tag_view::{CUSTOMER_TPID, DscpMap};
 use treatment::Treat;
-use vlan_rule::{Filter, RuleTable, TABLE_MAX_SIZE, TableSettings};
+use vlan_rule::{RuleTable, TABLE_MAX_SIZE, TableSettings};
 
 /// The settings of a new table: the TPID of a customer's tag (IEEE 802.1Q, clause 9.6), and priority 0 for each DSCP.
 const SETTINGS: TableSettings = TableSettings {
@@ -25,6 +21,10 @@ const SETTINGS: TableSettings = TableSettings {
     output_tpid: CUSTOMER_TPID,
     dscp_map: DscpMap([0; 24]),
 };
+
+/// How many steps are taken towards other rules before all treatments are compiled anew. Between two frames there are mostly
+/// fewer.
+const STEPS: u8 = 5;
 
 /// A table, with what a frame needs of it: which entry is used for the frame, and how the words of its tags are made.
 ///
@@ -64,7 +64,7 @@ impl Model for CompiledTable {
 }
 
 impl CompiledTable {
-    ghost use Rattle.std.specs.Prelude.{◌≡◌, ◌<◌, ℕ, List, All, Option, Some, Err, IfOk, IfErr, false, length};
+    ghost use Rattle.std.specs.Prelude.{◌≡◌, ◌<◌, ℕ, IsTrue, List, All, Option, Some, Err, IfOk, IfErr, false, length};
     ghost use Rattle.tag_view.specs.Frame.{Reading};
     ghost use Rattle.tag_view.specs.Tag.{IsInRange};
     ghost use Rattle.vlan_rule.specs.Meaning.{treatment_of};
@@ -101,7 +101,8 @@ impl CompiledTable {
 
     /// Becomes the table of an extended VLAN tagging operation configuration data, as [`compile`](CompiledTable::compile) does, and
     /// compiles what changed. It takes no memory. What was the same before is gone over and not compiled again. Where the settings
-    /// stayed, a treatment that was set is compiled alone, and where one key was added or deleted the treatments behind it move.
+    /// stayed and at most five entries changed, a treatment that was set is compiled alone, and where a key was added or deleted the
+    /// treatments behind it move.
     pub fn follow(&mut self, vlan: &VlanConfig)
         ensures { (n : ℕ) → self.new.table ≡ table_of (vlan_instance n vlan.now) }
     {
@@ -123,38 +124,72 @@ impl CompiledTable {
     fn follow_table(&mut self, settings: TableSettings, rules: &RuleTable)
         ensures { self.new.table ≡ record { settings = settings; entries = rules.now } }
     {
-        let same = are_equal(&self.settings, &settings);
-        match self.index.follow(rules) {
-            Followed::Unchanged if same => {}
-            Followed::Treatment(number) if same => {
+        if are_equal(&self.settings, &settings) && self.reach(rules) {
+            return;
+        }
+        let _ = self.index.follow(rules);
+        follow_map(
+            &mut self.markings,
+            &self.settings.dscp_map,
+            &settings.dscp_map,
+        );
+        self.settings = settings;
+        compile_treats(&mut self.treats, &self.index, &settings, rules);
+        self.uses_dscp = any_asks(&self.treats);
+    }
+
+    /// Takes a few steps towards these rules, and says whether they are reached. The look that finds so is no step.
+    fn reach(&mut self, rules: &RuleTable) -> bool
+        ensures settings { self.new.table.settings ≡ self.old.table.settings }
+        ensures reached { IsTrue result → self.new.table.entries ≡ rules.now }
+    {
+        for _ in 0..=STEPS {
+            if self.step(rules) {
+                return true;
+            }
+        }
+        false
+    }
+
+    /// Takes one step towards these rules, or finds that they are reached, and says so. Where all of the index was made anew, the
+    /// treatments are too.
+    fn step(&mut self, rules: &RuleTable) -> bool
+        ensures settings { self.new.table.settings ≡ self.old.table.settings }
+        ensures reached { IsTrue result → self.new.table.entries ≡ rules.now }
+    {
+        match self.index.approach(rules) {
+            Followed::Unchanged => true,
+            Followed::Treatment(number) => {
                 self.uses_dscp = compile_treat(
                     &mut self.treats,
                     self.uses_dscp,
                     number,
                     &self.index,
-                    &settings,
+                    &self.settings,
                     rules,
                 );
+                false
             }
-            Followed::Added(number) if same && self.treats.len() < TABLE_MAX_SIZE as usize => {
+            Followed::Added(number) if self.treats.len() < TABLE_MAX_SIZE as usize => {
                 self.uses_dscp = insert_treat(
                     &mut self.treats,
                     self.uses_dscp,
                     number,
                     &self.index,
-                    &settings,
+                    &self.settings,
                     rules,
                 );
+                false
             }
-            Followed::Deleted(number) if same => {
+            Followed::Deleted(number) => {
                 self.uses_dscp = remove_treat(&mut self.treats, self.uses_dscp, number);
+                false
             }
             _ => {
-                let map = &settings.dscp_map;
-                follow_map(&mut self.markings, &self.settings.dscp_map, map);
-                self.settings = settings;
-                compile_treats(&mut self.treats, &self.index, &settings, rules);
+                let _ = self.index.follow(rules);
+                compile_treats(&mut self.treats, &self.index, &self.settings, rules);
                 self.uses_dscp = any_asks(&self.treats);
+                true
             }
         }
     }
@@ -219,143 +254,6 @@ fn settings_in(vlan: &VlanConfig) -> TableSettings
     settings_of(settings.input_tpid, settings.output_tpid, settings.dscp_map)
 }
 
-/// Compiles the treatment of each entry, in the order of rank and place.
-fn compile_treats(
-    treats: &mut Vec<Option<Treat>>,
-    index: &Index,
-    settings: &TableSettings,
-    rules: &RuleTable,
-)
-    requires room { table_max_size ≤ vec_capacity treats.old }
-    requires index { index.now ≡ rules.now }
-    ensures room { vec_capacity treats.new ≡ vec_capacity treats.old }
-    ensures treats { AreTreats settings.now rules.now treats.new.items }
-{
-    treats.clear();
-    for number in 0..rules.len() as u8 {
-        let Some(place) = index.order(number) else {
-            return;
-        };
-        let Some(rule) = rules.rule(place) else {
-            return;
-        };
-        treats.push_reserved(Treat::of(&rule.treatment, settings, tags_in(&rule.filter)));
-    }
-}
-
-/// Compiles the treatment of one entry again, where the others are as before, and says whether a treatment asks for the DSCP of a
-/// frame, if it is told so of those before.
-fn compile_treat(
-    treats: &mut Vec<Option<Treat>>,
-    asked: bool,
-    number: u8,
-    index: &Index,
-    settings: &TableSettings,
-    rules: &RuleTable,
-) -> bool
-    requires index { index.now ≡ rules.now }
-    ensures treats { (entries : List (List ℕ)) → IsTreated entries rules.now number
-        → AreTreats settings.now entries treats.old.items
-        → AreTreats settings.now rules.now treats.new.items }
-    ensures room { vec_capacity treats.new ≡ vec_capacity treats.old }
-    ensures none { (asked ≡ false → NoneAsks treats.old.items) → result ≡ false
-        → NoneAsks treats.new.items }
-    ensures some { (asked ≡ true → SomeAsks treats.old.items) → result ≡ true
-        → SomeAsks treats.new.items }
-{
-    let Some(place) = index.order(number) else {
-        return asked;
-    };
-    let Some(rule) = rules.rule(place) else {
-        return asked;
-    };
-    let treat = Treat::of(&rule.treatment, settings, tags_in(&rule.filter));
-    let asks = asks(&treat);
-    let Some(kept) = treats.get_mut(usize::from(number)) else {
-        return asked;
-    };
-    *kept = treat;
-    still_asks(asks, asked, treats)
-}
-
-/// Compiles the treatment of an entry that was added, and moves those of the entries behind it by one place. It says whether a
-/// treatment asks for the DSCP of a frame, if it is told so of those before.
-fn insert_treat(
-    treats: &mut Vec<Option<Treat>>,
-    asked: bool,
-    number: u8,
-    index: &Index,
-    settings: &TableSettings,
-    rules: &RuleTable,
-) -> bool
-    requires index { index.now ≡ rules.now }
-    requires room { table_max_size ≤ vec_capacity treats.old }
-    requires space { length treats.old.items < table_max_size }
-    ensures treats { (entries : List (List ℕ)) (place : ℕ)
-        → IsOneMore entries rules.now place number → AreTreats settings.now entries treats.old.items
-        → AreTreats settings.now rules.now treats.new.items }
-    ensures room { table_max_size ≤ vec_capacity treats.new }
-    ensures none { (asked ≡ false → NoneAsks treats.old.items) → result ≡ false
-        → NoneAsks treats.new.items }
-    ensures some { (asked ≡ true → SomeAsks treats.old.items) → result ≡ true
-        → SomeAsks treats.new.items }
-{
-    let at = usize::from(number);
-    if treats.len() < at {
-        return asked;
-    }
-    let Some(place) = index.order(number) else {
-        return asked;
-    };
-    let Some(rule) = rules.rule(place) else {
-        return asked;
-    };
-    let treat = Treat::of(&rule.treatment, settings, tags_in(&rule.filter));
-    let asks = asks(&treat);
-    let _ = treats.insert(at, treat);
-    asked || asks
-}
-
-/// Lets the treatment of an entry go that was deleted, and moves those of the entries behind it by one place. It says whether a
-/// treatment asks for the DSCP of a frame, if it is told so of those before.
-fn remove_treat(treats: &mut Vec<Option<Treat>>, asked: bool, number: u8) -> bool
-    ensures treats { (settings : TableSettings) (old new : List (List ℕ)) (place : ℕ)
-        → IsOneMore new old place number → AreTreats settings old treats.old.items
-        → AreTreats settings new treats.new.items }
-    ensures room { vec_capacity treats.new ≡ vec_capacity treats.old }
-    ensures none { (asked ≡ false → NoneAsks treats.old.items) → result ≡ false
-        → NoneAsks treats.new.items }
-    ensures some { (asked ≡ true → SomeAsks treats.old.items) → result ≡ true
-        → SomeAsks treats.new.items }
-{
-    let at = usize::from(number);
-    if treats.len() <= at {
-        return asked;
-    }
-    let _ = treats.remove(at);
-    still_asks(false, asked, treats)
-}
-
-/// Whether some treatment asks for the DSCP of a frame, where one that was compiled again does or doesn't, and some treatment did
-/// before or none.
-fn still_asks(asks: bool, asked: bool, treats: &[Option<Treat>]) -> bool
-    ensures none { (asks ≡ false → asked ≡ false → NoneAsks treats.now) → result ≡ false
-        → NoneAsks treats.now }
-    ensures some { (asks ≡ true → SomeAsks treats.now) → result ≡ true → SomeAsks treats.now }
-{
-    asks || asked && any_asks(treats)
-}
-
-/// Whether a treatment asks for the DSCP of a frame.
-fn asks(treat: &Option<Treat>) -> bool
-    ensures { result ≡ option_map_or asks_dscp treat.now false }
-{
-    match treat {
-        Some(treat) => treat.uses_dscp(),
-        None => false,
-    }
-}
-
 /// Whether settings are the same.
 fn are_equal(one: &TableSettings, other: &TableSettings) -> bool
     ensures { IsTrue result ↔ (one.now ≡ other.now) }
@@ -373,18 +271,6 @@ fn follow_map(markings: &mut [u8; 65], old: &DscpMap, new: &DscpMap)
     }
 }
 
-/// The number of tags that a filter asks for.
-fn tags_in(filter: &Filter) -> usize
-    ensures value { result ≡ tags_in filter.now }
-    ensures two { result ≤ 2 }
-{
-    match filter {
-        Filter::NoTag => 0,
-        Filter::OneTagDefault | Filter::OneTag(_) => 1,
-        Filter::TwoTagDefault | Filter::TwoTag { .. } => 2,
-    }
-}
-
 /// The priority that a mapping has for each DSCP, and behind them that without a DSCP.
 fn markings_of(map: &DscpMap) -> [u8; 65]
     ensures { AreMarkings map.now.0 result }
@@ -394,19 +280,4 @@ fn markings_of(map: &DscpMap) -> [u8; 65]
         markings[usize::from(dscp)] = map.get(dscp);
     }
     markings
-}
-
-/// Whether some treatment asks for the DSCP of a frame.
-fn any_asks(treats: &[Option<Treat>]) -> bool
-    ensures none { result ≡ false → NoneAsks treats.now }
-    ensures some { result ≡ true → SomeAsks treats.now }
-{
-    for treat in treats {
-        if let Some(treat) = treat
-            && treat.uses_dscp()
-        {
-            return true;
-        }
-    }
-    false
 }

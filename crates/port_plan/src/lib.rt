@@ -17,6 +17,7 @@ mod dscp;
 mod mapper_routes;
 mod port_plan;
 mod routes;
+mod treats;
 
 pub use compiled_table::CompiledTable;
 pub use port_plan::PortPlan;

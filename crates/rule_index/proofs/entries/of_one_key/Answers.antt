@@ -1,7 +1,6 @@
-use Rattle.std.proofs.Common.{◌≡◌, ◌<◌, ℕ, List, [], length, map, sym, subst, arith, refl}
+use Rattle.std.proofs.Common.{◌<◌, ℕ, List, [], length, sym, subst, arith, refl}
 use Rattle.std.proofs.lemmas.List.{get_or-map}
 use Rattle.vlan_rule.specs.declared.entry.Entry.{Entry}
-use Rattle.vlan_rule.specs.Choice.{entry_at}
 use Rattle.rule_index.specs.Order.{IsAlike}
 use Rattle.rule_index.proofs.entries.of_one_key.Goals as goal
 

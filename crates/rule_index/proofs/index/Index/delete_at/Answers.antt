@@ -1,4 +1,4 @@
-use Rattle.std.proofs.Common.{◌≡◌, ◌<◌, ℕ, List, Some, length, map, refl, ap, sym, subst, ◌∙◌, arith}
+use Rattle.std.proofs.Common.{◌≡◌, ◌<◌, ℕ, List, Some, length, map, ap, sym, subst, ◌∙◌, arith}
 use Rattle.std.specs.Prelude.{slice_get}
 use Rattle.std.specs.List.{remove}
 use Rattle.std.proofs.lemmas.List.{length-map}
@@ -8,7 +8,7 @@ use Rattle.vlan_rule.proofs.Places.{map-remove}
 use Rattle.rule_index.specs.declared.row.Row.{Row}
 use Rattle.rule_index.specs.Built.{IsIndexOf}
 use Rattle.rule_index.specs.Followed.{IsOneMore}
-use Rattle.rule_index.specs.Order.{lowered, order_of, rows_of}
+use Rattle.rule_index.specs.Order.{lowered, order_of}
 use Rattle.rule_index.proofs.Following.{numbered-at}
 use Rattle.rule_index.proofs.Indexed.{deleted-index}
 use Rattle.rule_index.proofs.Inserted.{deleted, one-more}

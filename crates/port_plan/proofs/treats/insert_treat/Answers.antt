@@ -1,14 +1,13 @@
-use Rattle.std.proofs.Common.{◌≡◌, ◌≤◌, ℕ, List, Bool, true, cond, length, Option, ap, arith, subst, ◌∙◌}
-use Rattle.std.specs.Prelude.{slice_get}
+use Rattle.std.proofs.Common.{◌≡◌, ◌≤◌, ℕ, List, Bool, true, cond, length, Option, ap, arith, sym, subst, ◌∙◌}
 use Rattle.std.specs.List.{insert}
 use Rattle.std.specs.Result.{is_ok}
 use Rattle.std.proofs.lemmas.Bool.{or_from, or_left, or_right}
 use Rattle.rule_index.specs.Filters.{tags_in}
-use Rattle.rule_index.specs.Order.{order_of}
+use Rattle.vlan_rule.specs.Choice.{entry_at}
+use Rattle.vlan_rule.specs.Rule.{IsRuleOf}
 use Rattle.treatment.specs.Compiled.{Compiled, Treats}
-use Rattle.port_plan.proofs.CompiledTables.{order_within}
 use Rattle.port_plan.proofs.MovedTreats.{none-asks-inserted, number-within, some-asks-inserted, treats-inserted}
-use Rattle.port_plan.proofs.compiled_table.insert_treat.Goals as goal
+use Rattle.port_plan.proofs.treats.insert_treat.Goals as goal
 
 -- what an insertion with room for it leaves
 inserted : (new treats : List (Option Compiled)) (at number : ℕ) (treat : Option Compiled) (ok : Bool) → ok ≡ true → at ≡ number
@@ -22,8 +21,7 @@ returns-then-len-at-clause-treats c = λ entries place is are.
 
 pub returns-in_default-rule-clause-treats : goal.returns-in_default-rule-clause-treats
 returns-in_default-rule-clause-treats c = λ entries place is are.
-    let here = c.in-Some.ensures ∙ ap (λ (l : List (List ℕ)). slice_get (order_of l) c.args.number) c.requires.index in
-    absurd (omega (arith, order_within c.args.rules.now c.args.number c.in-Some.place here, c.in_default-rule.ensures))
+    absurd (omega (arith, (c.requires.taken c.in-Some.place (sym c.in-Some.ensures)).0, c.in_default-rule.ensures))
 
 pub returns-then-asked-clause-treats : goal.returns-then-asked-clause-treats
 returns-then-asked-clause-treats c = λ entries place is are.
@@ -31,12 +29,14 @@ returns-then-asked-clause-treats c = λ entries place is are.
     let treats = c.args.treats.now.items in
     let rule = c.in-Some-rule.rule.now in
     let treat = c.of-treat.result in
-    let here = c.in-Some.ensures ∙ ap (λ (l : List (List ℕ)). slice_get (order_of l) c.args.number) c.requires.index in
+    let here = c.in-Some.ensures in
+    let same = (c.requires.taken c.in-Some.place (sym here)).1 in
+    let is_rule : IsRuleOf (entry_at c.args.index.now c.in-Some.place) rule = subst (λ (e : List ℕ). IsRuleOf e rule) (sym same) c.in-Some-rule.ensures.1 in
     let right : Treats rule.treatment settings (tags_in rule.filter) treat =
     subst (λ (k : ℕ). Treats rule.treatment settings k treat) c.tags_in.ensures.value c.of-treat.ensures.treats in
     let ok : is_ok c.insert.result ≡ true = c.insert.ensures.succeeds (omega (arith, c.requires.space, c.requires.room)) in
     rw (inserted c.insert.new.self.items treats c.from-at.result c.args.number treat (is_ok c.insert.result) ok c.from-at.ensures c.insert.ensures.items)
-    (treats-inserted settings entries c.args.rules.now treats place c.args.number c.in-Some.place rule treat here c.in-Some-rule.ensures.1 right (omega (arith, c.requires.space)) is are)
+    (treats-inserted settings entries c.args.index.now treats place c.args.number c.in-Some.place rule treat here is_rule right (omega (arith, c.requires.space)) is are)
 
 pub returns-else-asked-clause-treats : goal.returns-else-asked-clause-treats
 returns-else-asked-clause-treats c = λ entries place is are.
@@ -44,12 +44,14 @@ returns-else-asked-clause-treats c = λ entries place is are.
     let treats = c.args.treats.now.items in
     let rule = c.in-Some-rule.rule.now in
     let treat = c.of-treat.result in
-    let here = c.in-Some.ensures ∙ ap (λ (l : List (List ℕ)). slice_get (order_of l) c.args.number) c.requires.index in
+    let here = c.in-Some.ensures in
+    let same = (c.requires.taken c.in-Some.place (sym here)).1 in
+    let is_rule : IsRuleOf (entry_at c.args.index.now c.in-Some.place) rule = subst (λ (e : List ℕ). IsRuleOf e rule) (sym same) c.in-Some-rule.ensures.1 in
     let right : Treats rule.treatment settings (tags_in rule.filter) treat =
     subst (λ (k : ℕ). Treats rule.treatment settings k treat) c.tags_in.ensures.value c.of-treat.ensures.treats in
     let ok : is_ok c.insert.result ≡ true = c.insert.ensures.succeeds (omega (arith, c.requires.space, c.requires.room)) in
     rw (inserted c.insert.new.self.items treats c.from-at.result c.args.number treat (is_ok c.insert.result) ok c.from-at.ensures c.insert.ensures.items)
-    (treats-inserted settings entries c.args.rules.now treats place c.args.number c.in-Some.place rule treat here c.in-Some-rule.ensures.1 right (omega (arith, c.requires.space)) is are)
+    (treats-inserted settings entries c.args.index.now treats place c.args.number c.in-Some.place rule treat here is_rule right (omega (arith, c.requires.space)) is are)
 
 pub returns-then-asked-clause-some : goal.returns-then-asked-clause-some
 returns-then-asked-clause-some c = λ before yes.

@@ -1,6 +1,6 @@
 use Rattle.std.proofs.Common.{◌≡◌, length, vec_capacity, vec_len}
 use Rattle.port_plan.proofs.CompiledTables.{AreFirstTreats}
-use Rattle.port_plan.proofs.compiled_table.compile_treats.Given as goal
+use Rattle.port_plan.proofs.treats.compile_treats.Given as goal
 
 abbrev pub invariant-loop-number : goal.invariant-loop-number
 invariant-loop-number l = record {

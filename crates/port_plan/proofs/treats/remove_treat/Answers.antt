@@ -3,7 +3,7 @@ use Rattle.std.specs.List.{remove}
 use Rattle.treatment.specs.Compiled.{Compiled}
 use Rattle.port_plan.specs.CompiledTable.{AreTreats, NoneAsks}
 use Rattle.port_plan.proofs.MovedTreats.{none-asks-removed, there-within, treats-removed}
-use Rattle.port_plan.proofs.compiled_table.remove_treat.Goals as goal
+use Rattle.port_plan.proofs.treats.remove_treat.Goals as goal
 
 pub returns-then-len-at-clause-treats : goal.returns-then-len-at-clause-treats
 returns-then-len-at-clause-treats c = λ settings old new place is are.

@@ -4,7 +4,7 @@ use Rattle.rule_index.specs.Filters.{tags_in}
 use Rattle.rule_index.specs.Order.{order_of}
 use Rattle.treatment.specs.Compiled.{Compiled, Treats}
 use Rattle.port_plan.proofs.CompiledTables.{AreFirstTreats, all_to_end, all_to_none, order_within, treats_all, treats_more}
-use Rattle.port_plan.proofs.compiled_table.compile_treats.Goals as goal
+use Rattle.port_plan.proofs.treats.compile_treats.Goals as goal
 
 pub returns-in_default-clause-treats : goal.returns-in_default-clause-treats
 returns-in_default-clause-treats c =
