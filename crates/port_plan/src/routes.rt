@@ -50,16 +50,6 @@ impl Routes {
         }
     }
 
-    /// Compiles the routes of the same mapper again, of which it takes what isn't read from other instances as it is. This takes
-    /// no memory.
-    pub fn route_again(&mut self, mib: &Mib, mapper: &Mapper)
-        ensures { (e : Entities) (n : ℕ)
-            → AreRoutes e (Some (mapper_instance n mapper.now)) self.old
-            → AreRoutes mib.now.entities (Some (mapper_instance n mapper.now)) self.new }
-    {
-        self.by_priority = by_priority(mib, mapper);
-    }
-
     /// Whether a route was read from an instance of a class, so that it is to be compiled again where that instance changes: the
     /// GEM interworking termination point (class 266) that the mapper points to for some priority, or the GEM port network CTP
     /// (class 268) that this point points to, whether they are there or not (ITU-T G.988, clauses 9.3.10, 9.2.4 and 9.2.3). The
