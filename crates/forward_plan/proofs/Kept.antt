@@ -7,6 +7,7 @@ use Rattle.std.specs.List.{swap}
 use Rattle.std.proofs.lemmas.List.Edits.{Swapped, length-swap, swapped_from_swap}
 use Rattle.std.proofs.lemmas.List.{get_or-set_other, get_or-set_same, length-set}
 use Rattle.std.proofs.lemmas.Option.{get_or_from_slice_get, none-some, same_Some, slice_get-get_or, slice_get_past, slice_get_within}
+use Rattle.managed_entity.specs.Class.{mapper_class}
 use Rattle.managed_entity.specs.Instance.{Instance}
 use Rattle.mib_state.specs.Entities.{Entities, find, place_in}
 use Rattle.mib_state.specs.Attached.{mapper_of_port, table_of_port}
@@ -194,7 +195,7 @@ tables_stay old new number parts parts' others forgotten right =
     (λ part n i may of found. (sym (others n (λ same. may (of ∙ ap Some same))) ∙ found, λ is. is))
 
 -- routes, where the mapper of one number changed
-pub mappers_stay : (old new : Entities) (number : ℕ) (parts parts' : List (Part Routes)) → AreSameButOne 130 number old new
+pub mappers_stay : (old new : Entities) (number : ℕ) (parts parts' : List (Part Routes)) → AreSameButOne mapper_class number old new
     → AreForgotten (λ (part : Part Routes). part.of ≢ Some number) parts parts' → AreRight (IsMapper old) old.mappers parts
     → AreRight (IsMapper new) new.mappers parts'
 mappers_stay old new number parts parts' same forgotten right =

@@ -10,7 +10,7 @@ use Rattle.omci_msg.specs.declared.Action.TheVariants.{Set}
 use Rattle.managed_entity.specs.declared.attribute.Attribute.{Attribute}
 use Rattle.managed_entity.specs.declared.refusal.Refusal.{Refusal}
 use Rattle.managed_entity.specs.Answer.{left_by}
-use Rattle.managed_entity.specs.Class.{attributes_of, is_known}
+use Rattle.managed_entity.specs.Class.{attributes_of, is_known, mapper_class, vlan_class}
 use Rattle.managed_entity.specs.Instance.{Instance}
 use Rattle.managed_entity.specs.Mask.{mask_of}
 use Rattle.managed_entity.specs.Set.{set_instance}
@@ -62,8 +62,8 @@ set_replaces layout n mask bytes l = replaces_found layout n mask bytes l (find 
 
 -- the entities that are left have one in its place, where the class is one of tables or of mappers
 pub record LeavesOne (class n : ℕ) (old new : Entities) : Type 0 where
-  pub mappers : class ≡ 130 → IsReplaced n old.mappers new.mappers
-  pub vlans : class ≡ 171 → IsReplaced n old.vlans new.vlans
+  pub mappers : class ≡ mapper_class → IsReplaced n old.mappers new.mappers
+  pub vlans : class ≡ vlan_class → IsReplaced n old.vlans new.vlans
 
 abbrev LeavesOneIf : ℕ → ℕ → Entities → Result Entities Refusal → Type 0
 LeavesOneIf class n old (Ok new) = LeavesOne class n old new

@@ -8,6 +8,7 @@ use Rattle.forward_plan.specs.declared.attached.Attached.{Attached}
 use Rattle.forward_plan.specs.declared.naming.Naming.{Naming}
 use Rattle.forward_plan.specs.declared.naming.Namings.{Namings}
 use Rattle.forward_plan.specs.declared.ports.Ports.{Ports}
+use Rattle.forward_plan.specs.Ports.{port_count}
 
 -- the place where the instance of a number stands among others, and 255 for none
 abbrev pub place_or_none : List Instance → Option ℕ → ℕ
@@ -24,11 +25,11 @@ IsAttachedIn e ports port = slice_get ports port ≡ Some (attached_at e port)
 
 -- the same for each port
 abbrev pub AreAttached : Entities → List Attached → Type 0
-AreAttached e ports = (port : ℕ) → port < 65536 → IsAttachedIn e ports port
+AreAttached e ports = (port : ℕ) → port < port_count → IsAttachedIn e ports port
 
 -- the same for each port that has a mapper; for any other either that or nothing
 abbrev pub AreMapped : Entities → List Attached → Type 0
-AreMapped e ports = (port : ℕ) → port < 65536 → IsAttachedIn e ports port ⊎ (mapper_of_port e port ≡ None) × IsAttachedIn nothing ports port
+AreMapped e ports = (port : ℕ) → port < port_count → IsAttachedIn e ports port ⊎ (mapper_of_port e port ≡ None) × IsAttachedIn nothing ports port
 
 -- each port has what is attached to it, or what it had
 abbrev pub AreAttachedOrKept : Entities → List Attached → List Attached → Type 0

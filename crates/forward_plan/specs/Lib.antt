@@ -1,3 +1,4 @@
+pub mod Ports
 pub mod Attachment
 pub mod Parts
 pub mod Compiled

@@ -3,6 +3,7 @@ ghost use Rattle.std.specs.Prelude.{◌≡◌, ◌⊎◌, ℕ, Some, length, sli
 ghost use Rattle.mib_state.specs.Entities.{nothing};
 ghost use Rattle.forward_plan.specs.declared.naming.Naming.{Naming};
 ghost use Rattle.forward_plan.specs.Attachment.{AreAttachedOrKept, AreOfTable, IsAttachedIn, IsMapperOfPort};
+ghost use Rattle.forward_plan.specs.Ports.{port_count};
 
 use crate::attached::Attached;
 use crate::naming::{Naming, Namings};
@@ -118,8 +119,8 @@ impl Ports {
 
 /// Attaches to each port that a naming of a kind points to what the entities say.
 fn attach(ports: &mut [Attached], names: &[Naming], kind: u8, mib: &Mib)
-    requires { length ports.old ≡ 65536 }
-    ensures len { length ports.new ≡ 65536 }
+    requires { length ports.old ≡ port_count }
+    ensures len { length ports.new ≡ port_count }
     ensures named { (place : ℕ) (naming : Naming) → slice_get names.now place ≡ Some naming
         → naming.kind ≡ kind → IsAttachedIn mib.now.entities ports.new naming.to }
     ensures others { AreAttachedOrKept mib.now.entities ports.old ports.new }
@@ -134,8 +135,8 @@ fn attach(ports: &mut [Attached], names: &[Naming], kind: u8, mib: &Mib)
 /// Attaches to each port that a table is attached to what the entities say: the one that it points to, or those of the mapper
 /// that it points to.
 fn attach_table(ports: &mut [Attached], table: &Naming, mappers: &[Naming], mib: &Mib)
-    requires { length ports.old ≡ 65536 }
-    ensures len { length ports.new ≡ 65536 }
+    requires { length ports.old ≡ port_count }
+    ensures len { length ports.new ≡ port_count }
     ensures named { AreOfTable mib.now.entities mappers.now table.now ports.new }
     ensures others { AreAttachedOrKept mib.now.entities ports.old ports.new }
 {
@@ -148,8 +149,8 @@ fn attach_table(ports: &mut [Attached], table: &Naming, mappers: &[Naming], mib:
 
 /// Attaches to each port that the mapper of a number points to what the entities say.
 fn attach_mapped(ports: &mut [Attached], number: u16, mappers: &[Naming], mib: &Mib)
-    requires { length ports.old ≡ 65536 }
-    ensures len { length ports.new ≡ 65536 }
+    requires { length ports.old ≡ port_count }
+    ensures len { length ports.new ≡ port_count }
     ensures named { (place : ℕ) (mapper : Naming) → slice_get mappers.now place ≡ Some mapper
         → IsMapperOfPort number mapper → IsAttachedIn mib.now.entities ports.new mapper.to }
     ensures others { AreAttachedOrKept mib.now.entities ports.old ports.new }
@@ -163,8 +164,8 @@ fn attach_mapped(ports: &mut [Attached], number: u16, mappers: &[Naming], mib: &
 
 /// Attaches nothing to each port that a naming points to.
 fn detach(ports: &mut [Attached], names: &[Naming])
-    requires { length ports.old ≡ 65536 }
-    ensures len { length ports.new ≡ 65536 }
+    requires { length ports.old ≡ port_count }
+    ensures len { length ports.new ≡ port_count }
     ensures named { (place : ℕ) (naming : Naming) → slice_get names.now place ≡ Some naming
         → IsAttachedIn nothing ports.new naming.to }
     ensures others { AreAttachedOrKept nothing ports.old ports.new }

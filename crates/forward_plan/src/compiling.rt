@@ -1,11 +1,12 @@
 //! How the managed entities are compiled, and what of it is compiled again.
 ghost use Rattle.std.specs.Prelude.{◌≡◌, ◌≢◌, ◌≤◌, ℕ, None, Some, IfOk, length, slice_get, vec_len};
 ghost use Rattle.std.specs.Option.{option_map, unwrap_or};
-ghost use Rattle.managed_entity.specs.Class.{room_of};
+ghost use Rattle.managed_entity.specs.Class.{mapper_class, room_of, vlan_class};
 ghost use Rattle.managed_entity.specs.Shown.{mapper_instance, vlan_instance};
 ghost use Rattle.port_plan.specs.Plan.{DoesNotRead};
 ghost use Rattle.forward_plan.specs.Parts.{AreForgotten, AreParts, AreRight, IsMapper, IsTable};
 
+use crate::compiled::Compiled;
 use crate::part::{Part, bring, forget, forget_all};
 use crate::plan::Plan;
 use crate::ports::Ports;
@@ -50,7 +51,7 @@ impl Plan {
 
     /// Becomes the plan of entities, every part of it compiled anew, and says how many tables and mappers those were. It takes no
     /// memory.
-    pub fn compile(&mut self, mib: &Mib) -> (u16, u16)
+    pub fn compile(&mut self, mib: &Mib) -> Compiled
         ensures { IsCompiled mib.now.entities self.new }
     {
         forget_all(&mut self.tables);
@@ -58,7 +59,7 @@ impl Plan {
         self.ports.compile(mib);
         let tables = compile_tables(&mut self.tables, mib);
         let mappers = follow_mappers(&mut self.mappers, mib);
-        (tables, mappers)
+        Compiled { tables, mappers }
     }
 
     /// Forgets what was compiled of what a step touched. The plan then lags behind the entities that the step left, until it is
@@ -97,19 +98,19 @@ impl Plan {
 
     /// Becomes the plan of entities that it lags behind, and says how many tables and mappers were compiled: those whose parts were
     /// forgotten, and no other. It takes no memory.
-    pub fn refresh(&mut self, mib: &Mib) -> (u16, u16)
+    pub fn refresh(&mut self, mib: &Mib) -> Compiled
         requires { IsBehind mib.now.entities self.old }
         ensures { IsCompiled mib.now.entities self.new }
     {
         self.ports.follow(mib);
         let tables = follow_tables(&mut self.tables, mib);
         let mappers = follow_mappers(&mut self.mappers, mib);
-        (tables, mappers)
+        Compiled { tables, mappers }
     }
 
     /// Becomes the plan of entities that have changed in one instance, and says how many tables and mappers were compiled. Only
     /// what read the instance is compiled again. It takes no memory.
-    pub(crate) fn follow_one(&mut self, mib: &Mib, class: u16, instance: u16) -> (u16, u16)
+    pub(crate) fn follow_one(&mut self, mib: &Mib, class: u16, instance: u16) -> Compiled
         requires { (e : Entities) × AreSameButOne class instance e mib.now.entities
             × IsCompiled e self.old }
         ensures { IsCompiled mib.now.entities self.new }
@@ -118,16 +119,25 @@ impl Plan {
             VLAN => {
                 forget(&mut self.tables, instance);
                 self.ports.follow(mib);
-                (follow_tables(&mut self.tables, mib), 0)
+                Compiled {
+                    tables: follow_tables(&mut self.tables, mib),
+                    mappers: 0,
+                }
             }
             MAPPER => {
                 forget(&mut self.mappers, instance);
                 self.ports.follow(mib);
-                (0, follow_mappers(&mut self.mappers, mib))
+                Compiled {
+                    tables: 0,
+                    mappers: follow_mappers(&mut self.mappers, mib),
+                }
             }
             _ => {
                 forget_readers(&mut self.mappers, class, instance);
-                (0, follow_mappers(&mut self.mappers, mib))
+                Compiled {
+                    tables: 0,
+                    mappers: follow_mappers(&mut self.mappers, mib),
+                }
             }
         }
     }
@@ -187,7 +197,7 @@ fn at_or<'p, T>(parts: &'p [Part<T>], place: u8, none: &'p T) -> &'p T
 
 /// Room for as many tables as there may be.
 fn spare_tables(alloc: Global) -> Result<Vec<Part<CompiledTable>>, AllocError>
-    ensures { IfOk result (λ tables. (vec_len tables ≡ room_of 171)
+    ensures { IfOk result (λ tables. (vec_len tables ≡ room_of vlan_class)
         × AreForgotten (λ part. ⊥) tables.items tables.items) }
 {
     let mut tables = Vec::with_capacity(alloc, VlanConfig::ROOM)?;
@@ -202,7 +212,7 @@ fn spare_tables(alloc: Global) -> Result<Vec<Part<CompiledTable>>, AllocError>
 
 /// Room for as many mappers as there may be.
 fn spare_mappers(alloc: Global) -> Result<Vec<Part<Routes>>, AllocError>
-    ensures { IfOk result (λ mappers. (vec_len mappers ≡ room_of 130)
+    ensures { IfOk result (λ mappers. (vec_len mappers ≡ room_of mapper_class)
         × AreForgotten (λ part. ⊥) mappers.items mappers.items) }
 {
     let mut mappers = Vec::with_capacity(alloc, Mapper::ROOM)?;
@@ -229,9 +239,9 @@ fn forget_readers(mappers: &mut [Part<Routes>], class: u16, instance: u16)
 
 /// Compiles each table anew at its place, whatever stood there, and says how many there are.
 fn compile_tables(tables: &mut [Part<CompiledTable>], mib: &Mib) -> u16
-    requires room { length tables.old ≡ room_of 171 }
+    requires room { length tables.old ≡ room_of vlan_class }
     requires right { AreRight IsTable mib.now.entities.vlans tables.old }
-    ensures room { length tables.new ≡ room_of 171 }
+    ensures room { length tables.new ≡ room_of vlan_class }
     ensures tables { AreParts IsTable mib.now.entities.vlans tables.new }
 {
     let mut compiled = 0;
@@ -248,9 +258,9 @@ fn compile_tables(tables: &mut [Part<CompiledTable>], mib: &Mib) -> u16
 
 /// Brings each table to its place, compiles those that aren't compiled, and says how many those were.
 fn follow_tables(tables: &mut [Part<CompiledTable>], mib: &Mib) -> u16
-    requires room { length tables.old ≡ room_of 171 }
+    requires room { length tables.old ≡ room_of vlan_class }
     requires right { AreRight IsTable mib.now.entities.vlans tables.old }
-    ensures room { length tables.new ≡ room_of 171 }
+    ensures room { length tables.new ≡ room_of vlan_class }
     ensures tables { AreParts IsTable mib.now.entities.vlans tables.new }
 {
     let mut compiled = 0;
@@ -269,9 +279,9 @@ fn follow_tables(tables: &mut [Part<CompiledTable>], mib: &Mib) -> u16
 
 /// Brings each mapper to its place, compiles those that aren't compiled, and says how many those were.
 fn follow_mappers(mappers: &mut [Part<Routes>], mib: &Mib) -> u16
-    requires room { length mappers.old ≡ room_of 130 }
+    requires room { length mappers.old ≡ room_of mapper_class }
     requires right { AreRight (IsMapper mib.now.entities) mib.now.entities.mappers mappers.old }
-    ensures room { length mappers.new ≡ room_of 130 }
+    ensures room { length mappers.new ≡ room_of mapper_class }
     ensures mappers { AreParts (IsMapper mib.now.entities) mib.now.entities.mappers mappers.new }
 {
     let mut compiled = 0;

@@ -14,6 +14,7 @@
 
 mod attached;
 mod attaching;
+mod compiled;
 mod compiling;
 mod live;
 mod naming;
@@ -22,6 +23,7 @@ mod plan;
 mod ports;
 mod setting;
 
+pub use compiled::Compiled;
 pub use frame_meaning::{NoMemory, OutFrame, Reason, Verdict, plain_walk};
 pub use live::Live;
 pub use plan::Plan;

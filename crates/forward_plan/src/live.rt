@@ -3,6 +3,7 @@ ghost use Rattle.std.specs.Prelude.{◌≡◌, IfOk};
 ghost use Rattle.mib_state.specs.Entities.{nothing};
 ghost use Rattle.mib_state.specs.Step.{left};
 
+use crate::compiled::Compiled;
 use crate::plan::Plan;
 use frame_meaning::Verdict;
 use mib_state::{Mib, Touch};
@@ -18,7 +19,7 @@ pub struct Live {
     mib: Mib,
     plan: Plan,
     // How many tables and mappers were compiled last.
-    rebuilt: (u16, u16),
+    rebuilt: Compiled,
 }
 
 impl Model for Live {
@@ -44,7 +45,7 @@ impl Live {
         Ok(Live {
             mib: Mib::new(alloc)?,
             plan: Plan::new(alloc)?,
-            rebuilt: (0, 0),
+            rebuilt: Compiled::NOTHING,
         })
     }
 
@@ -58,7 +59,7 @@ impl Live {
     {
         let touch = self.mib.carry_out(request).touch;
         self.rebuilt = match touch {
-            Touch::Nothing => (0, 0),
+            Touch::Nothing => Compiled::NOTHING,
             Touch::One { class, instance } if matches!(request.action, Action::Set) => {
                 self.plan.set(&self.mib, class, instance)
             }
@@ -77,7 +78,7 @@ impl Live {
 
     /// How many tables and how many mappers the last [`apply`](Live::apply) or [`recompile`](Live::recompile) compiled. No
     /// contract speaks of it: it shows what was spared.
-    pub fn rebuilt(&self) -> (u16, u16) {
+    pub fn rebuilt(&self) -> Compiled {
         self.rebuilt
     }
 

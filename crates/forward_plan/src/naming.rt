@@ -1,6 +1,6 @@
 //! What mappers and tables say of where they are attached.
 ghost use Rattle.std.specs.Prelude.{◌≡◌, ◌≤◌, ◌↔◌, IsTrue, vec_capacity};
-ghost use Rattle.managed_entity.specs.Class.{room_of};
+ghost use Rattle.managed_entity.specs.Class.{mapper_class, room_of, vlan_class};
 
 use managed_entity::ManagedEntity;
 use mib_state::{Mib, VlanConfig};
@@ -20,10 +20,11 @@ impl Naming {
     ghost use Rattle.std.specs.Prelude.{◌≡◌, ◌<◌, ◌↔◌, IsTrue};
     ghost use Rattle.managed_entity.specs.Shown.{mapper_instance, vlan_instance};
     ghost use Rattle.forward_plan.specs.Attachment.{mapper_naming, table_naming};
+    ghost use Rattle.forward_plan.specs.Ports.{port_count};
 
     fn new(number: u16, kind: u8, to: u16) -> Self
         ensures value { result ≡ record { number = number; kind = kind; to = to } }
-        ensures fits { to < 65536 }
+        ensures fits { to < port_count }
     {
         Naming { number, kind, to }
     }
@@ -55,8 +56,8 @@ impl Naming {
 pub(crate) struct Namings {
     pub(crate) mappers: Vec<Naming>,
     pub(crate) tables: Vec<Naming>,
-    ghost for_mappers: { room_of 130 ≤ vec_capacity mappers },
-    ghost for_tables: { room_of 171 ≤ vec_capacity tables },
+    ghost for_mappers: { room_of mapper_class ≤ vec_capacity mappers },
+    ghost for_tables: { room_of vlan_class ≤ vec_capacity tables },
 }
 
 impl Namings {

@@ -1,6 +1,6 @@
 //! What is compiled of the managed entities.
 ghost use Rattle.std.specs.Prelude.{◌≡◌, vec_len};
-ghost use Rattle.managed_entity.specs.Class.{room_of};
+ghost use Rattle.managed_entity.specs.Class.{mapper_class, room_of, vlan_class};
 ghost use Rattle.forward_plan.specs.Parts.{AreNone};
 
 use crate::part::Part;
@@ -19,7 +19,7 @@ pub struct Plan {
     // Of ports without a table, and without a mapper.
     pub(crate) bare: CompiledTable,
     pub(crate) unmapped: Routes,
-    ghost for_tables: { vec_len tables ≡ room_of 171 },
-    ghost for_mappers: { vec_len mappers ≡ room_of 130 },
+    ghost for_tables: { vec_len tables ≡ room_of vlan_class },
+    ghost for_mappers: { vec_len mappers ≡ room_of mapper_class },
     ghost none: { AreNone bare unmapped },
 }

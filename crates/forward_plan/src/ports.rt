@@ -1,5 +1,6 @@
 //! What is attached to each port.
 ghost use Rattle.std.specs.Prelude.{◌≡◌, vec_len};
+ghost use Rattle.forward_plan.specs.Ports.{port_count};
 
 use crate::attached::Attached;
 use crate::naming::Namings;
@@ -16,5 +17,5 @@ pub(crate) struct Ports {
     pub(crate) names: Namings,
     // Room for what they say next.
     pub(crate) next: Namings,
-    ghost all: { vec_len attached ≡ 65536 },
+    ghost all: { vec_len attached ≡ port_count },
 }

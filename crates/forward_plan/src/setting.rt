@@ -1,9 +1,10 @@
 //! What is compiled again where one instance was set: all instances stand where they stood.
 ghost use Rattle.std.specs.Prelude.{◌≡◌, ◌<◌, IfSome, Some, slice_get};
-ghost use Rattle.managed_entity.specs.Class.{room_of};
+ghost use Rattle.managed_entity.specs.Class.{mapper_class, room_of, vlan_class};
 ghost use Rattle.managed_entity.specs.Shown.{mapper_instance, vlan_instance};
 ghost use Rattle.mib_state.specs.Entities.{find, place_in};
 
+use crate::compiled::Compiled;
 use crate::naming::Naming;
 use crate::part::forget;
 use crate::plan::Plan;
@@ -20,7 +21,7 @@ impl Plan {
     /// Becomes the plan of entities of which one instance was set, and says how many tables and mappers were compiled. Only what
     /// read the instance is compiled again: of the tables and mappers that is one, unless an interworking point or a GEM port was
     /// set, which several mappers may lead by. It takes no memory.
-    pub(crate) fn set(&mut self, mib: &Mib, class: u16, instance: u16) -> (u16, u16)
+    pub(crate) fn set(&mut self, mib: &Mib, class: u16, instance: u16) -> Compiled
         requires { (e : Entities) × IsSetOf class instance e mib.now.entities
             × IsCompiled e self.old }
         ensures { IsCompiled mib.now.entities self.new }
@@ -33,8 +34,8 @@ impl Plan {
     }
 
     /// The same, where the instance is a table.
-    fn set_table(&mut self, mib: &Mib, instance: u16) -> (u16, u16)
-        requires { (e : Entities) × IsSetOf 171 instance e mib.now.entities
+    fn set_table(&mut self, mib: &Mib, instance: u16) -> Compiled
+        requires { (e : Entities) × IsSetOf vlan_class instance e mib.now.entities
             × IsCompiled e self.old }
         ensures { IsCompiled mib.now.entities self.new }
     {
@@ -46,12 +47,15 @@ impl Plan {
         self.tables[place].follow(number, vlan);
         self.ports
             .set_table(mib, place, Naming::of_table(number, vlan));
-        (1, 0)
+        Compiled {
+            tables: 1,
+            mappers: 0,
+        }
     }
 
     /// The same, where the instance is a mapper.
-    fn set_mapper(&mut self, mib: &Mib, instance: u16) -> (u16, u16)
-        requires { (e : Entities) × IsSetOf 130 instance e mib.now.entities
+    fn set_mapper(&mut self, mib: &Mib, instance: u16) -> Compiled
+        requires { (e : Entities) × IsSetOf mapper_class instance e mib.now.entities
             × IsCompiled e self.old }
         ensures { IsCompiled mib.now.entities self.new }
     {
@@ -63,14 +67,17 @@ impl Plan {
         self.mappers[place].compile(number, mib, mapper);
         self.ports
             .set_mapper(mib, place, Naming::of_mapper(number, mapper));
-        (0, 1)
+        Compiled {
+            tables: 0,
+            mappers: 1,
+        }
     }
 }
 
 /// The table of a number, with its place and its number there.
 fn table_at<'m>(mib: &'m Mib, instance: u16) -> Option<(usize, u16, &'m VlanConfig)>
     ensures place { IfSome result (λ held. place_in instance mib.now.entities.vlans ≡ Some held.0) }
-    ensures room { IfSome result (λ held. held.0 < room_of 171) }
+    ensures room { IfSome result (λ held. held.0 < room_of vlan_class) }
     ensures shown { IfSome result (λ held. Some (vlan_instance held.1 held.2.now)
         ≡ slice_get mib.now.entities.vlans held.0) }
     ensures found { IfSome result (λ held. find held.1 mib.now.entities.vlans
@@ -85,7 +92,7 @@ fn table_at<'m>(mib: &'m Mib, instance: u16) -> Option<(usize, u16, &'m VlanConf
 fn mapper_at<'m>(mib: &'m Mib, instance: u16) -> Option<(usize, u16, &'m Mapper)>
     ensures place { IfSome result (λ held. place_in instance mib.now.entities.mappers
         ≡ Some held.0) }
-    ensures room { IfSome result (λ held. held.0 < room_of 130) }
+    ensures room { IfSome result (λ held. held.0 < room_of mapper_class) }
     ensures shown { IfSome result (λ held. Some (mapper_instance held.1 held.2.now)
         ≡ slice_get mib.now.entities.mappers held.0) }
     ensures found { IfSome result (λ held. find held.1 mib.now.entities.mappers

@@ -1,6 +1,6 @@
 use crate::agree_tests::parts;
 use crate::live_scenes::{Scene, play};
-use forward_plan::{Live, NoMemory, PortPlan, Reason, Verdict};
+use forward_plan::{Compiled, Live, NoMemory, PortPlan, Reason, Verdict};
 use omci_msg::{Action, Request};
 use std::alloc::Global;
 use std::process::Abort;
@@ -130,8 +130,33 @@ const TAG: Left = Ok(Some(0x8100_0064));
 /// It leaves as it came.
 const PLAIN: Left = Ok(None);
 
-/// A request, how many tables and how many mappers it compiles, and what becomes of the frame then.
-type Step = (Request, (u16, u16), Left);
+/// A request, what it compiles, and what becomes of the frame then.
+type Step = (Request, Compiled, Left);
+
+const NOTHING: Compiled = Compiled {
+    tables: 0,
+    mappers: 0,
+};
+
+const A_TABLE: Compiled = Compiled {
+    tables: 1,
+    mappers: 0,
+};
+
+const A_MAPPER: Compiled = Compiled {
+    tables: 0,
+    mappers: 1,
+};
+
+const TWO_MAPPERS: Compiled = Compiled {
+    tables: 0,
+    mappers: 2,
+};
+
+const A_TABLE_AND_A_MAPPER: Compiled = Compiled {
+    tables: 1,
+    mappers: 1,
+};
 
 /// Follows requests one by one. Compiling everything anew after each changes nothing of what leaves then.
 fn follow(rt: &impl Abort, live: &mut Live, steps: &[Step]) {
@@ -149,22 +174,22 @@ fn follow(rt: &impl Abort, live: &mut Live, steps: &[Step]) {
 /// port leaves the first.
 fn table_steps() -> [Step; 12] {
     [
-        (tagging(), (1, 0), TAG),
-        (create_table(0x0700, 2, 257), (1, 0), PLAIN),
-        (delete(171, 0x0700), (0, 0), TAG),
+        (tagging(), A_TABLE, TAG),
+        (create_table(0x0700, 2, 257), A_TABLE, PLAIN),
+        (delete(171, 0x0700), NOTHING, TAG),
         (
             create_mapper(0x0600, 257, [0xffff; 8], 0),
-            (0, 1),
+            A_MAPPER,
             Err(Reason::NullPointer),
         ),
-        (delete(130, 0x0600), (0, 0), TAG),
-        (request(Action::Get, 171, 0x0701, &[0xff, 0]), (0, 0), TAG),
-        (create_table(0x0701, 2, 258), (0, 0), TAG),
-        (delete(171, 0x0701), (0, 0), PLAIN),
-        (create_table(0x0701, 2, 257), (1, 0), PLAIN),
-        (tagging(), (1, 0), TAG),
-        (set(171, 0x0701, 0x0200, &[1, 2]), (1, 0), PLAIN),
-        (set(171, 0x0701, 0x0200, &[1, 1]), (1, 0), TAG),
+        (delete(130, 0x0600), NOTHING, TAG),
+        (request(Action::Get, 171, 0x0701, &[0xff, 0]), NOTHING, TAG),
+        (create_table(0x0701, 2, 258), NOTHING, TAG),
+        (delete(171, 0x0701), NOTHING, PLAIN),
+        (create_table(0x0701, 2, 257), A_TABLE, PLAIN),
+        (tagging(), A_TABLE, TAG),
+        (set(171, 0x0701, 0x0200, &[1, 2]), A_TABLE, PLAIN),
+        (set(171, 0x0701, 0x0200, &[1, 1]), A_TABLE, TAG),
     ]
 }
 
@@ -173,29 +198,29 @@ fn route_steps() -> [Step; 11] {
     [
         (
             set(266, 0x0501, 0x8000, &[4, 0x99]),
-            (0, 1),
+            A_MAPPER,
             Err(Reason::NoGem),
         ),
-        (set(266, 0x0501, 0x8000, &[4, 1]), (0, 1), PLAIN),
+        (set(266, 0x0501, 0x8000, &[4, 1]), A_MAPPER, PLAIN),
         (
             set(268, 0x0401, 0x2000, &[2]),
-            (0, 1),
+            A_MAPPER,
             Err(Reason::Direction),
         ),
-        (set(268, 0x0401, 0x2000, &[3]), (0, 1), PLAIN),
+        (set(268, 0x0401, 0x2000, &[3]), A_MAPPER, PLAIN),
         (
             request(Action::Create, 268, 0x0402, &[4, 1, 0x80, 1, 3]),
-            (0, 0),
+            NOTHING,
             PLAIN,
         ),
-        (create_interwork(0x0502), (0, 0), PLAIN),
-        (create_mapper(0x0602, 258, [0x0502; 8], 0), (0, 1), PLAIN),
-        (delete(266, 0x0501), (0, 1), Err(Reason::NoInterwork)),
-        (create_interwork(0x0501), (0, 1), PLAIN),
-        (delete(268, 0x0401), (0, 2), Err(Reason::NoGem)),
+        (create_interwork(0x0502), NOTHING, PLAIN),
+        (create_mapper(0x0602, 258, [0x0502; 8], 0), A_MAPPER, PLAIN),
+        (delete(266, 0x0501), A_MAPPER, Err(Reason::NoInterwork)),
+        (create_interwork(0x0501), A_MAPPER, PLAIN),
+        (delete(268, 0x0401), TWO_MAPPERS, Err(Reason::NoGem)),
         (
             request(Action::MibReset, 2, 0, &[]),
-            (0, 0),
+            NOTHING,
             Err(Reason::NoMapper),
         ),
     ]
@@ -204,14 +229,14 @@ fn route_steps() -> [Step; 11] {
 /// A table that points to a mapper is that of the mapper's port.
 fn steps_of_a_table_of_a_mapper() -> [Step; 8] {
     [
-        (tagging(), (1, 0), TAG),
-        (set(171, 0x0701, 0x8200, &[1, 6, 1]), (1, 0), TAG),
-        (create_mapper(0x0600, 257, [0x0501; 8], 0), (0, 1), PLAIN),
-        (set(171, 0x0701, 0x0200, &[6, 0]), (1, 0), TAG),
-        (set(130, 0x0600, 0x8000, &[1, 2]), (0, 1), PLAIN),
-        (set(130, 0x0600, 0x8000, &[1, 1]), (0, 1), TAG),
-        (delete(130, 0x0600), (0, 0), PLAIN),
-        (delete(130, 0x0601), (0, 0), Err(Reason::NoMapper)),
+        (tagging(), A_TABLE, TAG),
+        (set(171, 0x0701, 0x8200, &[1, 6, 1]), A_TABLE, TAG),
+        (create_mapper(0x0600, 257, [0x0501; 8], 0), A_MAPPER, PLAIN),
+        (set(171, 0x0701, 0x0200, &[6, 0]), A_TABLE, TAG),
+        (set(130, 0x0600, 0x8000, &[1, 2]), A_MAPPER, PLAIN),
+        (set(130, 0x0600, 0x8000, &[1, 1]), A_MAPPER, TAG),
+        (delete(130, 0x0600), NOTHING, PLAIN),
+        (delete(130, 0x0601), NOTHING, Err(Reason::NoMapper)),
     ]
 }
 
@@ -221,19 +246,19 @@ fn steps_of_what_is_read() -> [Step; 7] {
         0x0501, 0x0502, 0x0503, 0x0504, 0x0505, 0x0506, 0x0507, 0xffff,
     ];
     [
-        (create_mapper(0x0602, 258, pointers, 0), (0, 1), PLAIN),
-        (create_interwork(0x0507), (0, 1), PLAIN),
-        (create_interwork(0x0508), (0, 0), PLAIN),
+        (create_mapper(0x0602, 258, pointers, 0), A_MAPPER, PLAIN),
+        (create_interwork(0x0507), A_MAPPER, PLAIN),
+        (create_interwork(0x0508), NOTHING, PLAIN),
         (
             request(Action::Create, 268, 0x0501, &[4, 2, 0x80, 1, 3]),
-            (0, 0),
+            NOTHING,
             PLAIN,
         ),
-        (create_mapper(0x0501, 259, [0xffff; 8], 0), (0, 1), PLAIN),
-        (create_table(0x0501, 2, 259), (1, 0), PLAIN),
+        (create_mapper(0x0501, 259, [0xffff; 8], 0), A_MAPPER, PLAIN),
+        (create_table(0x0501, 2, 259), A_TABLE, PLAIN),
         (
             set(266, 0x0501, 0x8000, &[4, 0x99]),
-            (0, 2),
+            TWO_MAPPERS,
             Err(Reason::NoGem),
         ),
     ]
@@ -248,7 +273,7 @@ pub(crate) fn look_at_changes(
     check_tagging(rt, alloc, live)?;
     check_drops(rt, live);
     live.recompile();
-    same!(rt; live.rebuilt(), (1, 1));
+    same!(rt; live.rebuilt(), A_TABLE_AND_A_MAPPER);
     follow(rt, live, &table_steps());
     follow(rt, live, &route_steps());
     follow(rt, live, &steps_of_a_table_of_a_mapper());

@@ -1,5 +1,5 @@
 use Rattle.std.proofs.Common.{◌≡◌, ◌≤◌, vec_len, vec_capacity}
-use Rattle.managed_entity.specs.Class.{room_of}
+use Rattle.managed_entity.specs.Class.{mapper_class, room_of}
 use Rattle.forward_plan.specs.Parts.{AreForgotten}
 use Rattle.forward_plan.proofs.compiling.spare_mappers.Given as goal
 
@@ -7,6 +7,6 @@ use Rattle.forward_plan.proofs.compiling.spare_mappers.Given as goal
 abbrev pub invariant-loop-made : goal.invariant-loop-made
 invariant-loop-made l = record {
   len : vec_len l.mappers ≡ l.made;
-  room : room_of 130 ≤ vec_capacity l.mappers;
+  room : room_of mapper_class ≤ vec_capacity l.mappers;
   none : AreForgotten (λ part. ⊥) l.mappers.items l.mappers.items;
 }

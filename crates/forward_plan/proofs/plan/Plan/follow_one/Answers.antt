@@ -1,4 +1,5 @@
 use Rattle.std.proofs.Common.{◌≡◌, ◌++◌, arith, drop, length, take}
+use Rattle.managed_entity.specs.Class.{mapper_class, room_of, vlan_class}
 use Rattle.mib_state.specs.Touch.{AreSameButOne}
 use Rattle.forward_plan.proofs.Kept.{mappers_stay, readers_stay, same_mappers, written_whole}
 use Rattle.forward_plan.proofs.plan.Plan.follow_one.Goals as goal
@@ -9,10 +10,10 @@ follow_mappers-requires-clause-right c =
     let new = c.args.mib.now.entities in
     let mappers = c.args.self.now.mappers in
     let parts = c.forget-in-130.new.parts in
-    let len : length parts ≡ 32 = omega (arith, c.forget-in-130.ensures.forgotten.len, c.deref_mut-in-130.ensures.len, c.args.self.now.for_mappers) in
-    let but_one : AreSameButOne 130 c.args.instance e new = rw c.in-130.is at same in
+    let len : length parts ≡ room_of mapper_class = omega (arith, c.forget-in-130.ensures.forgotten.len, c.deref_mut-in-130.ensures.len, c.args.self.now.for_mappers) in
+    let but_one : AreSameButOne mapper_class c.args.instance e new = rw c.in-130.is at same in
     let forgotten = rw c.deref_mut-in-130.ensures.value at c.forget-in-130.ensures.forgotten in
-    rw (c.deref_mut-in-130-2.ensures.value, written_whole parts mappers.items mappers.len 32 c.args.self.now.for_mappers len)
+    rw (c.deref_mut-in-130-2.ensures.value, written_whole parts mappers.items mappers.len (room_of mapper_class) c.args.self.now.for_mappers len)
     (mappers_stay e new c.args.instance mappers.items parts but_one forgotten was.of_mappers.right)
 
 pub follow_mappers-requires-in_default-clause-right : goal.follow_mappers-requires-in_default-clause-right
@@ -21,9 +22,9 @@ follow_mappers-requires-in_default-clause-right c =
     let new = c.args.mib.now.entities in
     let mappers = c.args.self.now.mappers in
     let parts = c.forget_readers.new.mappers in
-    let len : length parts ≡ 32 = omega (arith, c.forget_readers.ensures.len, c.deref_mut-in_default.ensures.len, c.args.self.now.for_mappers) in
+    let len : length parts ≡ room_of mapper_class = omega (arith, c.forget_readers.ensures.len, c.deref_mut-in_default.ensures.len, c.args.self.now.for_mappers) in
     let forgotten = rw c.deref_mut-in_default.ensures.value at c.forget_readers.ensures in
-    rw (c.deref_mut-in_default-2.ensures.value, written_whole parts mappers.items mappers.len 32 c.args.self.now.for_mappers len)
+    rw (c.deref_mut-in_default-2.ensures.value, written_whole parts mappers.items mappers.len (room_of mapper_class) c.args.self.now.for_mappers len)
     (readers_stay e new c.args.class c.args.instance mappers.items parts same (same.mappers.elsewhere (λ is. absurd (omega (arith, is, c.in_default)))) forgotten was.of_mappers.right)
 
 pub returns-in-171 : goal.returns-in-171
@@ -34,10 +35,10 @@ returns-in-171 c =
     let mappers = c.args.self.now.mappers in
     let parts = c.follow_tables.new.tables in
     let first = c.forget.new.parts in
-    let but_one : AreSameButOne 171 c.args.instance e new = rw c.in-171.is at same in
+    let but_one : AreSameButOne vlan_class c.args.instance e new = rw c.in-171.is at same in
     record {
       of_ports = c.follow.ensures;
-      of_tables = rw (written_whole parts (take tables.len (first ++ drop (length first) tables.items)) tables.len 16 c.args.self.now.for_tables c.follow_tables.ensures.room) c.follow_tables.ensures.tables;
+      of_tables = rw (written_whole parts (take tables.len (first ++ drop (length first) tables.items)) tables.len (room_of vlan_class) c.args.self.now.for_tables c.follow_tables.ensures.room) c.follow_tables.ensures.tables;
       of_mappers =
           same_mappers e new mappers.items (but_one.mappers.elsewhere (λ is. absurd (omega (arith, is))))
           (but_one.interworks.elsewhere (λ is. absurd (omega (arith, is)))) (but_one.gem_ports.elsewhere (λ is. absurd (omega (arith, is)))) was.of_mappers;

@@ -1,4 +1,5 @@
 use Rattle.std.proofs.Common.{◌≡◌, Some, refl, arith, length}
+use Rattle.managed_entity.specs.Class.{mapper_class, room_of}
 use Rattle.managed_entity.specs.Shown.{mapper_instance}
 use Rattle.port_plan.proofs.Reading.{same_routes}
 use Rattle.forward_plan.specs.Parts.{IsMapper}
@@ -26,8 +27,8 @@ returns c =
     let kept = c.forget.new.parts in
     let part = c.compile.new.self in
     let at = set_at c.args.instance e.mappers new.mappers place (is.mappers refl) c.in-Some.ensures.place in
-    let len : length kept ≡ 32 = omega (arith, c.forget.ensures.forgotten.len, c.deref_mut.ensures.len, c.args.self.now.for_mappers) in
-    let whole = written_whole kept mappers.items mappers.len 32 c.args.self.now.for_mappers len in
+    let len : length kept ≡ room_of mapper_class = omega (arith, c.forget.ensures.forgotten.len, c.deref_mut.ensures.len, c.args.self.now.for_mappers) in
+    let whole = written_whole kept mappers.items mappers.len (room_of mapper_class) c.args.self.now.for_mappers len in
     let forgotten = rw c.deref_mut.ensures.value at c.forget.ensures.forgotten in
     let compiled = rw c.deref_mut.ensures.value at c.forget.ensures.compiled in
     let interworks = is.same.interworks.elsewhere (λ same. absurd (omega (arith, same))) in

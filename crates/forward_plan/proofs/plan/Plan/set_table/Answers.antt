@@ -1,4 +1,5 @@
 use Rattle.std.proofs.Common.{◌≡◌, refl, arith, length}
+use Rattle.managed_entity.specs.Class.{room_of, vlan_class}
 use Rattle.managed_entity.specs.Shown.{vlan_instance}
 use Rattle.forward_plan.specs.Parts.{IsTable}
 use Rattle.forward_plan.proofs.Kept.{same_mappers, tables_stay, written_whole}
@@ -25,8 +26,8 @@ returns c =
     let kept = c.forget.new.parts in
     let part = c.follow.new.self in
     let at = set_at c.args.instance e.vlans new.vlans place (is.vlans refl) c.in-Some.ensures.place in
-    let len : length kept ≡ 16 = omega (arith, c.forget.ensures.forgotten.len, c.deref_mut.ensures.len, c.args.self.now.for_tables) in
-    let whole = written_whole kept tables.items tables.len 16 c.args.self.now.for_tables len in
+    let len : length kept ≡ room_of vlan_class = omega (arith, c.forget.ensures.forgotten.len, c.deref_mut.ensures.len, c.args.self.now.for_tables) in
+    let whole = written_whole kept tables.items tables.len (room_of vlan_class) c.args.self.now.for_tables len in
     let forgotten = rw c.deref_mut.ensures.value at c.forget.ensures.forgotten in
     let compiled = rw c.deref_mut.ensures.value at c.forget.ensures.compiled in
     record {

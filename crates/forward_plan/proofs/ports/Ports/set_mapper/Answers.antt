@@ -2,6 +2,7 @@ use Rattle.std.proofs.Common.{◌≡◌, ◌∙◌, ◌<◌, List, Some, get_or,
 use Rattle.std.proofs.lemmas.Option.{get_or_from_slice_get, slice_get_within}
 use Rattle.forward_plan.specs.declared.naming.Naming.{Naming}
 use Rattle.forward_plan.specs.Attachment.{AreAttachedOrKept, IsAttachedIn, mapper_naming, table_naming}
+use Rattle.forward_plan.specs.Ports.{port_count}
 use Rattle.forward_plan.proofs.Attachments.{attached_same, mapper_attached}
 use Rattle.forward_plan.proofs.Kept.{written_whole}
 use Rattle.forward_plan.proofs.Replaced.{names_same, names_set, number_named, was_named}
@@ -43,7 +44,7 @@ returns c =
     ∙ get_or_from_slice_get (map mapper_naming e.mappers) c.args.place (mapper_naming at.before) c.index.result.now (was_named mapper_naming (λ i. refl) e.mappers new.mappers c.args.place at) in
     let mappers = names_set mapper_naming (λ i. refl) e.mappers new.mappers place at c.args.now c.requires.now in
     let others : AreAttachedOrKept new ports.items after = rw c.deref_mut.ensures.value at c.attach.ensures.others in
-    let whole = written_whole after ports.items ports.len 65536 c.args.self.now.all c.attach.ensures.len in
+    let whole = written_whole after ports.items ports.len port_count c.args.self.now.all c.attach.ensures.len in
     record {
       attached = rw whole (
           mapper_attached e new place (mapper_naming at.before) c.args.now ports.items after (was_named mapper_naming (λ i. refl) e.mappers new.mappers place at)

@@ -2,6 +2,7 @@ use Rattle.std.proofs.Common.{◌≡◌, ◌∙◌, ◌++◌, ◌<◌, List, Som
 use Rattle.std.proofs.lemmas.Option.{get_or_from_slice_get, slice_get_within}
 use Rattle.forward_plan.specs.declared.naming.Naming.{Naming}
 use Rattle.forward_plan.specs.Attachment.{AreAttachedOrKept, AreOfTable, mapper_naming, table_naming}
+use Rattle.forward_plan.specs.Ports.{port_count}
 use Rattle.forward_plan.proofs.Attachments.{attached_same, of_table_kept, or_kept_both, table_attached}
 use Rattle.forward_plan.proofs.Kept.{written_whole}
 use Rattle.forward_plan.proofs.Replaced.{names_same, names_set, number_named, was_named}
@@ -45,9 +46,9 @@ returns c =
     ∙ get_or_from_slice_get (map table_naming e.vlans) c.args.place (table_naming at.before) c.index.result.now (was_named table_naming (λ i. refl) e.vlans new.vlans c.args.place at) in
     let tables = names_set table_naming (λ i. refl) e.vlans new.vlans place at c.args.now c.requires.now in
     let first : AreAttachedOrKept new ports.items between = rw c.deref_mut.ensures.value at c.attach_table.ensures.others in
-    let whole = written_whole between ports.items ports.len 65536 c.args.self.now.all c.attach_table.ensures.len in
+    let whole = written_whole between ports.items ports.len port_count c.args.self.now.all c.attach_table.ensures.len in
     let second : AreAttachedOrKept new between after = rw (c.deref_mut-2.ensures.value, whole) at c.attach_table-2.ensures.others in
-    let whole_then = written_whole after (take ports.len (between ++ drop (length between) ports.items)) ports.len 65536 c.args.self.now.all c.attach_table-2.ensures.len in
+    let whole_then = written_whole after (take ports.len (between ++ drop (length between) ports.items)) ports.len port_count c.args.self.now.all c.attach_table-2.ensures.len in
     let of_before : AreOfTable new (map mapper_naming e.mappers) (table_naming at.before) between = rw (c.deref.ensures.value, was.names.mappers, before) at c.attach_table.ensures.named in
     let of_now : AreOfTable new (map mapper_naming e.mappers) c.args.now after = rw (c.deref-2.ensures.value, was.names.mappers) at c.attach_table-2.ensures.named in
     record {
