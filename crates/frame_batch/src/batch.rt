@@ -1,6 +1,6 @@
 //! One batch, by the lane that is in.
 ghost use Rattle.frame_stats.specs.Figures.{AreCountsOf};
-ghost use Rattle.std.specs.Prelude.{◌≡◌, ◌<◌, ◌↔◌, ◌≤◌, IfOk, IsErrOf, length, true, false};
+ghost use Rattle.std.specs.Prelude.{◌≡◌, ◌<◌, ◌↔◌, ◌≤◌, ◌⊎◌, ℕ, IfOk, IsErrOf, length, true, false};
 ghost use Rattle.frame_stats.specs.Figures.{SomePasses};
 ghost use Rattle.plan_publish.specs.Lane.{number_of};
 ghost use Rattle.plan_publish.specs.Held.{held_entities, held_lane, held_version};
@@ -23,6 +23,17 @@ pub trait Gate {
     /// Whether a lane's batch passes. It is asked once, and may look up to `turns` times for what it waits for.
     fn pass(&self, lane: u16, batch: u32, turns: u32) -> bool
         ensures { may_answer self.now lane batch turns result };
+}
+
+/// The frames of one batch, which came in at one port.
+#[derive(Clone, Copy)]
+pub struct Batch<'f, 'a> {
+    /// The number of the batch.
+    pub number: u32,
+    /// The port that the frames came in at.
+    pub port: u16,
+    /// The frames, in order.
+    pub frames: &'f [&'a [u8]],
 }
 
 /// The verdicts on the frames of one batch, in order, with their counts, which are always those of the verdicts, by the type.
@@ -81,8 +92,8 @@ pub struct Tally {
     pub counts: Counts,
 }
 
-/// Forwards the frames of a batch that came in at a port, by the held version, and counts what becomes of them. It runs on its
-/// caller's thread and waits for nobody but the gate, which is asked once. One lane a thread is the fast way to use several
+/// Forwards the frames of a batch by the held version, and counts what becomes of them. It runs on its caller's thread and waits for
+/// nobody but the gate, which is asked once and may look up to `turns` times. One lane a thread is the fast way to use several
 /// processors.
 ///
 /// [`BatchFault::TooMany`] where there are more than 65,536 frames; then [`BatchFault::Stalled`] where the gate answers false; then
@@ -91,30 +102,35 @@ pub struct Tally {
 pub fn run_batch<'a, G: Gate>(
     alloc: Global,
     held: &Held<'_>,
-    batch: u32,
-    port: u16,
-    frames: &[&'a [u8]],
+    batch: Batch<'_, 'a>,
     turns: u32,
     gate: &G,
 ) -> Result<Report<'a>, BatchFault>
     ensures lane { IfOk result (λ report. report.lane ≡ number_of (held_lane held.now)) }
-    ensures number { IfOk result (λ report. report.batch ≡ batch) }
+    ensures number { IfOk result (λ report. report.batch ≡ batch.entry.number) }
     ensures version { IfOk result (λ report. report.version ≡ held_version held.now) }
-    ensures verdicts { IfOk result (λ report.
-        report.verdicts.items ≡ meanings (held_entities held.now) port frames.now) }
-    ensures too_many { IsErrOf result (BatchFault.TooMany (length frames.now))
-        ↔ (65536 < length frames.now) }
+    ensures verdicts { IfOk result (λ report. report.verdicts.items
+        ≡ meanings (held_entities held.now) batch.entry.port batch.entry.frames.now) }
+    ensures too_many { (n : ℕ) → IsErrOf result (BatchFault.TooMany n)
+        ↔ ((n ≡ length batch.entry.frames.now) × (65536 < n)) }
     ensures passed { IfOk result (λ _.
-        G.may_answer gate.now (number_of (held_lane held.now)) batch turns true) }
+        G.may_answer gate.now (number_of (held_lane held.now)) batch.entry.number turns true) }
     ensures stalled { IsErrOf result BatchFault.Stalled
-        → G.may_answer gate.now (number_of (held_lane held.now)) batch turns false }
+        → G.may_answer gate.now (number_of (held_lane held.now)) batch.entry.number turns false }
+    ensures behind { IsErrOf result BatchFault.NoMemory ⊎ IsErrOf result BatchFault.CountFull
+        → G.may_answer gate.now (number_of (held_lane held.now)) batch.entry.number turns true }
     ensures full { IsErrOf result BatchFault.CountFull
-        → SomePasses (meanings (held_entities held.now) port frames.now) }
+        → SomePasses (meanings (held_entities held.now) batch.entry.port batch.entry.frames.now) }
 {
+    let Batch {
+        number,
+        port,
+        frames,
+    } = batch;
     if frames.len() > MOST {
         return Err(BatchFault::TooMany(frames.len()));
     }
-    if !gate.pass(held.lane(), batch, turns) {
+    if !gate.pass(held.lane(), number, turns) {
         return Err(BatchFault::Stalled);
     }
     let Ok(verdicts) = forward_each(alloc, held.live(), port, frames) else {
@@ -123,7 +139,7 @@ pub fn run_batch<'a, G: Gate>(
     match count_of(alloc, verdicts.as_slice()) {
         Ok(counts) => Ok(Report {
             lane: held.lane(),
-            batch,
+            batch: number,
             version: held.version(),
             verdicts,
             counts,

@@ -1,5 +1,5 @@
 //! What becomes of many frames.
-ghost use Rattle.std.specs.Prelude.{◌≡◌, ◌<◌, ◌≤◌, ◌+◌, ◌++◌, ◌↔◌, IfOk, IsErrOf, length, vec_len, vec_capacity};
+ghost use Rattle.std.specs.Prelude.{◌≡◌, ◌<◌, ◌≤◌, ◌+◌, ◌++◌, ◌↔◌, ℕ, IfOk, IsErrOf, length, vec_len, vec_capacity};
 ghost use Rattle.plan_publish.specs.Held.{held_entities};
 ghost use Rattle.frame_batch.specs.Batches.{meanings};
 
@@ -35,8 +35,8 @@ pub fn forward_all<'a, R: Threads + Sync>(
 ) -> Result<Vec<Verdict<'a>>, BatchFault>
     ensures verdicts { IfOk result (λ verdicts.
         verdicts.items ≡ meanings (held_entities held.now) port frames.now) }
-    ensures too_many { IsErrOf result (BatchFault.TooMany (length frames.now))
-        ↔ (65536 < length frames.now) }
+    ensures too_many { (n : ℕ) → IsErrOf result (BatchFault.TooMany n)
+        ↔ ((n ≡ length frames.now) × (65536 < n)) }
     ensures never { ¬ (IsErrOf result BatchFault.Stalled)
         × ¬ (IsErrOf result BatchFault.CountFull) }
 {

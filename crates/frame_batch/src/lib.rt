@@ -22,7 +22,7 @@ mod numbered;
 mod pieces;
 mod places;
 
-pub use batch::{Gate, Report, Tally, run_batch};
+pub use batch::{Batch, Gate, Report, Tally, run_batch};
 pub use fault::{BatchFault, GatherFault};
 pub use forwarding::forward_all;
 pub use gathering::{Gathered, GatheredTallies, gather, gather_tallies};

@@ -5,7 +5,7 @@ ghost use Rattle.run_lanes.specs.Work.{batch_of, Forwarded, IsOut, Worked};
 
 use crate::fault::{LaneFault, forwarding, noting};
 use crate::job::Job;
-use frame_batch::{Gate, Tally, run_batch};
+use frame_batch::{Batch, Gate, Tally, run_batch};
 use frame_stats::StatBook;
 use plan_publish::Lane;
 use std::sync::{Mutex, Wait};
@@ -59,9 +59,11 @@ fn forward_batch<'a, G: Gate>(
     let done = run_batch(
         job.alloc,
         &held,
-        batch,
-        job.settings.port,
-        frames,
+        Batch {
+            number: batch,
+            port: job.settings.port,
+            frames,
+        },
         job.turns,
         gate,
     );

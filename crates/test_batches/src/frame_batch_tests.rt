@@ -1,6 +1,6 @@
 use forward_plan::{Reason, Verdict};
 use frame_batch::{
-    BatchFault, Gate, GatherFault, Report, Tally, forward_all, gather, gather_tallies,
+    Batch, BatchFault, Gate, GatherFault, Report, Tally, forward_all, gather, gather_tallies,
     law_of_arrival, run_batch,
 };
 use frame_stats::{Counts, count_of};
@@ -89,15 +89,20 @@ impl Gate for Meeting {
 }
 
 /// A report of a batch of this number: of two frames that are tagged for batch 0, else of one that is cut.
-fn report_of(alloc: Global, held: &Held<'_>, batch: u32) -> Result<Report<'static>, BatchFault> {
+fn report_of(alloc: Global, held: &Held<'_>, number: u32) -> Result<Report<'static>, BatchFault> {
     let whole = [UNTAGGED.as_slice(), UNTAGGED.as_slice()];
     let cut = [CUT.as_slice()];
-    let frames = if batch == 0 {
+    let frames = if number == 0 {
         whole.as_slice()
     } else {
         cut.as_slice()
     };
-    run_batch(alloc, held, batch, 257, frames, 1, &Open)
+    let batch = Batch {
+        number,
+        port: 257,
+        frames,
+    };
+    run_batch(alloc, held, batch, 1, &Open)
 }
 
 /// What gathering gives: how many there are, and whether each is in its place and the counts are those of the frames.
@@ -368,7 +373,12 @@ fn meet(
 ) -> Option<Result<u16, BatchFault>> {
     let held = lane.enter()?;
     let frames = [UNTAGGED.as_slice()];
-    match run_batch(alloc, &held, 7, 257, &frames, turns, gate) {
+    let batch = Batch {
+        number: 7,
+        port: 257,
+        frames: &frames,
+    };
+    match run_batch(alloc, &held, batch, turns, gate) {
         Ok(report) => {
             let whole = report.batch == 7 && report.version == 5 && tagged(&report.verdicts) == 1;
             if whole && show(&report.counts, 1, 20, [0; 9], 1) {

@@ -5,7 +5,7 @@ ghost use Rattle.plan_publish.specs.Lane.{home_of};
 ghost use Rattle.plan_publish.specs.Told.{told_home};
 
 use forward_plan::{Reason, Verdict, plain_walk};
-use frame_batch::{BatchFault, Gate, Report, run_batch};
+use frame_batch::{Batch, BatchFault, Gate, Report, run_batch};
 use mib_state::Mib;
 use omci_msg::{Request, write_request};
 use plan_publish::{Control, Held, Lane, OpenFault, Told, open};
@@ -20,6 +20,8 @@ use test_draws::Draws;
 /// What comes in a storm.
 #[derive(Drop)]
 pub(crate) struct Storm<'s, 'f> {
+    /// What memory is taken from.
+    pub alloc: Global,
     /// What the control is sent before lanes work, and publishes all at once.
     pub first: &'s [Request],
     /// What it is sent while they work; each accepted request is published by itself.
@@ -49,6 +51,15 @@ impl<'f> Storm<'_, 'f> {
         let turn = (batch as usize).saturating_add(usize::from(lane));
         let list = self.lists.get(turn % self.lists.len().max(1))?;
         Some(list.as_slice())
+    }
+
+    /// A lane's batch.
+    fn batch(&self, lane: u16, number: u32) -> Option<Batch<'_, 'f>> {
+        Some(Batch {
+            number,
+            port: self.port(lane, number),
+            frames: self.frames(lane, number)?,
+        })
     }
 
     /// Waits until the control was sent a batch's share of the messages, though not for ever. So the batches of a lane are of many
@@ -205,29 +216,22 @@ struct Done<'f, O: Origin> {
 }
 
 /// A lane's batch by what it holds. Every second batch of lane 0 meets a gate first that answers false.
-fn run_held<'f>(
-    alloc: Global,
-    held: &Held<'_>,
-    storm: &Storm<'_, 'f>,
-    batch: u32,
-) -> Result<Report<'f>, Fault> {
-    let port = storm.port(held.lane(), batch);
-    let Some(frames) = storm.frames(held.lane(), batch) else {
+fn run_held<'f>(held: &Held<'_>, storm: &Storm<'_, 'f>, number: u32) -> Result<Report<'f>, Fault> {
+    let Some(batch) = storm.batch(held.lane(), number) else {
         return Err(Fault::NoFrames);
     };
-    if held.lane() == 0 && batch % 2 == 1 {
-        match run_batch(alloc, held, batch, port, frames, 1, &Answers(false)) {
+    if held.lane() == 0 && number % 2 == 1 {
+        match run_batch(storm.alloc, held, batch, 1, &Answers(false)) {
             Err(BatchFault::Stalled) => {}
             Err(fault) => return Err(Fault::Batch(Some(fault))),
             Ok(_) => return Err(Fault::Batch(None)),
         }
     }
-    Ok(run_batch(alloc, held, batch, port, frames, 1, &Answers(true))?)
+    Ok(run_batch(storm.alloc, held, batch, 1, &Answers(true))?)
 }
 
 /// A lane's batch, for which it enters, is put to its reports.
 fn forward_batch<'f>(
-    alloc: Global,
     lane: &mut Lane,
     storm: &Storm<'_, 'f>,
     batch: u32,
@@ -238,7 +242,7 @@ fn forward_batch<'f>(
     let Some(held) = lane.enter() else {
         return Err(Fault::Shut);
     };
-    let report = run_held(alloc, &held, storm, batch);
+    let report = run_held(&held, storm, batch);
     held.leave();
     match reports.push(report?) {
         Ok(()) => Ok(()),
@@ -248,7 +252,6 @@ fn forward_batch<'f>(
 
 /// All batches of a lane but the last.
 fn forward_batches<'f>(
-    alloc: Global,
     lane: &mut Lane,
     storm: &Storm<'_, 'f>,
     reports: &mut Vec<Report<'f>>,
@@ -257,23 +260,18 @@ fn forward_batches<'f>(
 {
     for batch in 0..storm.batches {
         storm.keep_pace(batch);
-        forward_batch(alloc, lane, storm, batch, reports)?;
+        forward_batch(lane, storm, batch, reports)?;
     }
     Ok(())
 }
 
 /// What a lane does on its thread.
-fn work<'f, O: Origin>(
-    alloc: Global,
-    mut lane: Lane,
-    first: &Token<O>,
-    storm: &Storm<'_, 'f>,
-) -> Done<'f, O>
+fn work<'f, O: Origin>(mut lane: Lane, first: &Token<O>, storm: &Storm<'_, 'f>) -> Done<'f, O>
     requires { Some (home_of lane) ≡ O.home }
 {
     lane.learn(&first.told);
-    let mut reports = Vec::new(alloc);
-    let worked = forward_batches(alloc, &mut lane, storm, &mut reports);
+    let mut reports = Vec::new(storm.alloc);
+    let worked = forward_batches(&mut lane, storm, &mut reports);
     Done {
         lane,
         reports,
@@ -285,7 +283,6 @@ fn work<'f, O: Origin>(
 /// All that wait work, each on a thread of its own.
 fn work_all<'f, O: Origin + Send + Sync, R: Threads + Sync>(
     rt: &R,
-    alloc: Global,
     waiting: &mut Option<Vec<Lane>>,
     first: &Token<O>,
     storm: &Storm<'_, 'f>,
@@ -298,9 +295,9 @@ fn work_all<'f, O: Origin + Send + Sync, R: Threads + Sync>(
             lanes,
             &|lane: Lane| -> Done<'_, O>
                 requires { Some (home_of lane) ≡ O.home }
-            { work(alloc, lane, first, storm) },
+            { work(lane, first, storm) },
         ),
-        None => Ok(Vec::new(alloc)),
+        None => Ok(Vec::new(storm.alloc)),
     }
 }
 
@@ -346,7 +343,6 @@ fn send_all<R: Wait>(
 
 /// A lane learns what was published last, and forwards its last batch. Its reports are put to those of other lanes.
 fn settle<'f, O: Origin>(
-    alloc: Global,
     done: Done<'f, O>,
     last: &Token<O>,
     storm: &Storm<'_, 'f>,
@@ -360,7 +356,7 @@ fn settle<'f, O: Origin>(
     } = done;
     lane.learn(&last.told);
     let settled = match worked {
-        Ok(()) => forward_batch(alloc, &mut lane, storm, storm.batches, &mut reports),
+        Ok(()) => forward_batch(&mut lane, storm, storm.batches, &mut reports),
         Err(fault) => Err(fault),
     };
     match lanes.push(reports) {
@@ -371,14 +367,13 @@ fn settle<'f, O: Origin>(
 
 /// The reports of all lanes, each of which forwards its last batch.
 fn settle_all<'f, O: Origin>(
-    alloc: Global,
     all: Result<Vec<Done<'f, O>>, AllocError>,
     last: &Token<O>,
     storm: &Storm<'_, 'f>,
     lanes: &mut Vec<Vec<Report<'f>>>,
 ) -> Result<(), Fault> {
     for done in all? {
-        settle(alloc, done, last, storm, lanes)?;
+        settle(done, last, storm, lanes)?;
     }
     Ok(())
 }
@@ -386,7 +381,6 @@ fn settle_all<'f, O: Origin>(
 /// The lanes work while the control is sent messages, of which the accepted ones are kept.
 fn work_beside<'f, O: Origin + Send + Sync, R: Threads + Wait + Sync>(
     rt: &R,
-    alloc: Global,
     control: &mut Control,
     lanes: Vec<Lane>,
     first: &Token<O>,
@@ -401,7 +395,7 @@ fn work_beside<'f, O: Origin + Send + Sync, R: Threads + Wait + Sync>(
         rt,
         &mut || -> Result<Vec<Done<'_, O>>, AllocError>
             requires { ForSome waiting (λ lanes. All (λ l. Some (home_of l) ≡ O.home) lanes.items) }
-        { work_all(rt, alloc, &mut waiting, first, storm) },
+        { work_all(rt, &mut waiting, first, storm) },
         &mut || -> ()
             ensures { control.exit.now.home ≡ control.entry.now.home }
         { send_all(rt, control, storm.beside, Some(&storm.sent), accepted) },
@@ -412,7 +406,6 @@ fn work_beside<'f, O: Origin + Send + Sync, R: Threads + Wait + Sync>(
 /// The storm, of the history that is picked.
 fn run_as<'f, O: Origin + Send + Sync, R: Threads + Wait + Sync>(
     rt: &R,
-    alloc: Global,
     control: &mut Control,
     lanes: Vec<Lane>,
     storm: &Storm<'_, 'f>,
@@ -426,25 +419,24 @@ fn run_as<'f, O: Origin + Send + Sync, R: Threads + Wait + Sync>(
         told: control.publish(rt),
         of: PhantomData,
     };
-    let done = work_beside(rt, alloc, control, lanes, &first, storm, &mut ran.accepted);
+    let done = work_beside(rt, control, lanes, &first, storm, &mut ran.accepted);
     let last = Token {
         told: control.publish(rt),
         of: PhantomData,
     };
     ran.told = last.told.version();
-    settle_all(alloc, done, &last, storm, &mut ran.lanes)
+    settle_all(done, &last, storm, &mut ran.lanes)
 }
 
 /// Opens a control with so many lanes for a storm, and closes it at the end.
 fn run_open<'f, R: Threads + Wait + Sync>(
     rt: &R,
-    alloc: Global,
     lanes: u16,
     storm: &Storm<'_, 'f>,
     left: &mut Ran<'f>,
 ) -> Result<(), Fault> {
-    let (mut control, lanes) = open(rt, alloc, lanes)?;
-    let ran = run_as::<Brand, R>(rt, alloc, &mut control, lanes, storm, left);
+    let (mut control, lanes) = open(rt, storm.alloc, lanes)?;
+    let ran = run_as::<Brand, R>(rt, &mut control, lanes, storm, left);
     control.close(rt);
     ran
 }
@@ -452,17 +444,16 @@ fn run_open<'f, R: Threads + Wait + Sync>(
 /// What a storm with so many lanes leaves.
 pub(crate) fn run<'f, R: Threads + Wait + Sync>(
     rt: &R,
-    alloc: Global,
     lanes: u16,
     storm: &Storm<'_, 'f>,
 ) -> Result<Ran<'f>, Fault> {
     let room = storm.first.len().saturating_add(storm.beside.len());
     let mut ran = Ran {
-        accepted: Vec::with_capacity(alloc, room)?,
+        accepted: Vec::with_capacity(storm.alloc, room)?,
         told: 0,
-        lanes: Vec::new(alloc),
+        lanes: Vec::new(storm.alloc),
     };
-    run_open(rt, alloc, lanes, storm, &mut ran)?;
+    run_open(rt, lanes, storm, &mut ran)?;
     Ok(ran)
 }
 
@@ -564,7 +555,6 @@ fn check_report(mib: &Mib, storm: &Storm<'_, '_>, report: &Report<'_>) -> Result
 
 /// Looks at the reports of a lane again, which are those of its batches in order; the last one is of the last version.
 fn check_lane(
-    alloc: Global,
     storm: &Storm<'_, '_>,
     accepted: &[Request],
     lane: usize,
@@ -574,7 +564,7 @@ fn check_lane(
         return Err(Wrong::Reports(reports.len()));
     }
     let mut walk = Walk {
-        mib: Mib::new(alloc)?,
+        mib: Mib::new(storm.alloc)?,
         version: 0,
         rest: accepted,
     };
@@ -608,7 +598,6 @@ fn walk_reports(
 /// Looks at all reports of a storm again, those of each lane on a thread of their own.
 pub(crate) fn check<R: Threads + Sync>(
     rt: &R,
-    alloc: Global,
     storm: &Storm<'_, '_>,
     ran: &Ran<'_>,
 ) -> Result<(), Wrong> {
@@ -617,11 +606,11 @@ pub(crate) fn check<R: Threads + Sync>(
     }
     let all = map_indices(
         rt,
-        alloc,
+        storm.alloc,
         ran.lanes.len(),
         &|lane| -> Result<(), Wrong> {
             match ran.lanes.get(lane) {
-                Some(reports) => check_lane(alloc, storm, &ran.accepted, lane, reports),
+                Some(reports) => check_lane(storm, &ran.accepted, lane, reports),
                 None => Err(Wrong::Reports(lane)),
             }
         },

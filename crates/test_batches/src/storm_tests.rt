@@ -115,6 +115,7 @@ fn fixed_storm<R: Threads + Wait + Abort + Sync>(rt: &R, alloc: Global, lanes: u
     let first = set_up(alloc).expect(rt, "requests");
     let beside = sets(alloc).expect(rt, "requests");
     let storm = Storm {
+        alloc,
         first: &first,
         beside: &beside,
         ports: &PORTS[..1],
@@ -122,12 +123,12 @@ fn fixed_storm<R: Threads + Wait + Abort + Sync>(rt: &R, alloc: Global, lanes: u
         batches: BATCHES,
         sent: AtomicU64::new(0),
     };
-    let ran = run(rt, alloc, lanes, &storm).expect(rt, "a storm");
+    let ran = run(rt, lanes, &storm).expect(rt, "a storm");
     (
         ran.lanes.len(),
         ran.told,
         first_other(&ran.lanes),
-        check(rt, alloc, &storm, &ran),
+        check(rt, &storm, &ran),
     )
 }
 
@@ -140,6 +141,7 @@ fn drawn_storm<R: Threads + Wait + Abort + Sync>(
     let drawn = Drawn::next(alloc, &mut Draws::new()).expect(rt, "what is drawn");
     let lists = drawn.frames(alloc).expect(rt, "frames");
     let storm = Storm {
+        alloc,
         first: &[],
         beside: &drawn.requests,
         ports: &PORTS,
@@ -147,8 +149,8 @@ fn drawn_storm<R: Threads + Wait + Abort + Sync>(
         batches: BATCHES,
         sent: AtomicU64::new(0),
     };
-    let ran = run(rt, alloc, lanes, &storm).expect(rt, "a storm");
-    (ran.lanes.len(), check(rt, alloc, &storm, &ran))
+    let ran = run(rt, lanes, &storm).expect(rt, "a storm");
+    (ran.lanes.len(), check(rt, &storm, &ran))
 }
 
 #[test]

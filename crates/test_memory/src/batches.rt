@@ -5,8 +5,8 @@ use crate::memory::Memory;
 use crate::seen::{REFUSED_AGAIN, Seen, must, report};
 use forward_plan::{Reason, Verdict};
 use frame_batch::{
-    BatchFault, Gate, GatherFault, Gathered, GatheredTallies, Report, Tally, forward_all, gather,
-    gather_tallies, run_batch,
+    Batch, BatchFault, Gate, GatherFault, Gathered, GatheredTallies, Report, Tally, forward_all,
+    gather, gather_tallies, run_batch,
 };
 use plan_publish::Held;
 use std::thread::Threads;
@@ -50,9 +50,14 @@ pub(crate) fn verdicts_of<R: Threads + Sync>(
 }
 
 /// The report of a batch, which is run again where there was no memory.
-fn report_of(memory: &Memory, held: &Held<'_>, batch: u32) -> Result<Report<'static>, BatchFault> {
-    match run_batch(memory.first(), held, batch, 257, &FRAMES, 1, &Open) {
-        Err(BatchFault::NoMemory) => run_batch(memory.again(), held, batch, 257, &FRAMES, 1, &Open),
+fn report_of(memory: &Memory, held: &Held<'_>, number: u32) -> Result<Report<'static>, BatchFault> {
+    let batch = Batch {
+        number,
+        port: 257,
+        frames: &FRAMES,
+    };
+    match run_batch(memory.first(), held, batch, 1, &Open) {
+        Err(BatchFault::NoMemory) => run_batch(memory.again(), held, batch, 1, &Open),
         report => report,
     }
 }
