@@ -1,4 +1,5 @@
 pub mod Beginnings
+pub mod Confirming
 pub mod Adding
 pub mod Same
 pub mod Keeps
@@ -8,5 +9,6 @@ pub mod Parts
 pub mod Last
 pub mod Numbers
 pub mod Fitting
+pub mod Shown
 pub mod Interleavings
 mod Examples

@@ -5,6 +5,7 @@ use Rattle.omci_msg.specs.declared.Request.{Request}
 use Rattle.plan_publish.specs.declared.rule.View.{View}
 use Rattle.plan_publish.specs.declared.lane.Lane.{Lane}
 use Rattle.plan_publish.specs.History.{Home}
+use Rattle.plan_publish.specs.Requests.{StartsWithEach}
 
 abbrev pub number_of : Lane → ℕ
 number_of l = l.number
@@ -20,6 +21,10 @@ held_by l = option_map (λ (v : View). v.held) (known_by l)
 -- the longest list that a lane learnt, which begins with all that it learnt before
 abbrev pub learnt_by : Lane → List Request
 learnt_by l = l.learnt.seen.log
+
+-- all that the lane held begins these requests
+abbrev pub HeldBeginnings : List Request → Lane → Type 0
+HeldBeginnings accepted l = (held : List (List Request)) → held_by l ≡ Some held → StartsWithEach accepted held
 
 -- which history it is of
 abbrev pub home_of : Lane → Home

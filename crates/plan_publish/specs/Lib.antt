@@ -10,4 +10,5 @@ pub mod Held
 pub mod Holding
 pub mod Lane
 pub mod World
+pub mod Shown
 pub mod Interleavings

@@ -1,5 +1,5 @@
 //! The control: it answers messages, and publishes what they changed.
-ghost use Rattle.std.specs.Prelude.{◌≡◌, [], ◌++◌, true, Ok, Err, IfOk, IfErr, IsErrOf, OnOk, OnErr};
+ghost use Rattle.std.specs.Prelude.{◌≡◌, [], ◌++◌, true, Ok, Err, IfOk, IfErr, IsErrOf, OnOk, OnErr, length};
 ghost use Rattle.omci_msg.specs.Message.{request_of};
 ghost use Rattle.omci_msg.specs.declared.Request.{Request};
 ghost use Rattle.omci_msg.specs.declared.fault.MsgFault.{MsgFault};
@@ -9,6 +9,8 @@ ghost use Rattle.mib_upload.specs.Upload.{answered, start};
 ghost use Rattle.plan_publish.specs.Control.{accepted_of, answer_to, carried_out, takes};
 ghost use Rattle.plan_publish.specs.Requests.{version_of};
 ghost use Rattle.plan_publish.specs.Told.{told_home, told_list};
+ghost use Rattle.plan_publish.specs.World.{World, answer, happens, Gave, Message, Publish, Replied};
+ghost use Rattle.plan_publish.specs.Shown.{Shows};
 
 use crate::fault::ControlFault;
 use crate::publisher::Publisher;
@@ -72,6 +74,8 @@ impl Control {
         ensures err { OnErr result (self.new ≡ self.old) }
         ensures no_memory { IsErrOf result ControlFault.NoMemory
             → (q : Request) × (request_of bytes.now ≡ Ok q) × (takes self.old q ≡ true) }
+        ensures event { OnOk result (IfOk (request_of bytes.now) (λ q. (w : World)
+            → Shows self.old w → Shows self.new (happens w (Message q)))) }
     {
         let request = match read(bytes) {
             Ok(request) => request,
@@ -98,6 +102,10 @@ impl Control {
         ensures entities { OnOk result (self.new.desk.mib.entities ≡ after (accepted_of self.new)) }
         ensures err { OnErr result (self.new ≡ self.old) }
         ensures no_memory { OnErr result (takes self.old request.now ≡ true) }
+        ensures event { OnOk result ((w : World) → Shows self.old w
+            → Shows self.new (happens w (Message request.now))) }
+        ensures answer { IfOk result (λ carried. (w : World) → Shows self.old w
+            → answer w (Message request.now) ≡ Replied carried.reply) }
     {
         if is_accepted(self.desk.mib(), request) {
             let Ok(()) = self.publisher.accept(request) else {
@@ -126,6 +134,9 @@ impl Control {
         ensures entities { self.new.desk.mib.entities ≡ after self.new.published }
         ensures told { told_list result ≡ accepted_of self.old }
         ensures home { told_home result ≡ self.old.home }
+        ensures event { (w : World) → Shows self.old w → Shows self.new (happens w Publish) }
+        ensures answer { (w : World) → Shows self.old w
+            → answer w Publish ≡ Gave (length (told_list result)) }
     {
         Told::new(self.publisher.publish(rt))
     }

@@ -51,7 +51,10 @@ pub struct Guard<'l, G: Entered> {
 pub type Held<'l> = Guard<'l, Reading<Edition, View, Published>>;
 
 impl Guard<'_, Reading<Edition, View, Published>> {
+    ghost use Rattle.std.specs.Prelude.{ℕ};
     ghost use Rattle.plan_publish.specs.Held.{held_entities, held_version};
+    ghost use Rattle.plan_publish.specs.World.{World, answer, Decided, Forward};
+    ghost use Rattle.plan_publish.specs.Shown.{ShowsHeld};
 
     /// The entities of the held version, with their plan.
     pub fn live(&self) -> &Live
@@ -66,6 +69,8 @@ impl Guard<'_, Reading<Edition, View, Published>> {
     pub fn forward<'a>(&self, port: u16, bytes: &'a [u8]) -> Verdict<'a>
         ensures verdict { result ≡ meaning (held_entities self.now) port bytes.now }
         ensures size { LeavesLittleMore bytes.now result }
+        ensures event { (w : World) (l : ℕ) → ShowsHeld (held_entities self.now) l w
+            → answer w (Forward l port bytes.now) ≡ Decided result }
     {
         self.reading.get().live.forward(port, bytes)
     }

@@ -25,11 +25,12 @@ pub struct Lane {
 }
 
 impl Lane {
-    ghost use Rattle.std.specs.Prelude.{IfSome};
+    ghost use Rattle.std.specs.Prelude.{◌⊎◌, IfSome};
+    ghost use Rattle.std.specs.Bool.{OnTrue};
     ghost use Rattle.std.specs.Borrow.{sem, RestsIfNone};
     ghost use Rattle.plan_publish.specs.Requests.{StartsWith};
     ghost use Rattle.plan_publish.specs.Told.{told_home, told_list};
-    ghost use Rattle.plan_publish.specs.Lane.{number_of, known_by, held_by, learnt_by, home_of, IsSameLane, IsUnchanged};
+    ghost use Rattle.plan_publish.specs.Lane.{number_of, known_by, held_by, learnt_by, home_of, HeldBeginnings, IsSameLane, IsUnchanged};
     ghost use Rattle.plan_publish.specs.Holding.{Holds};
     ghost use Rattle.plan_publish.specs.Held.{held_entities, held_lane, held_lists, held_version};
     ghost use Rattle.plan_publish.specs.contracts.lane.Lane.{the_row};
@@ -59,6 +60,8 @@ impl Lane {
         requires { told_home told.now ≡ home_of self.old }
         ensures told { StartsWith (learnt_by self.new) (told_list told.now) }
         ensures before { StartsWith (learnt_by self.new) (learnt_by self.old) }
+        ensures either { (learnt_by self.new ≡ told_list told.now)
+            ⊎ (learnt_by self.new ≡ learnt_by self.old) }
         ensures number { number_of self.new ≡ number_of self.old }
         ensures held { held_by self.new ≡ held_by self.old }
         ensures home { home_of self.new ≡ home_of self.old }
@@ -92,5 +95,25 @@ impl Lane {
                 None
             }
         }
+    }
+
+    /// Learns what was published, and says whether the lane, which enters for a moment, holds just that: then all that it held
+    /// before begins what was told. It is false where the lane can't enter, and where more was published meanwhile. It waits for
+    /// nobody, and takes no memory. The token has to come from the same `open`.
+    pub fn confirm(&mut self, told: &Told) -> bool
+        requires { told_home told.now ≡ home_of self.old }
+        ensures held { OnTrue result (HeldBeginnings (told_list told.now) self.old) }
+        ensures told { StartsWith (learnt_by self.new) (told_list told.now) }
+        ensures before { StartsWith (learnt_by self.new) (learnt_by self.old) }
+        ensures number { number_of self.new ≡ number_of self.old }
+        ensures home { home_of self.new ≡ home_of self.old }
+    {
+        self.learn(told);
+        let Some(held) = self.enter() else {
+            return false;
+        };
+        let version = held.version();
+        held.leave();
+        version == told.version()
     }
 }

@@ -5,6 +5,8 @@ ghost use Rattle.mib_upload.specs.Upload.{start};
 ghost use Rattle.plan_publish.specs.History.{key_of};
 ghost use Rattle.plan_publish.specs.Lane.{IsNew};
 ghost use Rattle.plan_publish.specs.Publisher.{Stands};
+ghost use Rattle.plan_publish.specs.World.{opening};
+ghost use Rattle.plan_publish.specs.Shown.{Shows};
 
 use crate::control::Control;
 use crate::edition::Edition;
@@ -119,12 +121,13 @@ fn room_for(alloc: Global, lanes: u16) -> Result<Vec<Lane>, AllocError>
 /// Opens a control with 1 to 16 lanes, with the numbers from 0. No instance is held, no request is accepted and none learnt, and
 /// the version is 0. Any other number of lanes is refused before memory is asked for.
 pub fn open<R: Wait>(rt: &R, alloc: Global, lanes: u16) -> Result<(Control, Vec<Lane>), OpenFault>
-    ensures lanes_fault { IsErrOf result (OpenFault.Lanes lanes)
-        ↔ (¬ ((0 < lanes) × (lanes ≤ 16))) }
+    ensures lanes_fault { (n : ℕ) → IsErrOf result (OpenFault.Lanes n)
+        ↔ (n ≡ lanes) × ¬ ((0 < lanes) × (lanes ≤ 16)) }
     ensures control { IfOk result (λ t.
         t.0 ≡ record { desk = start; published = []; pending = []; home = t.0.home }) }
     ensures lanes { IfOk result (λ t. (vec_len t.1 ≡ lanes)
         × ((k : ℕ) → k < lanes → IfSome (slice_get t.1.items k) (λ l. IsNew l k t.0.home))) }
+    ensures world { IfOk result (λ t. Shows t.0 opening) }
 {
     if lanes < 1 || lanes > MOST_LANES {
         return Err(OpenFault::Lanes(lanes));

@@ -1,7 +1,7 @@
 pub mod Applying
 pub mod Working
 pub mod Zips
-pub mod Confirming
+pub mod Collecting
 pub mod Counting
 pub mod Running
 pub mod Learnt

@@ -4,10 +4,10 @@ use Rattle.std.specs.List.{Contains, sum_by}
 use Rattle.std.specs.declared.vec.Vec.{Vec}
 use Rattle.std.specs.declared.alloc.Global.{Global}
 use Rattle.omci_msg.specs.declared.Request.{Request}
-use Rattle.plan_publish.specs.Requests.{StartsWith, StartsWithEach}
+use Rattle.plan_publish.specs.Requests.{StartsWith}
 use Rattle.plan_publish.specs.History.{Home}
 use Rattle.plan_publish.specs.declared.lane.Lane.{Lane}
-use Rattle.plan_publish.specs.Lane.{number_of, held_by, learnt_by, home_of, IsNew}
+use Rattle.plan_publish.specs.Lane.{number_of, held_by, learnt_by, home_of, HeldBeginnings, IsNew}
 use Rattle.frame_batch.specs.declared.batch.Tally.{Tally}
 use Rattle.frame_batch.specs.Gathering.{AreInOrder}
 use Rattle.frame_stats.specs.Figures.{Figure, counted, HasNoZeros}
@@ -17,10 +17,6 @@ use Rattle.run_lanes.specs.declared.settling.Settled.{Settled}
 -- so many new lanes, with the numbers from 0
 abbrev pub AreNew : ℕ → Home → List Lane → Type 0
 AreNew lanes home all = (length all ≡ lanes) × ((k : ℕ) → k < lanes → IfSome (slice_get all k) (λ l. IsNew l k home))
-
--- all that the lane held begins these requests
-abbrev pub HeldBeginnings : List Request → Lane → Type 0
-HeldBeginnings accepted l = (held : List (List Request)) → held_by l ≡ Some held → StartsWithEach accepted held
 
 -- the tally is one of the lane at this place
 pub record IsFrom (all_done : List Done) (t : Tally) : Type 0 where

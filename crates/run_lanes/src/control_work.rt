@@ -1,17 +1,13 @@
 //! What the control does.
 ghost use Rattle.std.specs.Prelude.{◌≡◌, ◌∷◌, [], OnOk};
-ghost use Rattle.std.specs.Bool.{OnTrue};
 ghost use Rattle.plan_publish.specs.Control.{accepted_of};
-ghost use Rattle.plan_publish.specs.Lane.{home_of};
-ghost use Rattle.plan_publish.specs.Told.{told_home, told_list};
 ghost use Rattle.run_lanes.specs.Control.{Applied};
-ghost use Rattle.run_lanes.specs.Settling.{HeldBeginnings};
 
 use crate::fault::LaneFault;
 use crate::job::Job;
 use frame_batch::Gate;
 use omci_msg::Request;
-use plan_publish::{Control, Lane, Told};
+use plan_publish::Control;
 use std::sync::Wait;
 
 /// Carries requests out, one after the other. Unless the frames are forwarded after all of them, each accepted one is published at
@@ -67,18 +63,4 @@ fn publish_one<G: Gate, R: Wait>(
     } else {
         Err(LaneFault::Refused)
     }
-}
-
-/// Whether a lane that learns the token holds just what was told. Then all that it held before is a beginning of that.
-pub(crate) fn confirm(lane: &mut Lane, told: &Told) -> bool
-    requires { told_home told.now ≡ home_of lane.old }
-    ensures { OnTrue result (HeldBeginnings (told_list told.now) lane.old) }
-{
-    lane.learn(told);
-    let Some(held) = lane.enter() else {
-        return false;
-    };
-    let version = held.version();
-    held.leave();
-    version == told.version()
 }

@@ -1,10 +1,9 @@
 //! What is known once the lanes are back.
 ghost use Rattle.std.specs.Prelude.{◌≡◌, ◌++◌, Ok, IfOk, All, map};
-ghost use Rattle.plan_publish.specs.Lane.{home_of};
+ghost use Rattle.plan_publish.specs.Lane.{home_of, HeldBeginnings};
 ghost use Rattle.plan_publish.specs.Told.{told_home, told_list};
-ghost use Rattle.run_lanes.specs.Settling.{HeldBeginnings, Collected, IsSettled};
+ghost use Rattle.run_lanes.specs.Settling.{Collected, IsSettled};
 
-use crate::control_work::confirm;
 use crate::fault::{LaneFault, gathering};
 use frame_batch::{Tally, gather_tallies};
 use frame_stats::Counts;
@@ -75,7 +74,7 @@ fn confirmed(done: Done, told: &Told) -> Result<Vec<Tally>, LaneFault>
 {
     let Done { lane, tallies } = done;
     let mut lane = lane;
-    if !confirm(&mut lane, told) {
+    if !lane.confirm(told) {
         return Err(LaneFault::Refused);
     }
     tallies

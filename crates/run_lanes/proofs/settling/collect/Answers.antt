@@ -1,5 +1,5 @@
 use Rattle.plan_publish.specs.Told.{told_list}
-use Rattle.run_lanes.proofs.Confirming.{collected_none, collected_push}
+use Rattle.run_lanes.proofs.Collecting.{collected_none, collected_push}
 use Rattle.run_lanes.proofs.settling.collect.Goals as goal
 
 pub loop-done-init : goal.loop-done-init

@@ -1,4 +1,4 @@
--- What a lane held, once it holds what was told.
+-- The tallies of one lane more.
 use Rattle.std.proofs.Common.{◌≡◌, ℕ, ◌<◌, ⊎_elim, List, [], ◌∷◌, ◌++◌, length, Some, refl, sym, subst, arith, ◌^◌, ◌-◌, suc, zero}
 use Rattle.std.specs.Prelude.{slice_get, Ok}
 use Rattle.std.specs.List.{Contains}
@@ -6,22 +6,11 @@ use Rattle.std.specs.declared.vec.Vec.{Vec}
 use Rattle.std.specs.declared.alloc.Global.{Global}
 use Rattle.std.proofs.lemmas.List.Elements.{Contains-append_cases}
 use Rattle.omci_msg.specs.declared.Request.{Request}
-use Rattle.plan_publish.specs.Requests.{StartsWith, StartsWithEach, version_of}
-use Rattle.plan_publish.proofs.Beginnings.{starts_trans, whole}
+use Rattle.plan_publish.specs.Lane.{HeldBeginnings}
 use Rattle.frame_batch.specs.declared.batch.Tally.{Tally}
 use Rattle.run_lanes.specs.declared.settling.Done.{Done}
-use Rattle.run_lanes.specs.Settling.{HeldBeginnings, Collected}
+use Rattle.run_lanes.specs.Settling.{Collected}
 use Rattle.run_lanes.proofs.Working.{last_or_before}
-
--- what begins with what was told, and is as long, is that
-pub confirmed : (told now learnt : List Request) (before : List (List Request)) (version told_version : ℕ) → told_version ≡ version_of told → told_version < 2 ^ 64 - 1
-    → version ≡ version_of now → StartsWith now learnt → StartsWith learnt told → StartsWithEach now before → version ≡ told_version → StartsWithEach told before
-confirmed told now learnt before version told_version is small count begins learns each same =
-    let s = starts_trans now learnt told begins learns in
-    let one : told ≡ now = whole told now (s.0, sym s.1) (omega (arith, is, small, count, same)) in
-    subst (λ (l : List Request). StartsWithEach l before) (sym one) each
-
--- ---- the tallies of one lane more
 
 get_before : {X : Type 0} (xs ys : List X) (n : ℕ) (x : X) → slice_get xs n ≡ Some x → slice_get (xs ++ ys) n ≡ Some x
 get_before [] ys n x h = absurd (let e : ⊥ = cc in e)
