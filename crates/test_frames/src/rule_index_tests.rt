@@ -641,6 +641,22 @@ fn draw_key(table: &RuleTable, draws: &mut Draws) -> u64 {
     table.entry(place).map_or(0, |entry| entry.key())
 }
 
+/// Looks four frames up in a table and its index.
+fn compare_four(
+    rt: &impl Abort,
+    alloc: Global,
+    table: &RuleTable,
+    index: &Index,
+    draws: &mut Draws,
+) -> Result<(), Fail> {
+    for _ in 0..4 {
+        let input_tpid = (draws.of(&[0x8100, 0x88a8, 0x9100]) % 0x10000) as u16;
+        let bytes = draws.frame(alloc)?;
+        compare_frame(rt, table, index, &bytes, input_tpid)?;
+    }
+    Ok(())
+}
+
 /// Puts an entry, lets the index follow, and looks four frames up in the table and in the index.
 fn follow_and_compare(
     rt: &impl Abort,
@@ -652,11 +668,7 @@ fn follow_and_compare(
 ) -> Result<Followed, Fail> {
     table.put(put)?;
     let followed = index.follow(table);
-    for _ in 0..4 {
-        let input_tpid = (draws.of(&[0x8100, 0x88a8, 0x9100]) % 0x10000) as u16;
-        let bytes = draws.frame(alloc)?;
-        compare_frame(rt, table, index, &bytes, input_tpid)?;
-    }
+    compare_four(rt, alloc, table, index, draws)?;
     Ok(followed)
 }
 
@@ -715,4 +727,65 @@ fn agree_after_changes_in_a_table(
 fn find_agrees_with_a_walk_after_each_change(rt: HostRuntime) -> Result<(), Fail> {
     let mut index = Index::new(rt.alloc())?;
     agree_after_changes_in_a_table(&rt, rt.alloc(), &mut index)
+}
+
+/// Takes steps towards a table until it is reached, and gives how many there were, or 100 where it isn't reached.
+fn count_steps(table: &RuleTable, index: &mut Index) -> usize {
+    for steps in 0..100 {
+        if index.approach(table) == Followed::Unchanged {
+            return steps;
+        }
+    }
+    100
+}
+
+/// Deletes three entries, adds three others and changes three treatments, and comes to the table by as many steps.
+fn approach_three_keys(
+    rt: &impl Abort,
+    alloc: Global,
+    table: &mut RuleTable,
+    index: &mut Index,
+    draws: &mut Draws,
+) -> Result<(), Fail> {
+    for number in 129..132 {
+        table.put(entry(draw_key(table, draws), DELETION))?;
+        table.put(draws.entry(&[0, 1, 2, 2, 3, 4, 4, 4], number))?;
+        table.put(entry(draw_key(table, draws), DROPPED))?;
+    }
+    holds!(rt; count_steps(table, index) <= 9);
+    compare_four(rt, alloc, table, index, draws)
+}
+
+/// Draws tables, of each of which three keys come, go and change before its index comes to it by steps.
+fn agree_after_steps(
+    rt: &impl Abort,
+    alloc: Global,
+    table: &mut RuleTable,
+    index: &mut Index,
+) -> Result<(), Fail> {
+    let mut draws = Draws {
+        state: 0xbf58476d1ce4e5b9,
+    };
+    for _ in 0..1000 {
+        draw_table(table, &mut draws)?;
+        index.rebuild(table);
+        approach_three_keys(rt, alloc, table, index, &mut draws)?;
+    }
+    Ok(())
+}
+
+/// The same in a table that is made.
+fn agree_after_steps_in_a_table(
+    rt: &impl Abort,
+    alloc: Global,
+    index: &mut Index,
+) -> Result<(), Fail> {
+    let mut table = RuleTable::new(alloc)?;
+    agree_after_steps(rt, alloc, &mut table, index)
+}
+
+#[test]
+fn find_agrees_with_a_walk_after_some_steps(rt: HostRuntime) -> Result<(), Fail> {
+    let mut index = Index::new(rt.alloc())?;
+    agree_after_steps_in_a_table(&rt, rt.alloc(), &mut index)
 }
