@@ -4,7 +4,7 @@ use Rattle.plan_publish.specs.Lane.{IsNew}
 use Rattle.plan_publish.proofs.opening.open.Goals as goal
 
 pub returns-clause-lanes_fault : goal.returns-clause-lanes_fault
-returns-clause-lanes_fault g c n = (λ is. absurd is, λ outside. absurd (outside.1 (search rules, search rules)))
+returns-clause-lanes_fault g c n = (λ is. absurd (let e : ⊥ = cc in e), λ outside. absurd (outside.1 (search rules, search rules)))
 
 pub returns-clause-lanes : goal.returns-clause-lanes
 returns-clause-lanes g c =
@@ -14,4 +14,4 @@ returns-clause-lanes g c =
 
 -- bounded, so that a wrong body is refused at once
 pub returns-then-lanes-lt1-clause-lanes_fault : goal.returns-then-lanes-lt1-clause-lanes_fault
-returns-then-lanes-lt1-clause-lanes_fault c n = (λ is. (search rules fits 30, search rules fits 30), λ outside. search rules fits 30)
+returns-then-lanes-lt1-clause-lanes_fault g c n = (λ is. (let e : n ≡ c.args.lanes = cc in e, search rules fits 30), λ outside. let e = outside.0 in search rules fits 30)

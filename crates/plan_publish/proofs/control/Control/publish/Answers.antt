@@ -10,4 +10,4 @@ pub returns-clause-event : goal.returns-clause-event
 returns-clause-event g c w s =
     let shown : Lists → Progress = λ l. record { desk = c.self.inside.desk; published = l.published; pending = l.pending; home = l.home } in
     subst (λ (l : Lists). Shows (shown l) (happens w Publish)) (sym c.publish.ensures.published)
-    (shown_publish (shown c.self.inside.publisher) w (subst (λ (p : Progress). Shows p w) c.self.view_is s))
+    (shown_publish (shown c.self.inside.publisher) w (subst (λ (p : Progress). Shows p w) (sym c.self.view_is) s))
