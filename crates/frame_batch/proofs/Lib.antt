@@ -1,4 +1,5 @@
 mod Joining
 mod Filling
 mod Arrival
+mod Misfits
 mod Totals

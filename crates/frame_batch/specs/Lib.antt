@@ -3,3 +3,4 @@ pub mod Batches
 pub mod Pieces
 pub mod Gathering
 pub mod Places
+pub mod Misfit

@@ -9,8 +9,8 @@
 //! processors; a frame alone takes less time than it takes to hand it to a thread. What it gives is the plain list, in order.
 //!
 //! **Gathering.** Batches end in any order. [`gather`] puts their reports in the order of their numbers and adds their counts up,
-//! or says which number is one too many or missing. [`law_of_arrival`] says that every order of the same reports gives the same
-//! list. A long run keeps no verdicts: [`Report::tally`] drops a report's, and [`gather_tallies`] gathers what is left.
+//! or says which number is one too many or missing, which [`law_of_misfits`] puts in the list's words. [`law_of_arrival`] says that
+//! every order of the same reports gives the same list. A long run keeps no verdicts: [`Report::tally`] drops a report's, and [`gather_tallies`] gathers what is left.
 #![tactic(auto)]
 
 mod batch;
@@ -26,4 +26,4 @@ pub use batch::{Batch, Gate, Report, Tally, run_batch};
 pub use fault::{BatchFault, GatherFault};
 pub use forwarding::forward_all;
 pub use gathering::{Gathered, GatheredTallies, gather, gather_tallies};
-pub use law::law_of_arrival;
+pub use law::{law_of_arrival, law_of_misfits};
