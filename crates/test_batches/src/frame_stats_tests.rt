@@ -285,21 +285,22 @@ fn look_often(rt: &impl Wait, book: &Mutex<StatBook>) -> bool {
     all
 }
 
-/// Whether the total is the sum of eight parts, in its frames, its bytes and the frames of GEM port 1024.
+/// Whether the total is the sum of eight parts, in its frames, its bytes, its drops of frames too short and the frames of GEM port 1024.
 fn adds_up(rt: &impl Wait, book: &Mutex<StatBook>) -> bool {
     let book = book.lock(rt);
-    let (mut frames, mut bytes, mut left) = (0u64, 0u64, 0u64);
+    let (mut frames, mut bytes, mut short, mut left) = (0u64, 0u64, 0u64, 0u64);
     for lane in 0..8 {
         let Some(part) = book.part(lane) else {
             return false;
         };
         frames = frames.wrapping_add(part.frames);
         bytes = bytes.wrapping_add(part.bytes);
+        short = short.wrapping_add(part.drops[1]);
         left = left.wrapping_add(part.ports.get(&1024).copied().unwrap_or(0));
     }
     let total = book.total();
     let total_left = total.ports.get(&1024).copied().unwrap_or(0);
-    (total.frames, total.bytes, total_left) == (frames, bytes, left)
+    (total.frames, total.bytes, total.drops[1], total_left) == (frames, bytes, short, left)
 }
 
 /// Adds counts to eight lanes of a book on a thread each, while a ninth looks at its sums; whether all is as it has to be.

@@ -101,8 +101,8 @@ fn hold_on_by_itself(
     (seen, lane)
 }
 
-/// Publishes once the lane is in.
-fn publish_beside<R: Wait>(
+/// Sets a treatment and publishes it once the lane is in.
+fn publish_beside<R: Wait + Abort>(
     rt: &R,
     control: &mut Control,
     entered: &AtomicU64,
@@ -111,6 +111,7 @@ fn publish_beside<R: Wait>(
     ensures { told_home result ≡ control.old.home }
 {
     wait_for(entered);
+    ask(rt, control, PUSH_VLAN_100.0, PUSH_VLAN_100.1);
     let told = control.publish(rt);
     published.store(1, Ordering::SeqCst);
     told
@@ -131,13 +132,14 @@ fn learn_version_4<R: Wait + Abort>(rt: &R, control: &mut Control, zero: &mut La
     same!(rt; enter_and_leave(zero, &[]), Some((4, true)));
 }
 
-/// A lane learns of the tag of VLAN 100, and forwards with it.
+/// A lane learns of the tag of VLAN 100, forwards with it, and holds just that.
 fn learn_version_5(rt: &impl Abort, told: &Told, lane: &mut Lane)
     requires { home_of lane.old ≡ told_home told.now }
 {
     same!(rt; told.version(), 5);
     lane.learn(told);
     same!(rt; enter_and_leave(lane, &[TAG_100]), Some((5, true)));
+    holds!(rt; lane.confirm(told));
 }
 
 /// A lane that is in keeps its version while another one is published.
@@ -150,7 +152,6 @@ fn keep_a_version<R: Wait + Threads + Abort + Sync>(
     requires { (home_of zero ≡ control.old.home) × (home_of one ≡ control.old.home) }
 {
     learn_version_4(rt, control, &mut zero, &mut one);
-    ask(rt, control, PUSH_VLAN_100.0, PUSH_VLAN_100.1);
     let flags = (AtomicU64::new(0), AtomicU64::new(0));
     let (entered, published) = (&flags.0, &flags.1);
     let ((seen, mut one), second) = join(
@@ -198,6 +199,8 @@ fn count_versions<R: Wait + Abort>(rt: &R, control: &mut Control, lane: &mut Lan
     lane.learn(&newer);
     lane.learn(&older);
     same!(rt; enter_and_leave(lane, &[TAG_100]), Some((6, true)));
+    same!(rt; lane.confirm(&older), false);
+    same!(rt; lane.confirm(&newer), true);
 }
 
 /// The version that a lane holds as it enters, and why the untagged frame is dropped, if it is.
