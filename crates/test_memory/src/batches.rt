@@ -18,6 +18,9 @@ const RUNT: [u8; 2] = [2, 0];
 /// The frames of a batch.
 const FRAMES: [&[u8]; 3] = [&UNTAGGED, &RUNT, &UNTAGGED];
 
+/// So many frames that a list of them is cut into pieces.
+const MANY: [&[u8]; 4_200] = [&UNTAGGED; 4_200];
+
 /// Lets each batch pass.
 struct Open;
 
@@ -47,6 +50,28 @@ pub(crate) fn verdicts_of<R: Threads + Sync>(
         Err(BatchFault::NoMemory) => forward_all(rt, memory.again(), held, 257, &FRAMES),
         verdicts => verdicts,
     }
+}
+
+/// The verdicts on many frames, asked for again where there was no memory.
+fn verdicts_of_many<R: Threads + Sync>(
+    rt: &R,
+    memory: &Memory,
+    held: &Held<'_>,
+) -> Result<Vec<Verdict<'static>>, BatchFault> {
+    match forward_all(rt, memory.first(), held, 257, &MANY) {
+        Err(BatchFault::NoMemory) => forward_all(rt, memory.again(), held, 257, &MANY),
+        verdicts => verdicts,
+    }
+}
+
+/// Whether each of many frames leaves with the tag.
+fn are_verdicts_of_many(verdicts: &[Verdict<'_>]) -> bool {
+    for verdict in verdicts {
+        if what_became(verdict) != Became::Tagged {
+            return false;
+        }
+    }
+    verdicts.len() == MANY.len()
 }
 
 /// The report of a batch, which is run again where there was no memory.
@@ -112,6 +137,13 @@ fn call_forward_all<R: Threads + Sync>(rt: &R, memory: &Memory, held: &Held<'_>)
     }
 }
 
+fn call_forward_pieces<R: Threads + Sync>(rt: &R, memory: &Memory, held: &Held<'_>) -> Seen {
+    match verdicts_of_many(rt, memory, held) {
+        Ok(verdicts) => must(are_verdicts_of_many(&verdicts), "other verdicts"),
+        Err(_) => Err(REFUSED_AGAIN),
+    }
+}
+
 fn call_run_batch(memory: &Memory, held: &Held<'_>) -> Seen {
     match report_of(memory, held, 7) {
         Ok(report) => must(is_report(&report, 7), "another report"),
@@ -161,6 +193,12 @@ pub(crate) fn make_calls<R: Threads + Sync + Print>(rt: &R, memory: &Memory, hel
         memory,
         "forward_all",
         call_forward_all(rt, memory, held),
+    );
+    report(
+        rt,
+        memory,
+        "forward_all in pieces",
+        call_forward_pieces(rt, memory, held),
     );
     report(rt, memory, "run_batch", call_run_batch(memory, held));
     report(rt, memory, "gather", call_gather(memory, held));

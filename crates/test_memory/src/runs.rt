@@ -1,6 +1,7 @@
 //! A replay of a script, a run over a capture, and the words of a command line.
 use crate::memory::Memory;
 use crate::seen::{REFUSED_AGAIN, Seen, must, report};
+use capture::{ListFault, list_frames};
 use clap::Error;
 use clap::error::ErrorKind;
 use command_line::{RunWords, Words, read_words};
@@ -157,8 +158,27 @@ fn call_read_words(memory: &Memory) -> Seen {
     }
 }
 
+/// The frames of the capture, listed again where there was no memory.
+fn call_list_frames(memory: &Memory) -> Seen {
+    let listed = match list_frames(memory.first(), &FILE) {
+        Err(ListFault::NoMemory) => list_frames(memory.again(), &FILE),
+        listed => listed,
+    };
+    let Ok(frames) = listed else {
+        return Err(REFUSED_AGAIN);
+    };
+    let are_those = match frames.as_slice() {
+        [first, second, cut] => {
+            *first == &FILE[40..56] && *second == &FILE[72..88] && *cut == &FILE[104..]
+        }
+        _ => false,
+    };
+    must(are_those, "other frames")
+}
+
 pub(crate) fn make_calls<R: Threads + Wait + Sync + Print>(rt: &R, memory: &Memory) {
     report(rt, memory, "replay", call_replay(memory));
+    report(rt, memory, "list_frames", call_list_frames(memory));
     report(rt, memory, "run_over", call_run_over(rt, memory));
     report(rt, memory, "read_words", call_read_words(memory));
 }
