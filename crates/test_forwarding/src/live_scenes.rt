@@ -1,5 +1,5 @@
 //! What is done with entities and their plan. One function owns them for all tests, since the proof of each that does is dear.
-use crate::agree_tests::agree_on_all;
+use crate::agree_tests::{agree_on_all, agree_on_dialogues};
 use crate::attached_tests::look_at_ports;
 use crate::live_tests::look_at_changes;
 use forward_plan::Live;
@@ -10,6 +10,7 @@ use std::process::Abort;
 #[derive(Clone, Copy)]
 pub(crate) enum Scene {
     Agreement,
+    Dialogues,
     Changes,
     Ports,
 }
@@ -25,6 +26,7 @@ pub(crate) fn play(rt: &impl Abort, alloc: Global, scene: Scene) {
 fn act(rt: &impl Abort, alloc: Global, live: &mut Live, scene: Scene) {
     match scene {
         Scene::Agreement => agree_on_all(rt, alloc, live),
+        Scene::Dialogues => agree_on_dialogues(rt, alloc, live),
         Scene::Changes => look_at_changes(rt, alloc, live).expect(rt, "room for frames"),
         Scene::Ports => look_at_ports(rt, live),
     }
