@@ -53,7 +53,7 @@ fn put_instance(text: &mut String, mib: &Mib, held: &HeldInstance<'_>) -> Result
             break;
         };
         let name = description.name;
-        if let Some(bytes) = held.attribute(place + 1) {
+        if let Some(bytes) = mib.attribute(entity.class, entity.instance, place + 1) {
             let value = ValueWords {
                 kind: description.kind,
                 bytes: &bytes,

@@ -80,7 +80,7 @@ fn put_attribute(
     n: u16,
     description: &Description,
 ) -> Result<(), AllocError> {
-    if let Some(bytes) = held.attribute(n) {
+    if let Some(bytes) = mib.attribute(held.class(), held.number(), n) {
         object.key(description.name)?;
         put_value(object, description.kind, &bytes)?;
     } else if description.kind == AttributeKind::Table {
