@@ -18,8 +18,8 @@ const RUNT: [u8; 2] = [2, 0];
 /// The frames of a batch.
 const FRAMES: [&[u8]; 3] = [&UNTAGGED, &RUNT, &UNTAGGED];
 
-/// So many frames that a list of them is cut into pieces.
-const MANY: [&[u8]; 4_200] = [&UNTAGGED; 4_200];
+/// So many frames are cut into pieces.
+const MANY: usize = 4_200;
 
 /// Lets each batch pass.
 struct Open;
@@ -58,8 +58,9 @@ fn verdicts_of_many<R: Threads + Sync>(
     memory: &Memory,
     held: &Held<'_>,
 ) -> Result<Vec<Verdict<'static>>, BatchFault> {
-    match forward_all(rt, memory.first(), held, 257, &MANY) {
-        Err(BatchFault::NoMemory) => forward_all(rt, memory.again(), held, 257, &MANY),
+    let frames: [&'static [u8]; MANY] = [&UNTAGGED; MANY];
+    match forward_all(rt, memory.first(), held, 257, &frames) {
+        Err(BatchFault::NoMemory) => forward_all(rt, memory.again(), held, 257, &frames),
         verdicts => verdicts,
     }
 }
@@ -71,7 +72,7 @@ fn are_verdicts_of_many(verdicts: &[Verdict<'_>]) -> bool {
             return false;
         }
     }
-    verdicts.len() == MANY.len()
+    verdicts.len() == MANY
 }
 
 /// The report of a batch, which is run again where there was no memory.
