@@ -36,8 +36,8 @@ fn tpid_key(filter: TpidFilter) -> usize
     }
 }
 
-/// The code of the tag of a word: its TPID by whether it is that of a customer tag and whether it is the input TPID, its
-/// priority and its DEI.
+/// The code of the tag of a word: its TPID by whether it is that of a customer tag and
+/// whether it is the input TPID, its priority and its DEI.
 #[inline(always)]
 pub(crate) fn code_of(tag: u32, input_tpid: u16) -> usize
     ensures value { result ≡ code_of input_tpid (tag_of tag) }
