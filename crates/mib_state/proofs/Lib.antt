@@ -10,4 +10,5 @@ pub mod Attached
 pub mod Standing
 pub mod Accepted
 pub mod Touched
+pub mod Ascending
 mod Examples

@@ -21,7 +21,7 @@ use Rattle.mib_state.specs.Step.{counted, create, create_in, delete, delete_in, 
 use Rattle.mib_state.specs.Touch.{touched_by, IsSameBut, AreSame, AreSameButOne, IsTouch}
 
 -- each way of an `if` has what it is asked for
-either : {A : Type 0} (P : A → Type 0) (b : Bool) (x y : A) → (b ≡ true → P x) → (b ≡ false → P y) → P (if b then x else y)
+pub either : {A : Type 0} (P : A → Type 0) (b : Bool) (x y : A) → (b ≡ true → P x) → (b ≡ false → P y) → P (if b then x else y)
 either P true x y holds fails = holds refl
 either P false x y holds fails = fails refl
 
@@ -57,7 +57,7 @@ find_replaced new (x ∷ l) m other =
     (λ no. find_behind m x (replace new l) l (find_replaced new l m other))
 
 -- the number that was looked for is that of the instance found
-number_found : (n : ℕ) (l : List Instance) → IfSome (find n l) (λ i. i.number ≡ n)
+pub number_found : (n : ℕ) (l : List Instance) → IfSome (find n l) (λ i. i.number ≡ n)
 number_found n [] = tt
 number_found n (x ∷ l) =
     either (λ found. IfSome found (λ (i : Instance). i.number ≡ n)) (x.number == n) (Some x) (find n l) (λ is. eqb-true x.number n is) (λ no. number_found n l)

@@ -1,10 +1,11 @@
 -- The entities after a list of requests.
-use Rattle.std.specs.Prelude.{◌≡◌, Bool, true, false, ◌&&◌, ◌==◌, List, [], ◌∷◌, if◌then◌else◌}
+use Rattle.std.specs.Prelude.{◌≡◌, ◌<◌, ◌≤◌, ℕ, Bool, true, false, ◌&&◌, ◌==◌, List, [], ◌∷◌, if◌then◌else◌, length, IfSome}
 use Rattle.omci_msg.specs.declared.Request.{Request}
 use Rattle.omci_msg.specs.declared.Action.{Action}
 use Rattle.omci_msg.specs.declared.Action.TheVariants.{Create, Delete, Set, Get, GetNext, MibUpload, MibUploadNext, MibReset, Other}
 use Rattle.managed_entity.specs.Answer.{success_code}
-use Rattle.mib_state.specs.Entities.{Entities, State, nothing, unlatched}
+use Rattle.managed_entity.specs.Instance.{Instance}
+use Rattle.mib_state.specs.Entities.{Entities, State, nothing, unlatched, instances_of, next, number_at, IsAscending, IsAt}
 use Rattle.mib_state.specs.Step.{left, result_of, step}
 
 -- the entities after each request in turn
@@ -60,3 +61,25 @@ state_from s (q ∷ rest) = state_from (step s q).1 rest
 pub record LatchIsNoEntity : Type 0 where
   pub left : (s : State) (requests : List Request) → (state_from s requests).entities ≡ after_from s.entities requests
   pub accepted : (s : State) (q : Request) → succeeds s q ≡ is_accepted s.entities q
+
+-- the instances of each class stand by ascending number
+pub record AreAscending (e : Entities) : Type 0 where
+  pub mappers : IsAscending e.mappers
+  pub vlans : IsAscending e.vlans
+  pub interworks : IsAscending e.interworks
+  pub gem_ports : IsAscending e.gem_ports
+
+-- so they do after every list of requests
+abbrev pub ClassesAscend : Type 0
+ClassesAscend = (requests : List Request) → AreAscending (after requests)
+
+-- a number is the least, from one on, that an instance has
+pub record IsLeastFrom (from : ℕ) (l : List Instance) (n : ℕ) : Type 0 where
+  pub held : (place : ℕ) × IsAt l n place
+  pub from_on : from ≤ n
+  pub least : (place : ℕ) → place < length l → from ≤ number_at l place → n ≤ number_at l place
+
+-- so after every list of requests the first number of a class that isn't under another is the least such
+abbrev pub NextIsLeast : Type 0
+NextIsLeast = (requests : List Request) (class from : ℕ)
+    → IfSome (next from (instances_of (after requests) class)) (IsLeastFrom from (instances_of (after requests) class))

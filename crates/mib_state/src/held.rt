@@ -59,6 +59,7 @@ impl<'a> HeldInstance<'a> {
     }
 
     /// The bytes of attribute `n`, attributes numbered from 1: None for what isn't there and for a table.
+    #[inline(always)]
     pub fn attribute(&self, n: u16) -> Option<ArrayVec<u8, 24>>
         ensures value { option_map (λ (bytes : _). bytes.items) result
             ≡ attribute_of (attributes_of self.now.class) n (Some self.now.instance) }

@@ -17,7 +17,7 @@
 //! these instances and resets it, so a step takes no memory.
 #![tactic(auto)]
 
-ghost use Rattle.mib_state.specs.After.{AcceptedSuffice, LatchIsNoEntity};
+ghost use Rattle.mib_state.specs.After.{AcceptedSuffice, ClassesAscend, LatchIsNoEntity, NextIsLeast};
 
 mod attachment;
 mod carried;
@@ -42,4 +42,11 @@ pub use touch::Touch;
 pub fn law_of_accepted()
     ensures suffice { AcceptedSuffice }
     ensures latch { LatchIsNoEntity }
+{}
+
+/// After every list of requests the instances of each class stand by ascending number. So the first number that isn't under
+/// another, which [`Mib::next_instance`] gives, is the least such.
+pub fn law_of_order()
+    ensures ascending { ClassesAscend }
+    ensures least { NextIsLeast }
 {}

@@ -4,7 +4,7 @@ ghost use Rattle.std.specs.Option.{option_and_then};
 ghost use Rattle.managed_entity.specs.Class.{attributes_of, class_number, mapper_class, room_of, vlan_class, width_at};
 ghost use Rattle.mib_state.specs.Entities.{nothing, unlatched, instances_of, find, next, place_in};
 ghost use Rattle.managed_entity.specs.Instance.{attribute_of, value_at};
-ghost use Rattle.mib_state.specs.Attached.{is_table_of, least_instance, mapper_of_port, table_of_port};
+ghost use Rattle.mib_state.specs.Attached.{association_uni, is_table_of, least_instance, mapper_of_port, table_of_port};
 ghost use Rattle.managed_entity.specs.Shown.{mapper_instance, vlan_instance, interwork_instance, gem_port_instance};
 
 use crate::held::HeldInstance;
@@ -213,7 +213,7 @@ impl Mib {
     /// The number of the extended VLAN tagging operation configuration data that points to a port, of association type 2 (ITU-T
     /// G.988, clause 9.3.13). Of several, it is the one of least number, which is a choice of this project.
     pub fn own_table_of_port(&self, port: u16) -> Option<u16>
-        ensures { result ≡ least_instance (is_table_of 2 port) self.now.entities.vlans }
+        ensures { result ≡ least_instance (is_table_of association_uni port) self.now.entities.vlans }
     {
         self.vlans.attached(ASSOCIATION_UNI, port)
     }
