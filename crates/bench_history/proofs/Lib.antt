@@ -1,0 +1,4 @@
+pub mod Added
+mod Examples
+pub mod Spelled
+pub mod Steps

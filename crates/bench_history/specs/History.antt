@@ -1,0 +1,68 @@
+-- The events of a history.
+use Rattle.std.specs.Prelude.{◌≡◌, ℕ, ◌+◌, ◌==◌, ◌&&◌, Bool, true, false, not, if◌then◌else◌, nat_le, nat_lt, List, [], ◌∷◌, ◌++◌, length, Option, Some, None, Result, Ok, Err, count_by}
+use Rattle.std.specs.List.{list_any}
+use Rattle.std.specs.Option.{option_and_then}
+use Rattle.script_lines.specs.Text.{lines_of}
+use Rattle.bench_history.specs.Line.{event_of}
+use Rattle.bench_history.specs.declared.event.Event.{Event}
+use Rattle.bench_history.specs.declared.event.Event.TheVariants.{Replied, Entered, Left, Dropped, Waited}
+use Rattle.bench_history.specs.declared.fault.HistoryFault.{HistoryFault}
+use Rattle.bench_history.specs.declared.fault.HistoryFault.TheVariants.{BadLine, NoMemory}
+
+-- whether an event sends a frame
+abbrev pub is_frame : Event → Bool
+is_frame (Entered port frame) = true
+is_frame _ = false
+
+-- whether it is a reply
+abbrev pub is_reply : Event → Bool
+is_reply (Replied reply) = true
+is_reply _ = false
+
+-- whether it ends the frame of a number: the frame left or was dropped
+abbrev pub is_end_of : ℕ → Event → Bool
+is_end_of n (Left gem number frame) = number == n
+is_end_of n (Dropped number) = number == n
+is_end_of n _ = false
+
+-- how many frames were sent; their numbers are those below
+abbrev pub frames_in : List Event → ℕ
+frames_in events = count_by is_frame events
+
+-- how many replies were seen
+abbrev pub replies_in : List Event → ℕ
+replies_in events = count_by is_reply events
+
+-- whether the frame of a number has ended
+abbrev pub has_ended : ℕ → List Event → Bool
+has_ended n events = list_any (is_end_of n) events
+
+-- whether the frame of a number was sent and hasn't ended
+abbrev pub is_open : ℕ → List Event → Bool
+is_open n events = nat_lt n (frames_in events) && not (has_ended n events)
+
+-- whether an event may stand behind others: only an open frame ends, and no more replies are waited for than were seen
+abbrev pub may_follow : List Event → Event → Bool
+may_follow before (Left gem number frame) = is_open number before
+may_follow before (Dropped number) = is_open number before
+may_follow before (Waited (Some replies)) = nat_le replies (replies_in before)
+may_follow before _ = true
+
+-- the event of a line behind others, None where it is bad or may not stand there
+abbrev pub next_of : List Event → List ℕ → Option Event
+next_of before line = option_and_then (λ event. if may_follow before event then Some event else None) (event_of line)
+
+-- the events so far and those of more lines, in order; or the number, from 1, of the first line that has none
+abbrev pub events_from : List Event → List (List ℕ) → Result (List Event) ℕ
+events_from before [] = Ok before
+events_from before (line ∷ lines) =
+    elim (next_of before line) [ Some event ↦ events_from (before ++ event ∷ []) lines | None ↦ Err (length before + 1) ]
+
+-- the events of a text, one for each line; or the number of its first line that has none
+abbrev pub history_of : List ℕ → Result (List Event) ℕ
+history_of text = events_from [] (lines_of text)
+
+-- why a text isn't read as a history: its first line that has no event, or memory is wanting
+abbrev pub IsWhyUnread : List ℕ → HistoryFault → Type 0
+IsWhyUnread text (BadLine n) = history_of text ≡ Err n
+IsWhyUnread text NoMemory = Unit {0}
