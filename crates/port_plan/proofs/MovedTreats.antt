@@ -1,5 +1,5 @@
 -- The treatments of a table with one entry more or less: those behind it are moved by one place.
-use Rattle.std.proofs.Common.{◌≡◌, ◌⊎◌, ℕ, zero, suc, ◌-◌, ◌<◌, ◌≤◌, Bool, true, false, ◌||◌, List, [], ◌∷◌, length, Option, Some, None, refl, ap, sym, subst, ◌∙◌, arith, inl, inr}
+use Rattle.std.proofs.Common.{◌≡◌, ◌⊎◌, ℕ, zero, suc, ◌-◌, ◌<◌, ◌≤◌, Bool, true, false, ◌||◌, List, [], ◌∷◌, ◌++◌, length, Option, Some, None, refl, ap, sym, subst, ◌∙◌, arith, inl, inr}
 use Rattle.std.specs.Prelude.{slice_get}
 use Rattle.std.specs.List.{insert, remove}
 use Rattle.std.specs.Option.{option_map, option_map_or}
@@ -50,6 +50,11 @@ left-above [] (suc i) k above = refl
 left-above (x ∷ xs) zero k above = refl
 left-above (x ∷ xs) (suc i) zero above = absurd (omega arith)
 left-above (x ∷ xs) (suc i) (suc k) above = left-above xs i k (omega arith)
+
+-- what is inserted behind all others is the last
+pub inserted-last : {A : Type 0} (xs : List A) (y : A) → insert xs (length xs) y ≡ xs ++ y ∷ []
+inserted-last [] y = refl
+inserted-last (x ∷ xs) y = ap (λ l. x ∷ l) (inserted-last xs y)
 
 -- ---- treatments by number
 

@@ -5,7 +5,7 @@ ghost use Rattle.managed_entity.specs.Shown.{vlan_instance};
 ghost use Rattle.frame_meaning.specs.Meaning.{Table, table_of};
 ghost use Rattle.port_plan.specs.CompiledTable.{AreMarkings};
 
-use crate::treats::{any_asks, compile_treat, compile_treats, insert_treat, remove_treat};
+use crate::treats::{compile_treat, compile_treats, insert_treat, remove_treat};
 use frame_meaning::{Reason, settings_of};
 use mib_state::VlanConfig;
 use rule_index::{Followed, Head, Index};
@@ -116,8 +116,7 @@ impl CompiledTable {
         self.settings = settings;
         self.index.rebuild(rules);
         self.markings = markings_of(&settings.dscp_map);
-        compile_treats(&mut self.treats, &self.index, &settings, rules);
-        self.uses_dscp = any_asks(&self.treats);
+        self.uses_dscp = compile_treats(&mut self.treats, &self.index, &settings, rules);
     }
 
     /// Becomes the table of these rules and settings. What these have in common with those before isn't compiled again.
@@ -134,8 +133,7 @@ impl CompiledTable {
             &settings.dscp_map,
         );
         self.settings = settings;
-        compile_treats(&mut self.treats, &self.index, &settings, rules);
-        self.uses_dscp = any_asks(&self.treats);
+        self.uses_dscp = compile_treats(&mut self.treats, &self.index, &settings, rules);
     }
 
     /// Takes a few steps towards these rules, and says whether they are reached. The look that finds so is no step.
@@ -187,8 +185,12 @@ impl CompiledTable {
             }
             _ => {
                 let _ = self.index.follow(rules);
-                compile_treats(&mut self.treats, &self.index, &self.settings, rules);
-                self.uses_dscp = any_asks(&self.treats);
+                self.uses_dscp = compile_treats(
+                    &mut self.treats,
+                    &self.index,
+                    &self.settings,
+                    rules,
+                );
                 true
             }
         }

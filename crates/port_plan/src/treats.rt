@@ -12,28 +12,34 @@ use rule_index::Index;
 use treatment::Treat;
 use vlan_rule::{Filter, RuleTable, TableSettings};
 
-/// Compiles the treatment of each entry, in the order of rank and place.
+/// Compiles the treatment of each entry, in the order of rank and place, and says whether one of them asks for the DSCP of a frame.
 pub(crate) fn compile_treats(
     treats: &mut Vec<Option<Treat>>,
     index: &Index,
     settings: &TableSettings,
     rules: &RuleTable,
-)
+) -> bool
     requires room { table_max_size ≤ vec_capacity treats.old }
     requires index { index.now ≡ rules.now }
     ensures room { vec_capacity treats.new ≡ vec_capacity treats.old }
     ensures treats { AreTreats settings.now rules.now treats.new.items }
+    ensures none { result ≡ false → NoneAsks treats.new.items }
+    ensures some { result ≡ true → SomeAsks treats.new.items }
 {
+    let mut asked = false;
     treats.clear();
     for number in 0..rules.len() as u8 {
         let Some(place) = index.order(number) else {
-            return;
+            return asked;
         };
         let Some(rule) = rules.rule(place) else {
-            return;
+            return asked;
         };
-        treats.push_reserved(Treat::of(&rule.treatment, settings, tags_in(&rule.filter)));
+        let treat = Treat::of(&rule.treatment, settings, tags_in(&rule.filter));
+        asked |= asks(&treat);
+        treats.push_reserved(treat);
     }
+    asked
 }
 
 /// Compiles the treatment of one entry again, where the others are as before, and says whether a treatment asks for the DSCP of a
@@ -134,7 +140,7 @@ fn still_asks(asks: bool, asked: bool, treats: &[Option<Treat>]) -> bool
 }
 
 /// Whether some treatment asks for the DSCP of a frame.
-pub(crate) fn any_asks(treats: &[Option<Treat>]) -> bool
+fn any_asks(treats: &[Option<Treat>]) -> bool
     ensures none { result ≡ false → NoneAsks treats.now }
     ensures some { result ≡ true → SomeAsks treats.now }
 {

@@ -1,9 +1,11 @@
-use Rattle.std.proofs.Common.{◌+◌, ℕ, List, [], ◌∷◌, Option, length, ap, arith, sym, subst, ◌∙◌, length-append, rules}
+use Rattle.std.proofs.Common.{◌≡◌, ◌+◌, ℕ, List, [], ◌∷◌, Option, length, ap, arith, sym, subst, ◌∙◌, length-append, rules}
 use Rattle.std.specs.Prelude.{slice_get}
+use Rattle.std.specs.List.{insert}
 use Rattle.rule_index.specs.Filters.{tags_in}
 use Rattle.rule_index.specs.Order.{order_of}
 use Rattle.treatment.specs.Compiled.{Compiled, Treats}
-use Rattle.port_plan.proofs.CompiledTables.{AreFirstTreats, all_to_end, all_to_none, order_within, treats_all, treats_more}
+use Rattle.port_plan.proofs.CompiledTables.{AreFirstTreats, all_to_end, all_to_none, none_asks, order_within, treats_all, treats_more}
+use Rattle.port_plan.proofs.MovedTreats.{inserted-last, none-asks-inserted, some-asks-inserted}
 use Rattle.port_plan.proofs.treats.compile_treats.Goals as goal
 
 pub returns-in_default-clause-treats : goal.returns-in_default-clause-treats
@@ -28,17 +30,20 @@ loop-number-preserved c =
     let old = c.loop-number.treats.items in
     let kept = c.loop-number.invariant in
     let rule = c.in-Some-rule.rule.now in
-    let treat = c.of.result in
+    let treat = c.of-treat.result in
     let here = c.in-Some.ensures ∙ ap (λ (l : List (List ℕ)). slice_get (order_of l) n) c.requires.index in
     let right : Treats rule.treatment settings (tags_in rule.filter) treat =
-    subst (λ (k : ℕ). Treats rule.treatment settings k treat) c.tags_in.ensures.value c.of.ensures.treats in
+    subst (λ (k : ℕ). Treats rule.treatment settings k treat) c.tags_in.ensures.value c.of-treat.ensures.treats in
     let is = c.push_reserved.ensures.items in
+    let last : insert old (length old) treat ≡ c.push_reserved.new.self.items = inserted-last old treat ∙ sym is in
     record {
       treats = subst (λ (l : List (Option Compiled)). AreFirstTreats settings entries l (n + 1)) (sym is)
           (treats_more settings entries old n c.in-Some.place rule treat kept.count here c.in-Some-rule.ensures.1 right kept.treats);
       count = omega (arith, ap (λ (l : List (Option Compiled)). length l) is, length-append old (treat ∷ []));
       len = omega (arith, c.push_reserved.ensures.len);
       room = c.push_reserved.ensures.capacity ∙ kept.room;
+      none = λ no. rw (← last) (none-asks-inserted old (length old) treat c.loop-number.asked c.asks-asked.result (omega arith) c.asks-asked.ensures kept.none no);
+      some = λ yes. rw (← last) (some-asks-inserted old (length old) treat c.loop-number.asked c.asks-asked.result (omega arith) c.asks-asked.ensures kept.some yes);
     }
 
 pub returns-clause-treats : goal.returns-clause-treats
@@ -50,4 +55,4 @@ returns-clause-treats c =
 
 -- bounded, so that a wrong body is refused at once
 pub loop-number-init : goal.loop-number-init
-loop-number-init c = search rules fits 30
+loop-number-init c = search (rules, none_asks) fits 30

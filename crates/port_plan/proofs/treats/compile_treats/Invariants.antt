@@ -1,4 +1,5 @@
-use Rattle.std.proofs.Common.{◌≡◌, length, vec_capacity, vec_len}
+use Rattle.std.proofs.Common.{◌≡◌, true, false, length, vec_capacity, vec_len}
+use Rattle.port_plan.specs.CompiledTable.{NoneAsks, SomeAsks}
 use Rattle.port_plan.proofs.CompiledTables.{AreFirstTreats}
 use Rattle.port_plan.proofs.treats.compile_treats.Given as goal
 
@@ -8,4 +9,6 @@ invariant-loop-number l = record {
   count : length l.treats.items ≡ l.number;
   len : vec_len l.treats ≡ l.number;
   room : vec_capacity l.treats ≡ vec_capacity l.initial.treats;
+  none : l.asked ≡ false → NoneAsks l.treats.items;
+  some : l.asked ≡ true → SomeAsks l.treats.items;
 }

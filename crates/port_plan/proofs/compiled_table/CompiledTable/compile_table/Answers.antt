@@ -2,8 +2,8 @@
 use Rattle.std.proofs.Common.{rules}
 use Rattle.port_plan.proofs.compiled_table.CompiledTable.compile_table.Goals as goal
 
-pub compile_treats-requires-clause-index : goal.compile_treats-requires-clause-index
-compile_treats-requires-clause-index c = search rules fits 30
+pub compile_treats-self-inside-requires-clause-index : goal.compile_treats-self-inside-requires-clause-index
+compile_treats-self-inside-requires-clause-index c = search rules fits 30
 
 pub invariant_of-self : goal.invariant_of-self
 invariant_of-self c = search rules fits 30
