@@ -3,3 +3,4 @@ pub mod Forgotten
 pub mod Kept
 pub mod Names
 pub mod Replaced
+pub mod Classes

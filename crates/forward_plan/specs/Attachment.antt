@@ -37,6 +37,17 @@ AreAttachedOrKept e old new = (port : ℕ) → IsAttachedIn e new port ⊎ (slic
 
 -- ---- what instances say of where they are attached
 
+-- the TP type of a mapper that points to a PPTP Ethernet UNI
+abbrev pub tp_type_uni : ℕ
+tp_type_uni = 1
+
+-- the association types of a table that points to a mapper, and of one that points to a PPTP Ethernet UNI
+abbrev pub association_mapper : ℕ
+association_mapper = 1
+
+abbrev pub association_uni : ℕ
+association_uni = 2
+
 -- a mapper: its TP type, attribute 13, and its TP pointer, attribute 1
 abbrev pub mapper_naming : Instance → Naming
 mapper_naming i = record { number = i.number; kind = attribute_number 13 i; to = attribute_number 1 i }
@@ -57,12 +68,12 @@ pub record ArePorts (e : Entities) (ports : Ports) : Type 0 where
 
 -- ---- the ports that one table is attached to
 
--- a mapper has a number, and points to a port
+-- a mapper has a number, and points to a port: its TP type is that of a PPTP Ethernet UNI
 pub record IsMapperOfPort (number : ℕ) (mapper : Naming) : Type 0 where
   pub numbered : mapper.number ≡ number
-  pub of_port : mapper.kind ≡ 1
+  pub of_port : mapper.kind ≡ tp_type_uni
 
 -- the port that a table points to has what is attached to it; or those ports have it that the mapper points to to which it points
 pub record AreOfTable (e : Entities) (mappers : List Naming) (table : Naming) (ports : List Attached) : Type 0 where
-  pub own : table.kind ≡ 2 → IsAttachedIn e ports table.to
-  pub mapped : (place : ℕ) (mapper : Naming) → slice_get mappers place ≡ Some mapper → table.kind ≡ 1 → IsMapperOfPort table.to mapper → IsAttachedIn e ports mapper.to
+  pub own : table.kind ≡ association_uni → IsAttachedIn e ports table.to
+  pub mapped : (place : ℕ) (mapper : Naming) → slice_get mappers place ≡ Some mapper → table.kind ≡ association_mapper → IsMapperOfPort table.to mapper → IsAttachedIn e ports mapper.to

@@ -11,7 +11,7 @@ use crate::part::{Part, bring, forget, forget_all};
 use crate::plan::Plan;
 use crate::ports::Ports;
 use managed_entity::ManagedEntity;
-use managed_entity::class::{MAPPER, VLAN};
+use managed_entity::class::Class;
 use mib_state::{Mib, Touch, VlanConfig};
 use pmapper::Mapper;
 use port_plan::{CompiledTable, PortPlan, Routes};
@@ -81,10 +81,16 @@ impl Plan {
             → IsBehind old self.old
             → IsBehind new self.new }
     {
-        match class {
-            VLAN => forget(&mut self.tables, instance),
-            MAPPER => forget(&mut self.mappers, instance),
-            _ => forget_readers(&mut self.mappers, class, instance),
+        // A class that isn't known has no instance.
+        let Some(known) = Class::of(class) else {
+            return;
+        };
+        match known {
+            Class::Vlan => forget(&mut self.tables, instance),
+            Class::Mapper => forget(&mut self.mappers, instance),
+            Class::OnuData | Class::Interwork | Class::GemPort => {
+                forget_readers(&mut self.mappers, class, instance)
+            }
         }
     }
 
@@ -115,8 +121,12 @@ impl Plan {
             × IsCompiled e self.old }
         ensures { IsCompiled mib.now.entities self.new }
     {
-        match class {
-            VLAN => {
+        // As above.
+        let Some(known) = Class::of(class) else {
+            return Compiled::NOTHING;
+        };
+        match known {
+            Class::Vlan => {
                 forget(&mut self.tables, instance);
                 self.ports.follow(mib);
                 Compiled {
@@ -124,7 +134,7 @@ impl Plan {
                     mappers: 0,
                 }
             }
-            MAPPER => {
+            Class::Mapper => {
                 forget(&mut self.mappers, instance);
                 self.ports.follow(mib);
                 Compiled {
@@ -132,7 +142,7 @@ impl Plan {
                     mappers: follow_mappers(&mut self.mappers, mib),
                 }
             }
-            _ => {
+            Class::OnuData | Class::Interwork | Class::GemPort => {
                 forget_readers(&mut self.mappers, class, instance);
                 Compiled {
                     tables: 0,

@@ -8,7 +8,7 @@ use crate::compiled::Compiled;
 use crate::naming::Naming;
 use crate::part::forget;
 use crate::plan::Plan;
-use managed_entity::class::{MAPPER, VLAN};
+use managed_entity::class::{Class, MAPPER, VLAN};
 use mib_state::{Mib, VlanConfig};
 use pmapper::Mapper;
 
@@ -26,9 +26,9 @@ impl Plan {
             × IsCompiled e self.old }
         ensures { IsCompiled mib.now.entities self.new }
     {
-        match class {
-            VLAN => self.set_table(mib, instance),
-            MAPPER => self.set_mapper(mib, instance),
+        match Class::of(class) {
+            Some(Class::Vlan) => self.set_table(mib, instance),
+            Some(Class::Mapper) => self.set_mapper(mib, instance),
             _ => self.follow_one(mib, class, instance),
         }
     }

@@ -4,7 +4,7 @@ ghost use Rattle.std.specs.List.{list_any};
 
 use crate::mapper_routes::{Route, by_priority, untagged};
 use frame_meaning::Reason;
-use managed_entity::class::{GEM_PORT, INTERWORK};
+use managed_entity::class::Class;
 use mib_state::Mib;
 use pmapper::Mapper;
 
@@ -57,10 +57,13 @@ impl Routes {
     pub fn reads(&self, class: u16, instance: u16) -> bool
         ensures { result ≡ false → DoesNotRead class instance self.now }
     {
+        let Some(class) = Class::of(class) else {
+            return false;
+        };
         match class {
-            INTERWORK => reads_point(&self.by_priority, instance),
-            GEM_PORT => reads_ctp(&self.by_priority, instance),
-            _ => false,
+            Class::Interwork => reads_point(&self.by_priority, instance),
+            Class::GemPort => reads_ctp(&self.by_priority, instance),
+            Class::OnuData | Class::Mapper | Class::Vlan => false,
         }
     }
 
