@@ -3,14 +3,16 @@
 //!
 //! **The plan** is what is compiled of the entities, and [`Live`] keeps both: each table with its index and a compiled treatment
 //! for each of its entries, each mapper with a route for each priority, and for each port where its table and its mapper stand.
-//! The type says that all of it is that of the entities. [`Live::port`] lends the plan of one port, a [`PortPlan`], which
-//! forwards any number of frames.
+//! The type keeps all of it that of the entities, and [`Live::plan`] says so. [`Live::port`] lends the plan of one port, a
+//! [`PortPlan`], which forwards any number of frames.
 //!
 //! What a frame's verdict is, and the plain walk that gives it too, stand in `frame_meaning`, and the plan of one port in
 //! `port_plan`; who forwards needs this crate alone.
 //!
 //! Nothing but [`Live::new`] and [`OutFrame::append_to`] takes memory.
 #![tactic(auto)]
+
+ghost use Rattle.forward_plan.specs.Compiled.{CompiledIsOne};
 
 mod attached;
 mod attaching;
@@ -28,3 +30,9 @@ pub use frame_meaning::{NoMemory, OutFrame, Reason, Verdict, plain_walk};
 pub use live::Live;
 pub use plan::Plan;
 pub use port_plan::PortPlan;
+
+/// What is compiled of entities is determined by them: plans that are compiled of the same entities have the same table for each
+/// of their tables, the same routes for each of their mappers, and the same attached to each port.
+pub fn law_of_compiled()
+    ensures { CompiledIsOne }
+{}

@@ -37,6 +37,7 @@ impl Live {
     ghost use Rattle.port_plan.specs.Leaving.{IsPlanOf};
     ghost use Rattle.frame_meaning.specs.Meaning.{meaning};
     ghost use Rattle.frame_meaning.specs.Size.{LeavesLittleMore};
+    ghost use Rattle.forward_plan.specs.Compiled.{IsCompiled};
 
     /// No instance, and sync 0, with room for all that there may be.
     pub fn new(alloc: Global) -> Result<Self, AllocError>
@@ -69,7 +70,8 @@ impl Live {
     }
 
     /// Compiles all ports, tables and mappers anew, each table with its index, markings and treatments, whatever was compiled before.
-    /// The entities stay, and so does what is compiled of them, by the type; so no verdict changes. It takes no memory.
+    /// The entities stay, and so does what is compiled of them: [`plan`](Live::plan) says that it is theirs, and
+    /// [`law_of_compiled`](crate::law_of_compiled) that they determine it. So no verdict changes. It takes no memory.
     pub fn recompile(&mut self)
         ensures { self.new ≡ self.old }
     {
@@ -87,6 +89,14 @@ impl Live {
         ensures { result.now.entities ≡ self.now }
     {
         &self.mib
+    }
+
+    /// What is compiled of the entities, after any requests and after [`recompile`](Live::recompile): each table and each mapper,
+    /// also those that no port reaches, and what is attached to each port.
+    pub fn plan(&self) -> &Plan
+        ensures { IsCompiled self.now result.now }
+    {
+        &self.plan
     }
 
     /// The plan of a port. Who has many frames of a port asks for it once.
