@@ -3,7 +3,7 @@ use Rattle.std.specs.Prelude.{◌≡◌, ◌<◌, ◌⊎◌, ℕ, List, Option, 
 use Rattle.std.specs.Option.{option_and_then, unwrap_or}
 use Rattle.managed_entity.specs.Instance.{Instance, attribute_number}
 use Rattle.mib_state.specs.Entities.{Entities, nothing, place_in}
-use Rattle.mib_state.specs.Attached.{mapper_of_port, table_of_port}
+use Rattle.mib_state.specs.Attached.{association_mapper, association_uni, mapper_of_port, table_of_port, tp_type_uni}
 use Rattle.forward_plan.specs.declared.attached.Attached.{Attached}
 use Rattle.forward_plan.specs.declared.naming.Naming.{Naming}
 use Rattle.forward_plan.specs.declared.naming.Namings.{Namings}
@@ -36,17 +36,6 @@ abbrev pub AreAttachedOrKept : Entities → List Attached → List Attached → 
 AreAttachedOrKept e old new = (port : ℕ) → IsAttachedIn e new port ⊎ (slice_get new port ≡ slice_get old port)
 
 -- ---- what instances say of where they are attached
-
--- the TP type of a mapper that points to a PPTP Ethernet UNI
-abbrev pub tp_type_uni : ℕ
-tp_type_uni = 1
-
--- the association types of a table that points to a mapper, and of one that points to a PPTP Ethernet UNI
-abbrev pub association_mapper : ℕ
-association_mapper = 1
-
-abbrev pub association_uni : ℕ
-association_uni = 2
 
 -- a mapper: its TP type, attribute 13, and its TP pointer, attribute 1
 abbrev pub mapper_naming : Instance → Naming
