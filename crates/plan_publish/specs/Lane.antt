@@ -7,6 +7,10 @@ use Rattle.plan_publish.specs.declared.lane.Lane.{Lane}
 use Rattle.plan_publish.specs.History.{Home}
 use Rattle.plan_publish.specs.Requests.{StartsWithEach}
 
+-- how many lanes there can be
+abbrev pub most_lanes : ℕ
+most_lanes = 16
+
 abbrev pub number_of : Lane → ℕ
 number_of l = l.number
 

@@ -3,8 +3,8 @@ ghost use Rattle.std.specs.Prelude.{◌≡◌, [], drop, ◌<◌, ◌≤◌, ◌
 ghost use Rattle.left_right.specs.Sides.{view};
 ghost use Rattle.mib_upload.specs.Upload.{start};
 ghost use Rattle.plan_publish.specs.History.{key_of};
-ghost use Rattle.plan_publish.specs.Lane.{IsNew};
-ghost use Rattle.plan_publish.specs.Publisher.{Stands};
+ghost use Rattle.plan_publish.specs.Lane.{IsNew, most_lanes};
+ghost use Rattle.plan_publish.specs.Publisher.{Stands, WriterStands};
 ghost use Rattle.plan_publish.specs.World.{opening};
 ghost use Rattle.plan_publish.specs.Shown.{Shows};
 
@@ -62,10 +62,9 @@ fn make_lanes(
 
 /// A writer of two copies without an instance.
 fn new_writer(alloc: Global, history: &Beginning, lanes: u16) -> Result<PlanWriter, AllocError>
-    requires lanes { (0 < lanes) × (lanes ≤ 16) }
+    requires lanes { (0 < lanes) × (lanes ≤ most_lanes) }
     requires history { history.now.seen.log ≡ [] }
-    ensures stands { IfOk result (λ w.
-        Stands w.desk.shown.value (view w.desk.place) (drop w.behind w.log.items)) }
+    ensures stands { IfOk result (λ w. WriterStands w) }
     ensures nothing { IfOk result (λ w. ((view w.desk.place).published ≡ [])
         × (drop w.behind w.log.items ≡ [])) }
     ensures book { IfOk result (λ w. w.desk.shown.value.base.seen.book ≡ history.now.seen.book) }
@@ -83,8 +82,7 @@ fn with_lanes<R: Wait>(
     lanes: u16,
     history: &Beginning,
 ) -> Result<(PlanWriter, Vec<Lane>), AllocError>
-    requires stands { Stands writer.desk.shown.value (view writer.desk.place)
-        (drop writer.behind writer.log.items) }
+    requires stands { WriterStands writer }
     requires nothing { ((view writer.desk.place).published ≡ [])
         × (drop writer.behind writer.log.items ≡ []) × (history.now.seen.log ≡ []) }
     requires book { writer.desk.shown.value.base.seen.book ≡ history.now.seen.book }
@@ -122,7 +120,7 @@ fn room_for(alloc: Global, lanes: u16) -> Result<Vec<Lane>, AllocError>
 /// the version is 0. Any other number of lanes is refused before memory is asked for.
 pub fn open<R: Wait>(rt: &R, alloc: Global, lanes: u16) -> Result<(Control, Vec<Lane>), OpenFault>
     ensures lanes_fault { (n : ℕ) → IsErrOf result (OpenFault.Lanes n)
-        ↔ (n ≡ lanes) × ¬ ((0 < lanes) × (lanes ≤ 16)) }
+        ↔ (n ≡ lanes) × ¬ ((0 < lanes) × (lanes ≤ most_lanes)) }
     ensures control { IfOk result (λ t.
         t.0 ≡ record { desk = start; published = []; pending = []; home = t.0.home }) }
     ensures lanes { IfOk result (λ t. (vec_len t.1 ≡ lanes)

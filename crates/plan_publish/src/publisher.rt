@@ -4,7 +4,7 @@ ghost use Rattle.left_right.specs.Sides.{view};
 ghost use Rattle.plan_publish.specs.Requests.{StartsWith, version_of};
 ghost use Rattle.plan_publish.specs.History.{head_of, key_of};
 ghost use Rattle.plan_publish.specs.Edition.{requests_of};
-ghost use Rattle.plan_publish.specs.Publisher.{all_of, Stands};
+ghost use Rattle.plan_publish.specs.Publisher.{all_of, Stands, WriterStands};
 
 use crate::edition::{Accepted, Edition};
 use crate::history::{Beginning, Head};
@@ -34,7 +34,7 @@ impl Model for Publisher {
     ghost use Rattle.plan_publish.specs.Requests.{StartsWith, version_of};
     ghost use Rattle.plan_publish.specs.History.{head_of, key_of};
     ghost use Rattle.plan_publish.specs.Edition.{requests_of};
-    ghost use Rattle.plan_publish.specs.Publisher.{Lists, Stands};
+    ghost use Rattle.plan_publish.specs.Publisher.{Lists, WriterStands};
 
     ghost Value = { Lists };
 
@@ -46,8 +46,7 @@ impl Model for Publisher {
         } };
 
     ghost invariant = { λ c.
-        Stands c.writer.desk.shown.value (knows c.writer.desk.place)
-        (drop c.writer.behind c.writer.log.items)
+        WriterStands c.writer
         × (c.writer.desk.shown.value.base.seen.book ≡ c.history.seen.book)
         × ((knows c.writer.desk.place).home ≡ Some (key_of c.history.seen.book))
         × StartsWith ((knows c.writer.desk.place).published
@@ -59,8 +58,7 @@ impl Model for Publisher {
 
 /// Publishes the requests that the type names, which are all pending ones.
 fn publish_pending<J: Pending, R: Wait>(rt: &R, writer: PlanWriter) -> PlanWriter
-    requires stands { Stands writer.desk.shown.value (view writer.desk.place)
-        (drop writer.behind writer.log.items) }
+    requires stands { WriterStands writer }
     requires pending { requests_of (drop writer.behind writer.log.items) ≡ J.pending }
     ensures published { (view result.desk.place).published
         ≡ (view writer.desk.place).published ++ J.pending }
@@ -79,8 +77,7 @@ fn publish_pending<J: Pending, R: Wait>(rt: &R, writer: PlanWriter) -> PlanWrite
 
 /// Publishes all pending requests.
 pub(crate) fn publish_now<R: Wait>(writer: PlanWriter, rt: &R) -> (PlanWriter, ())
-    requires { Stands writer.desk.shown.value (view writer.desk.place)
-        (drop writer.behind writer.log.items) }
+    requires { WriterStands writer }
     ensures published { (view result.0.desk.place).published
         ≡ (view writer.desk.place).published ++ requests_of (drop writer.behind writer.log.items) }
     ensures stands { Stands result.0.desk.shown.value (view result.0.desk.place) [] }
