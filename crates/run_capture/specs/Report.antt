@@ -4,6 +4,7 @@ use Rattle.std.specs.Fmt.{decimal}
 use Rattle.capture.specs.declared.fault.CaptureFault.{CaptureFault}
 use Rattle.capture.specs.declared.fault.CaptureFault.TheVariants.{Magic, Header, Link, Torn, TooLong}
 use Rattle.capture.specs.Fault as capture
+use Rattle.text_writing.specs.FaultWords.{bad_trace_words, no_memory_words, write_failed_words}
 use Rattle.run_capture.specs.declared.fault.RunFault.{RunFault}
 use Rattle.run_capture.specs.declared.fault.RunFault.TheVariants.{Settings, BadTrace, Capture, NoMemory, Refused, CountFull, Write}
 use Rattle.run_capture.specs.Fault.{status_of_fault}
@@ -18,12 +19,12 @@ place_words (TooLong n) = codes " at " ++ decimal n
 
 abbrev pub words_of : RunFault → List ℕ
 words_of Settings = codes "wrong settings" ++ 10 ∷ []
-words_of (BadTrace n) = codes "trace line " ++ decimal n ++ codes " is bad" ++ 10 ∷ []
+words_of (BadTrace n) = bad_trace_words n
 words_of (Capture fault) = codes "capture fault " ++ decimal (capture.number_of_fault fault) ++ place_words fault ++ 10 ∷ []
-words_of NoMemory = codes "no memory" ++ 10 ∷ []
+words_of NoMemory = no_memory_words
 words_of Refused = codes "refused" ++ 10 ∷ []
 words_of CountFull = codes "counters are full" ++ 10 ∷ []
-words_of Write = codes "write failed" ++ 10 ∷ []
+words_of Write = write_failed_words
 
 -- nothing where there was no fault
 abbrev pub words_at : Result (Unit {0}) RunFault → List ℕ

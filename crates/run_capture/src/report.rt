@@ -9,7 +9,7 @@ use crate::fault::RunFault;
 use capture::CaptureFault;
 use itoa::Buffer;
 use std::io::Write;
-use text_writing::write_whole;
+use text_writing::{bad_trace_words, no_memory_words, write_failed_words, write_whole};
 
 /// Writes words, up to the write that fails.
 fn write_words<W: Write>(writer: &mut W, words: &[u8])
@@ -59,12 +59,12 @@ fn write_fault<W: Write>(writer: &mut W, fault: RunFault)
 {
     match fault {
         RunFault::Settings => write_words(writer, b"wrong settings\n"),
-        RunFault::BadTrace(line) => write_number(writer, b"trace line ", line, b" is bad\n"),
+        RunFault::BadTrace(line) => write_words(writer, &bad_trace_words(line)),
         RunFault::Capture(fault) => write_capture_fault(writer, fault),
-        RunFault::NoMemory => write_words(writer, b"no memory\n"),
+        RunFault::NoMemory => write_words(writer, &no_memory_words()),
         RunFault::Refused => write_words(writer, b"refused\n"),
         RunFault::CountFull => write_words(writer, b"counters are full\n"),
-        RunFault::Write => write_words(writer, b"write failed\n"),
+        RunFault::Write => write_words(writer, &write_failed_words()),
     }
 }
 

@@ -1,15 +1,15 @@
 -- The words and the status with which a replay ends.
-use Rattle.std.specs.Prelude.{ℕ, List, [], ◌∷◌, ◌++◌, Result, Ok, Err, codes}
-use Rattle.std.specs.Fmt.{decimal}
+use Rattle.std.specs.Prelude.{ℕ, List, [], Result, Ok, Err}
+use Rattle.text_writing.specs.FaultWords.{bad_line_words, no_memory_words, read_failed_words, write_failed_words}
 use Rattle.script_replay.specs.declared.fault.ReplayFault.{ReplayFault}
 use Rattle.script_replay.specs.declared.fault.ReplayFault.TheVariants.{BadLine, Read, Write, NoMemory}
 use Rattle.script_replay.specs.Fault.{status_of}
 
 abbrev pub words_of : ReplayFault → List ℕ
-words_of (BadLine n) = codes "line " ++ decimal n ++ codes " is bad" ++ 10 ∷ []
-words_of (Read n) = codes "read failed" ++ 10 ∷ []
-words_of Write = codes "write failed" ++ 10 ∷ []
-words_of NoMemory = codes "no memory" ++ 10 ∷ []
+words_of (BadLine n) = bad_line_words n
+words_of (Read n) = read_failed_words
+words_of Write = write_failed_words
+words_of NoMemory = no_memory_words
 
 -- nothing where there was no fault
 abbrev pub words_at : Result (Unit {0}) ReplayFault → List ℕ

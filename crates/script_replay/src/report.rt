@@ -4,36 +4,21 @@ ghost use Rattle.text_writing.specs.Written.{AppendsPart};
 ghost use Rattle.script_replay.specs.Report.{status_at, words_at, words_of};
 
 use crate::fault::ReplayFault;
-use arrayvec::ArrayVec;
-use itoa::Buffer;
 use std::io::Write;
-use text_writing::write_whole;
+use text_writing::{
+    Words, bad_line_words, no_memory_words, read_failed_words, write_failed_words, write_whole,
+};
 
-/// What is written on a fault.
-type Words = ArrayVec<u8, 64>;
-
+/// The words for a fault.
 fn words(fault: ReplayFault) -> Words
     ensures { result.items ≡ words_of fault }
 {
-    let mut words = ArrayVec::new();
     match fault {
-        ReplayFault::BadLine(line) => {
-            let mut digits = Buffer::new();
-            let _ = words.try_extend_from_slice(b"line ");
-            let _ = words.try_extend_from_slice(digits.format(line).as_bytes());
-            let _ = words.try_extend_from_slice(b" is bad\n");
-        }
-        ReplayFault::Read(_) => {
-            let _ = words.try_extend_from_slice(b"read failed\n");
-        }
-        ReplayFault::Write => {
-            let _ = words.try_extend_from_slice(b"write failed\n");
-        }
-        ReplayFault::NoMemory => {
-            let _ = words.try_extend_from_slice(b"no memory\n");
-        }
+        ReplayFault::BadLine(line) => bad_line_words(line),
+        ReplayFault::Read(_) => read_failed_words(),
+        ReplayFault::Write => write_failed_words(),
+        ReplayFault::NoMemory => no_memory_words(),
     }
-    words
 }
 
 /// Writes the words for how a replay ended, if it wasn't at the end of its script, and gives the

@@ -1,8 +1,8 @@
 -- The number, the words and the status with which a command that looks inside ends.
-use Rattle.std.specs.Prelude.{ℕ, List, [], ◌∷◌, ◌++◌, Result, Ok, Err, codes}
-use Rattle.std.specs.Fmt.{decimal}
+use Rattle.std.specs.Prelude.{ℕ, List, [], Result, Ok, Err}
 use Rattle.text_writing.specs.declared.look_fault.LookFault.{LookFault}
 use Rattle.text_writing.specs.declared.look_fault.LookFault.TheVariants.{BadLine, BadTrace, Read, Write, NoMemory}
+use Rattle.text_writing.specs.FaultWords.{bad_line_words, bad_trace_words, no_memory_words, read_failed_words, write_failed_words}
 
 abbrev pub number_of : LookFault → ℕ
 number_of (BadLine n) = 1
@@ -12,11 +12,11 @@ number_of Write = 4
 number_of NoMemory = 5
 
 abbrev pub words_of : LookFault → List ℕ
-words_of (BadLine n) = codes "line " ++ decimal n ++ codes " is bad" ++ 10 ∷ []
-words_of (BadTrace n) = codes "trace line " ++ decimal n ++ codes " is bad" ++ 10 ∷ []
-words_of Read = codes "read failed" ++ 10 ∷ []
-words_of Write = codes "write failed" ++ 10 ∷ []
-words_of NoMemory = codes "no memory" ++ 10 ∷ []
+words_of (BadLine n) = bad_line_words n
+words_of (BadTrace n) = bad_trace_words n
+words_of Read = read_failed_words
+words_of Write = write_failed_words
+words_of NoMemory = no_memory_words
 
 -- nothing where there was no fault
 abbrev pub words_at : Result (Unit {0}) LookFault → List ℕ

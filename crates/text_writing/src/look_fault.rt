@@ -1,13 +1,13 @@
 //! Why a command that looks inside wrote nothing, or not all: its number, its words and its status.
-ghost use Rattle.std.specs.Prelude.{◌≡◌, ◌≤◌, ◌++◌, ◌∷◌, [], codes, length};
-ghost use Rattle.std.specs.Fmt.{decimal};
+ghost use Rattle.std.specs.Prelude.{◌≡◌};
 ghost use Rattle.text_writing.specs.LookFault.{number_of, status_at, status_of, words_at, words_of};
 ghost use Rattle.text_writing.specs.Written.{AppendsPart};
 
 use crate::fault::{DecodeFault, TextFault};
+use crate::fault_words::{
+    Words, bad_line_words, bad_trace_words, no_memory_words, read_failed_words, write_failed_words,
+};
 use crate::whole::write_whole;
-use arrayvec::ArrayVec;
-use itoa::Buffer;
 use std::io::Write;
 use thiserror::Error;
 
@@ -30,9 +30,6 @@ pub enum LookFault {
     #[error("no memory")]
     NoMemory,
 }
-
-/// What is written on a fault: the longest are words and a number of 64 bits.
-type Words = ArrayVec<u8, 64>;
 
 impl LookFault {
     /// The number under which the fault is reported.
@@ -79,39 +76,16 @@ impl From<DecodeFault> for LookFault {
     }
 }
 
-/// The words for a bad line, behind those that say of what it is one.
-fn bad_line(front: &[u8], line: u64) -> Words
-    requires { length front.now ≤ 11 }
-    ensures { result.items ≡ front.now ++ decimal line ++ codes " is bad" ++ 10 ∷ [] }
-{
-    let mut words = ArrayVec::new();
-    let mut digits = Buffer::new();
-    let _ = words.try_extend_from_slice(front);
-    let _ = words.try_extend_from_slice(digits.format(line).as_bytes());
-    let _ = words.try_extend_from_slice(b" is bad\n");
-    words
-}
-
-/// The words for a fault that has no number, ended by a line feed.
-fn plain(text: &[u8]) -> Words
-    requires { length text.now ≤ 64 }
-    ensures { result.items ≡ text.now }
-{
-    let mut words = ArrayVec::new();
-    let _ = words.try_extend_from_slice(text);
-    words
-}
-
 /// The words for a fault.
 fn words(fault: LookFault) -> Words
     ensures { result.items ≡ words_of fault }
 {
     match fault {
-        LookFault::BadLine(line) => bad_line(b"line ", line),
-        LookFault::BadTrace(line) => bad_line(b"trace line ", line),
-        LookFault::Read => plain(b"read failed\n"),
-        LookFault::Write => plain(b"write failed\n"),
-        LookFault::NoMemory => plain(b"no memory\n"),
+        LookFault::BadLine(line) => bad_line_words(line),
+        LookFault::BadTrace(line) => bad_trace_words(line),
+        LookFault::Read => read_failed_words(),
+        LookFault::Write => write_failed_words(),
+        LookFault::NoMemory => no_memory_words(),
     }
 }
 
