@@ -4,7 +4,7 @@ ghost use Rattle.std.specs.Prelude.{◌≡◌, ◌<◌, ◌↔◌, ◌≤◌, �
 ghost use Rattle.frame_stats.specs.Figures.{SomePasses};
 ghost use Rattle.plan_publish.specs.Lane.{number_of};
 ghost use Rattle.plan_publish.specs.Held.{held_entities, held_lane, held_version};
-ghost use Rattle.frame_batch.specs.Batches.{meanings};
+ghost use Rattle.frame_batch.specs.Batches.{meanings, most_frames};
 
 use crate::fault::BatchFault;
 use crate::forwarding::{MOST, forward_each};
@@ -112,7 +112,7 @@ pub fn run_batch<'a, G: Gate>(
     ensures verdicts { IfOk result (λ report. report.verdicts.items
         ≡ meanings (held_entities held.now) batch.entry.port batch.entry.frames.now) }
     ensures too_many { (n : ℕ) → IsErrOf result (BatchFault.TooMany n)
-        ↔ ((n ≡ length batch.entry.frames.now) × (65536 < n)) }
+        ↔ ((n ≡ length batch.entry.frames.now) × (most_frames < n)) }
     ensures passed { IfOk result (λ _.
         G.may_answer gate.now (number_of (held_lane held.now)) batch.entry.number turns true) }
     ensures stalled { IsErrOf result BatchFault.Stalled

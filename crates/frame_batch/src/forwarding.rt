@@ -1,7 +1,7 @@
 //! What becomes of many frames.
 ghost use Rattle.std.specs.Prelude.{◌≡◌, ◌<◌, ◌≤◌, ◌+◌, ◌++◌, ◌↔◌, ℕ, IfOk, IsErrOf, length, vec_len, vec_capacity};
 ghost use Rattle.plan_publish.specs.Held.{held_entities};
-ghost use Rattle.frame_batch.specs.Batches.{meanings};
+ghost use Rattle.frame_batch.specs.Batches.{meanings, most_frames};
 
 use crate::fault::BatchFault;
 use crate::pieces::forward_by_pieces;
@@ -36,7 +36,7 @@ pub fn forward_all<'a, R: Threads + Sync>(
     ensures verdicts { IfOk result (λ verdicts.
         verdicts.items ≡ meanings (held_entities held.now) port frames.now) }
     ensures too_many { (n : ℕ) → IsErrOf result (BatchFault.TooMany n)
-        ↔ ((n ≡ length frames.now) × (65536 < n)) }
+        ↔ ((n ≡ length frames.now) × (most_frames < n)) }
     ensures never { ¬ (IsErrOf result BatchFault.Stalled)
         × ¬ (IsErrOf result BatchFault.CountFull) }
 {

@@ -4,3 +4,4 @@ pub mod Finish
 pub mod Heads
 pub mod Replay
 pub mod Report
+pub mod Room

@@ -4,6 +4,7 @@ ghost use Rattle.std.specs.Io.KnownBytes.{Keeps};
 ghost use Rattle.mib_upload.specs.Upload.{start};
 ghost use Rattle.script_replay.specs.Replay.{Replays};
 ghost use Rattle.script_replay.specs.Finish.{Finishes};
+ghost use Rattle.script_replay.specs.Room.{text_room};
 
 use crate::answer::answer_line;
 use crate::fault::ReplayFault;
@@ -60,10 +61,10 @@ fn replay_through<R: Read, W: Write>(
     answers: &mut Vec<u8>,
 ) -> Result<(), ReplayFault>
     requires begins { onu.old ≡ start }
-    requires text { length text.old ≡ 85536 }
+    requires text { length text.old ≡ text_room }
     requires empty { vec_len answers.old ≡ 0 }
     requires none { answers.old.items ≡ [] }
-    requires room { 3 * 85536 ≤ vec_capacity answers.old }
+    requires room { 3 * text_room ≤ vec_capacity answers.old }
     ensures { IfSome (R.remaining reader.old) (λ text.
         Replays text result (R.remaining reader.new) (W.contents writer.old)
         (W.contents writer.new)) }
@@ -105,12 +106,13 @@ struct Room {
 
 impl Room {
     ghost use Rattle.std.specs.Prelude.{◌≡◌, ◌*◌, ◌≤◌, [], IfOk, vec_len, vec_capacity};
+    ghost use Rattle.script_replay.specs.Room.{text_room};
 
     fn new(alloc: Global) -> Result<Room, AllocError>
-        ensures text { IfOk result (λ room. vec_len room.text ≡ 85536) }
+        ensures text { IfOk result (λ room. vec_len room.text ≡ text_room) }
         ensures empty { IfOk result (λ room. vec_len room.answers ≡ 0) }
         ensures none { IfOk result (λ room. room.answers.items ≡ []) }
-        ensures answers { IfOk result (λ room. 3 * 85536 ≤ vec_capacity room.answers) }
+        ensures answers { IfOk result (λ room. 3 * text_room ≤ vec_capacity room.answers) }
     {
         Ok(Room {
             text: vec![in alloc; 0; TEXT_ROOM]?,

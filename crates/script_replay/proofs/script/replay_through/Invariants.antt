@@ -3,6 +3,7 @@ use Rattle.std.specs.Io.KnownBytes.{Appends, Consumes}
 use Rattle.mib_upload.specs.Upload.{start}
 use Rattle.script_replay.specs.Answers.{answers_from}
 use Rattle.script_replay.specs.Replay.{ended_script}
+use Rattle.script_replay.specs.Room.{text_room}
 use Rattle.script_replay.proofs.Replaying.{SoFar}
 use Rattle.script_replay.proofs.script.replay_through.Given as goal
 
@@ -14,7 +15,7 @@ invariant-loop g l = record {
   begun : l.begun ≤ 20000;
   empty : vec_len l.answers ≡ 0;
   none : l.answers.items ≡ [];
-  room : 3 * 85536 ≤ vec_capacity l.answers;
-  few : l.total ≤ 85536 * l.counter;
-  fewer : l.lines ≤ 85536 * l.counter;
+  room : 3 * text_room ≤ vec_capacity l.answers;
+  few : l.total ≤ text_room * l.counter;
+  fewer : l.lines ≤ text_room * l.counter;
 }
