@@ -47,6 +47,7 @@ impl RunFault {
             RunFault::Write => 7,
         }
     }
+
     /// The status with which the program ends: 2 for a bad trace line or a capture that can't be read, else 1.
     pub fn status(self) -> u8
         ensures { result ≡ status_of_fault self }

@@ -2,3 +2,4 @@ pub mod Run
 pub mod Work
 pub mod Control
 pub mod Settling
+pub mod Outcome

@@ -1,6 +1,7 @@
 //! What a lane does.
 ghost use Rattle.std.specs.Prelude.{◌≡◌, ◌≤◌, Some, IfOk};
 ghost use Rattle.plan_publish.specs.Lane.{number_of, held_by, learnt_by, IsSameLane};
+ghost use Rattle.run_settings.specs.Settings.{batch_limit};
 ghost use Rattle.run_lanes.specs.Work.{batch_of, Forwarded, IsOut, Worked};
 
 use crate::fault::{LaneFault, forwarding, noting};
@@ -76,7 +77,7 @@ fn forward_batch<'a, G: Gate>(
 
 /// The frames of a batch.
 fn frames_of<'f, 'a>(frames: &'f [&'a [u8]], size: u32, batch: u32) -> &'f [&'a [u8]]
-    requires { size ≤ 65536 }
+    requires { size ≤ batch_limit }
     ensures { result.now ≡ batch_of size batch frames.now }
 {
     let from = (batch as usize * size as usize).min(frames.len());

@@ -6,6 +6,7 @@ ghost use Rattle.plan_publish.specs.Lane.{home_of};
 ghost use Rattle.plan_publish.specs.Told.{told_home, told_list};
 ghost use Rattle.run_settings.specs.Settings.{CanRun};
 ghost use Rattle.run_lanes.specs.Control.{IsNewControl};
+ghost use Rattle.run_lanes.specs.Outcome.{IsRunOf};
 ghost use Rattle.run_lanes.specs.Run.{IsRun, batches_in};
 ghost use Rattle.run_lanes.specs.Settling.{AreNew, HasLearnt};
 
@@ -49,10 +50,7 @@ fn run_at_once<G: Gate + Sync, R: Threads + Wait + Sync>(
         × (job.now.count ≡ batches_in job.now.settings.batch (length job.now.frames.now)) }
     requires control { IsNewControl control.old }
     requires lanes { AreNew job.now.settings.lanes control.old.home lanes.items }
-    ensures accepted { IfOk result (λ settled. settled.accepted ≡ length (accepted requests.now)) }
-    ensures run { IfOk result (λ settled.
-        IsRun (accepted requests.now) job.now.settings
-        (map (λ frame. frame.now) job.now.frames.now) settled.versions.items settled.counts) }
+    ensures { IfOk result (IsRunOf requests.now job.now) }
 {
     let (done, applied) = work_at_once(rt, control, lanes, requests, job, gate);
     applied?;
@@ -75,10 +73,7 @@ fn run_after<G: Gate + Sync, R: Threads + Wait + Sync>(
     requires job { job.now.count ≡ batches_in job.now.settings.batch (length job.now.frames.now) }
     requires control { IsNewControl control.old }
     requires lanes { AreNew job.now.settings.lanes control.old.home lanes.items }
-    ensures accepted { IfOk result (λ settled. settled.accepted ≡ length (accepted requests.now)) }
-    ensures run { IfOk result (λ settled.
-        IsRun (accepted requests.now) job.now.settings
-        (map (λ frame. frame.now) job.now.frames.now) settled.versions.items settled.counts) }
+    ensures { IfOk result (IsRunOf requests.now job.now) }
 {
     let mut lanes = lanes;
     apply_requests(rt, control, requests, job, gate)?;
@@ -109,10 +104,7 @@ fn run_job<G: Gate + Sync, R: Threads + Wait + Sync>(
     gate: &G,
 ) -> Result<Settled, LaneFault>
     requires { job.now.count ≡ batches_in job.now.settings.batch (length job.now.frames.now) }
-    ensures accepted { IfOk result (λ settled. settled.accepted ≡ length (accepted requests.now)) }
-    ensures run { IfOk result (λ settled.
-        IsRun (accepted requests.now) job.now.settings
-        (map (λ frame. frame.now) job.now.frames.now) settled.versions.items settled.counts) }
+    ensures { IfOk result (IsRunOf requests.now job.now) }
 {
     let (mut control, lanes) = match open(rt, job.alloc, job.settings.lanes) {
         Ok(opened) => opened,

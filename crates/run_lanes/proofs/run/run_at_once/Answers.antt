@@ -11,10 +11,10 @@ use Rattle.run_lanes.specs.Work.{Did}
 use Rattle.run_lanes.specs.declared.settling.Done.{Done}
 use Rattle.run_lanes.specs.declared.settling.Settled.{Settled}
 use Rattle.run_lanes.specs.Control.{Applied}
-use Rattle.run_lanes.specs.Run.{IsRun, batches_in}
+use Rattle.run_lanes.specs.Outcome.{IsRunOf}
+use Rattle.run_lanes.specs.Run.{batches_in}
 use Rattle.run_lanes.specs.Settling.{IsSettled}
 use Rattle.run_lanes.proofs.Applying.{applied_new}
-use Rattle.run_lanes.proofs.Counting.{bytes_of}
 use Rattle.run_lanes.proofs.Running.{of_ok, on_ok, new_home, new_numbers, done_home, run_of}
 use Rattle.run_lanes.proofs.Zips.{ok_then}
 use Rattle.run_lanes.proofs.run.run_at_once.Goals as goal
@@ -29,8 +29,8 @@ settle-requires g c =
     let applied = on_ok c.work_at_once-done.result.1 c.in_ok-applied.field-0 (Applied c.args.control.now c.work_at_once-done.new.control c.args.requests.now) c.in_ok-applied.was c.work_at_once-done.ensures.applied in
     λ k d lt. c.publish-told.ensures.home ∙ applied.home ∙ homes k d lt
 
-pub returns-clause-run : goal.returns-clause-run
-returns-clause-run g c =
+pub returns : goal.returns
+returns g c =
     let s = c.args.job.now.settings in
     let frames = c.args.job.now.frames.now in
     let lanes = c.args.lanes.items in
@@ -41,9 +41,11 @@ returns-clause-run g c =
     let applied = on_ok c.work_at_once-done.result.1 c.in_ok-applied.field-0 (Applied c.args.control.now c.work_at_once-done.new.control asked) c.in_ok-applied.was c.work_at_once-done.ensures.applied in
     let all : told_list c.publish-told.result ≡ accepted asked = c.publish-told.ensures.told ∙ applied_new c.args.control.now c.work_at_once-done.new.control asked c.requires.control applied in
     let P : Settled → Type 0 = λ settled. IsSettled (told_list c.publish-told.result) ds c.args.job.now.count settled in
-    let Q : Settled → Type 0 = λ settled. IsRun (accepted asked) s (bytes_of frames) settled.versions.items settled.counts in
-    ok_then c.settle.result P Q c.settle.ensures (λ settled i.
+    ok_then c.settle.result P (IsRunOf asked c.args.job.now) c.settle.ensures (λ settled i.
     let whole : IsSettled (accepted asked) ds (batches_in s.batch (length frames)) settled =
     subst (λ (l : List Request). IsSettled l ds (batches_in s.batch (length frames)) settled) all (subst (λ n. IsSettled (told_list c.publish-told.result) ds n settled) c.requires.job.1 i) in
-    run_of (accepted asked) s frames 0 lanes ds (new_numbers lanes s.lanes home c.requires.lanes) did settled whole
-    (λ (first : s.after ≡ true). absurd (false≢true (sym c.requires.job.0 ∙ first))))
+    record {
+      accepted_is = whole.accepted_is;
+      run = run_of (accepted asked) s frames 0 lanes ds (new_numbers lanes s.lanes home c.requires.lanes) did settled whole
+          (λ (first : s.after ≡ true). absurd (false≢true (sym c.requires.job.0 ∙ first)));
+    })
