@@ -3,7 +3,7 @@ use Rattle.std.specs.Prelude.{◌≡◌, ℕ, if◌then◌else◌, List, Option,
 use Rattle.std.specs.Io.KnownBytes.{Appends, Keeps}
 use Rattle.capture.specs.Records.{capture_of}
 use Rattle.capture.specs.declared.fault.CaptureFault.{CaptureFault}
-use Rattle.run_lanes.specs.Run.{AreAdmissible, batches_in}
+use Rattle.run_lanes.specs.Run.{AreAdmissible, SomeRunPasses, batches_in}
 use Rattle.run_trace.specs.Trace.{first_bad, requests_of}
 use Rattle.run_settings.specs.Settings.{can_run}
 use Rattle.run_settings.specs.declared.settings.RunSettings.{RunSettings}
@@ -32,6 +32,12 @@ pub record IsOutput (trace file : List ℕ) (s : RunSettings) (out : List ℕ) :
   pub admissible : AreAdmissible (length (accepted (requests_of trace))) s.lanes s.after versions
   pub lines : out ≡ run_lines (accepted (requests_of trace)) s frames versions
 
+-- a sum of the verdicts on the file's frames passes 64 bits, by versions that its batches may have under the trace
+pub record CountsPass (trace file : List ℕ) (s : RunSettings) : Type 0 where
+  pub frames : List (List ℕ)
+  pub captured : capture_of file ≡ Ok frames
+  pub passes : SomeRunPasses (accepted (requests_of trace)) s frames
+
 -- what a writer holds before and after, by how the run ended
 abbrev pub Runs : List ℕ → List ℕ → RunSettings → Result (Unit {0}) RunFault → Option (List ℕ) → Option (List ℕ) → Type 0
 Runs trace file s (Ok done) before after = (input_fault trace file s ≡ None) × (out : List ℕ) × IsOutput trace file s out × Appends before after out
@@ -40,7 +46,7 @@ Runs trace file s (Err (BadTrace n)) before after = (input_fault trace file s �
 Runs trace file s (Err (Capture fault)) before after = (input_fault trace file s ≡ Some (Capture fault)) × Keeps before after
 Runs trace file s (Err NoMemory) before after = (input_fault trace file s ≡ None) × Keeps before after
 Runs trace file s (Err Refused) before after = (input_fault trace file s ≡ None) × Keeps before after
-Runs trace file s (Err CountFull) before after = (input_fault trace file s ≡ None) × Keeps before after
+Runs trace file s (Err CountFull) before after = (input_fault trace file s ≡ None) × CountsPass trace file s × Keeps before after
 Runs trace file s (Err Write) before after = (input_fault trace file s ≡ None) × (out : List ℕ) × IsOutput trace file s out × AppendsPart before after out
 
 -- why there is nothing to write
@@ -50,5 +56,5 @@ IsWhyNone trace file s (BadTrace n) = input_fault trace file s ≡ Some (BadTrac
 IsWhyNone trace file s (Capture fault) = input_fault trace file s ≡ Some (Capture fault)
 IsWhyNone trace file s NoMemory = input_fault trace file s ≡ None
 IsWhyNone trace file s Refused = input_fault trace file s ≡ None
-IsWhyNone trace file s CountFull = input_fault trace file s ≡ None
+IsWhyNone trace file s CountFull = (input_fault trace file s ≡ None) × CountsPass trace file s
 IsWhyNone trace file s Write = ⊥

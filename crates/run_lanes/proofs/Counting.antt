@@ -1,5 +1,5 @@
--- The counts of all batches.
-use Rattle.std.proofs.Common.{◌≡◌, ℕ, ◌+◌, ◌*◌, suc, List, [], ◌∷◌, map, take, drop, Some, refl, ap, sym, ◌∙◌, subst, arith}
+-- The counts of all batches, and of one of them.
+use Rattle.std.proofs.Common.{◌≡◌, ℕ, ◌+◌, ◌*◌, ◌<◌, ◌≤◌, suc, zero, List, [], ◌∷◌, map, take, drop, Some, refl, ap, sym, ◌∙◌, subst, arith}
 use Rattle.std.specs.Prelude.{slice_get}
 use Rattle.std.specs.Borrow.{Bor}
 use Rattle.std.specs.List.{sum_by}
@@ -34,6 +34,11 @@ first_meant : (e : Entities) (port size : ℕ) (frames : List (Bor (List ℕ))) 
 first_meant e port size frames =
     sym (ap (map (meaning e port)) (take-map (λ (frame : Bor (List ℕ)). frame.now) size frames) ∙ map-map (meaning e port) (λ (frame : Bor (List ℕ)). frame.now) (take size frames))
 
+-- so many times the same version
+abbrev pub copies : ℕ → ℕ → List ℕ
+copies zero version = []
+copies (suc n) version = version ∷ copies n version
+
 module _ (accepted : List Request) (port size : ℕ) where
   -- tally k has the counts of what batch k means after so many of the requests
   abbrev pub AreMeant : List (Bor (List ℕ)) → List Tally → Type 0
@@ -61,3 +66,25 @@ module _ (accepted : List Request) (port size : ℕ) where
       let more = sum_by-cons (λ (q : Tally). counted q.counts f) t ts in
       let all = rest ∙ ap (figure f) same in
       omega (arith, this, all, both, more)
+
+  -- what one batch means has no more of a figure than what all of them mean after the same requests
+  pub one_of_all : (f : Figure) (version n k : ℕ) (frames : List (Bor (List ℕ))) → k < n
+      → figure f (meanings (after (take version accepted)) port (batch_of size k frames)) ≤ figure f (verdicts_from accepted port size (bytes_of frames) (copies n version))
+  one_of_all f version zero k frames lt = absurd (omega (arith, lt))
+  one_of_all f version (suc n) zero frames lt =
+      let e : Entities = after (take version accepted) in
+      let none : drop (0 * size) frames ≡ frames = ap (λ (n : ℕ). drop n frames) (let z : 0 * size ≡ 0 = omega arith in z) in
+      let this : figure f (meanings e port (batch_of size 0 frames)) ≡ figure f (map (meaning e port) (take size (bytes_of frames))) =
+      ap (figure f) (ap (λ (l : List (Bor (List ℕ))). meanings e port (take size l)) none ∙ first_meant e port size frames) in
+      let both = figure-append f (map (meaning e port) (take size (bytes_of frames))) (verdicts_from accepted port size (drop size (bytes_of frames)) (copies n version)) in
+      omega (arith, this, both)
+  one_of_all f version (suc n) (suc k) frames lt =
+      let e : Entities = after (take version accepted) in
+      let rest = one_of_all f version n k (drop size frames) (omega (arith, lt)) in
+      let this : figure f (meanings e port (batch_of size (suc k) frames)) ≡ figure f (meanings e port (batch_of size k (drop size frames))) =
+      ap (λ (l : List (Bor (List ℕ))). figure f (meanings e port l)) (later frames k) in
+      let others = verdicts_from accepted port size (drop size (bytes_of frames)) (copies n version) in
+      let same : figure f (verdicts_from accepted port size (bytes_of (drop size frames)) (copies n version)) ≡ figure f others =
+      ap (λ (l : List (List ℕ)). figure f (verdicts_from accepted port size l (copies n version))) (sym (drop-map (λ (frame : Bor (List ℕ)). frame.now) size frames)) in
+      let both = figure-append f (map (meaning e port) (take size (bytes_of frames))) others in
+      omega (arith, rest, this, same, both)

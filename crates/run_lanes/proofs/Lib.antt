@@ -5,3 +5,4 @@ pub mod Collecting
 pub mod Counting
 pub mod Running
 pub mod Learnt
+pub mod Outcomes

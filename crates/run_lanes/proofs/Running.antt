@@ -1,8 +1,8 @@
 -- From what each lane held to what the whole run gives.
-use Rattle.std.proofs.Common.{◌≡◌, ℕ, ◌+◌, ◌*◌, ◌%◌, ◌<◌, ◌≤◌, List, [], ◌∷◌, length, get_or, map, take, Option, Some, refl, ap, sym, subst, ◌∙◌, arith, ◌^◌, ◌-◌, suc, zero, true}
+use Rattle.std.proofs.Common.{◌≡◌, ℕ, ◌+◌, ◌*◌, ◌%◌, ◌<◌, ◌≤◌, ◌⊎◌, ⊎_elim, List, [], ◌∷◌, length, get_or, map, take, Option, Some, refl, ap, sym, subst, ◌∙◌, arith, ◌^◌, ◌-◌, suc, zero, true}
 use Rattle.std.specs.Prelude.{slice_get, Result, Ok, IfOk, OnOk, IfSome, All}
 use Rattle.std.specs.Borrow.{Bor}
-use Rattle.std.specs.List.{Contains, AllZip}
+use Rattle.std.specs.List.{Contains, AllZip, sum_by}
 use Rattle.std.specs.declared.vec.Vec.{Vec}
 use Rattle.std.specs.declared.alloc.Global.{Global}
 use Rattle.std.proofs.Math.Seq.{take-append_seam}
@@ -15,17 +15,18 @@ use Rattle.plan_publish.specs.Requests.{StartsWith, StartsWithEach, version_of}
 use Rattle.plan_publish.specs.History.{Home}
 use Rattle.plan_publish.specs.declared.lane.Lane.{Lane}
 use Rattle.plan_publish.specs.Lane.{number_of, learnt_by, home_of, IsNew}
-use Rattle.frame_stats.specs.Figures.{AreCountsOf}
+use Rattle.frame_stats.specs.Figures.{Figure, figure, counted, AreCountsOf, HasNoZeros}
 use Rattle.frame_batch.specs.declared.batch.Tally.{Tally}
 use Rattle.frame_batch.specs.Batches.{meanings}
+use Rattle.frame_batch.specs.Gathering.{SumPasses}
 use Rattle.run_settings.specs.declared.settings.RunSettings.{RunSettings}
 use Rattle.run_lanes.specs.declared.settling.Done.{Done}
 use Rattle.run_lanes.specs.declared.settling.Settled.{Settled}
-use Rattle.run_lanes.specs.Run.{batches_in, AreAdmissible, IsRun}
+use Rattle.run_lanes.specs.Run.{batches_in, verdicts_from, AreAdmissible, IsRun, SomeRunPasses}
 use Rattle.run_lanes.specs.Work.{batch_of, OfLane, Worked, Did, IsOut}
-use Rattle.run_lanes.specs.Settling.{AreNew, Collected, IsSettled}
+use Rattle.run_lanes.specs.Settling.{AllAreFull, AreNew, AreOrdered, Collected, IsSettled, SomeLaneIsFull}
 use Rattle.run_lanes.proofs.Working.{starts_with_one}
-use Rattle.run_lanes.proofs.Counting.{bytes_of, versions_of, sums_are}
+use Rattle.run_lanes.proofs.Counting.{bytes_of, versions_of, copies, sums_are, one_of_all}
 
 -- ---- one tally
 
@@ -110,9 +111,9 @@ abbrev pub AreNumbered : ℕ → ℕ → List Lane → Type 0
 AreNumbered lanes learnt ls = (n : ℕ) (l : Lane) → slice_get ls n ≡ Some l → (number_of l ≡ n) × (n < lanes) × (learnt ≤ length (learnt_by l))
 
 module _ (accepted : List Request) (s : RunSettings) (frames : List (Bor (List ℕ))) (learnt : ℕ) (ls : List Lane) (ds : List Done) (numbers : AreNumbered s.lanes learnt ls)
-    (did : AllZip (Did s frames) ls ds) (settled : Settled) (i : IsSettled accepted ds (batches_in s.batch (length frames)) settled) where
-  c : Collected accepted ds i.all
-  c = i.collected
+    (did : AllZip (Did s frames) ls ds) (out : List Tally) (o : AreOrdered accepted ds (batches_in s.batch (length frames)) out) where
+  c : Collected accepted ds o.all
+  c = o.collected
 
   -- what the lane of that number worked
   worked_at : (n : ℕ) (d : Done) (v : Vec Tally Global) → slice_get ds n ≡ Some d → d.tallies ≡ Ok v
@@ -123,15 +124,15 @@ module _ (accepted : List Request) (s : RunSettings) (frames : List (Bor (List �
       let number = numbers n z.0 z.1 in
       (z.0, k.0, number.0, number.1, number.2, c.began n d at k.0 k.1, k.2)
 
-  found_at : (t : Tally) → Contains i.all t → Located ds s.lanes t × (t.version ≤ length accepted) × (learnt ≤ t.version) × IsMeant accepted i.small s frames t
+  found_at : (t : Tally) → Contains o.all t → Located ds s.lanes t × (t.version ≤ length accepted) × (learnt ≤ t.version) × IsMeant accepted o.small s frames t
   found_at t h =
       let f = c.from t h in
       let j = is_at f.tallies.items t f.is_in in
       let k = worked_at f.place f.done f.tallies f.at_place f.tallies_are in
-      let o = k.6.each j.0 t j.1 in
-      let m = meant accepted i.small s frames k.1 (learnt_by k.0) (number_of k.0) j.0 t o k.5 in
+      let of = k.6.each j.0 t j.1 in
+      let m = meant accepted o.small s frames k.1 (learnt_by k.0) (number_of k.0) j.0 t of k.5 in
       let no_less : learnt ≤ t.version = omega (arith, m.1, k.4) in
-      let batch : t.batch ≡ f.place + j.0 * s.lanes = o.batch ∙ ap (λ n. n + j.0 * s.lanes) k.2 in (
+      let batch : t.batch ≡ f.place + j.0 * s.lanes = of.batch ∙ ap (λ n. n + j.0 * s.lanes) k.2 in (
         record { lane = f.place; index = j.0; done = f.done; tallies = f.tallies; at_lane = f.at_place; tallies_are = f.tallies_are; at_index = j.1; below = k.3; batch = batch },
         m.0,
         no_less,
@@ -151,15 +152,15 @@ module _ (accepted : List Request) (s : RunSettings) (frames : List (Bor (List �
       k.6.never_fall a.index b.index q t (earlier s.lanes b.lane a.index b.index b.below before) q_at b.at_index
 
   -- tally k of the run is of batch k
-  at_place : (k : ℕ) (t : Tally) → slice_get i.out k ≡ Some t → (t.batch ≡ k) × Located ds s.lanes t × (t.version ≤ length accepted) × (learnt ≤ t.version) × IsMeant accepted i.small s frames t
-  at_place k t h = let f = i.in_order.found k t h in let p = found_at t f.0 in (f.1, p.0, p.1, p.2, p.3)
+  at_place : (k : ℕ) (t : Tally) → slice_get out k ≡ Some t → (t.batch ≡ k) × Located ds s.lanes t × (t.version ≤ length accepted) × (learnt ≤ t.version) × IsMeant accepted o.small s frames t
+  at_place k t h = let f = o.in_order.found k t h in let p = found_at t f.0 in (f.1, p.0, p.1, p.2, p.3)
 
-  admissible : (s.after ≡ true → learnt ≡ length accepted) → AreAdmissible (length accepted) s.lanes s.after (versions_of i.out)
+  admissible : (s.after ≡ true → learnt ≡ length accepted) → AreAdmissible (length accepted) s.lanes s.after (versions_of out)
   admissible first = record {
-    at_most = all_mapped (λ (t : Tally). t.version) (λ v. v ≤ length accepted) i.out (λ k t h. (at_place k t h).2);
+    at_most = all_mapped (λ (t : Tally). t.version) (λ v. v ≤ length accepted) out (λ k t h. (at_place k t h).2);
     never_fall = λ j k v w le residue hv hw.
-        let q = mapped_at (λ (t : Tally). t.version) i.out j v hv in
-        let t = mapped_at (λ (x : Tally). x.version) i.out k w hw in
+        let q = mapped_at (λ (t : Tally). t.version) out j v hv in
+        let t = mapped_at (λ (x : Tally). x.version) out k w hw in
         let fq = at_place j q.0 q.1 in
         let ft = at_place k t.0 t.1 in
         let before : q.0.batch ≤ t.0.batch = omega (arith, le, fq.0, ft.0) in
@@ -167,22 +168,77 @@ module _ (accepted : List Request) (s : RunSettings) (frames : List (Bor (List �
         omega (arith, n, q.2, t.2);
     all_at_end = λ is.
         let learnt_all = first is in
-        all_mapped (λ (t : Tally). t.version) (λ v. v ≡ length accepted) i.out (λ k t h. let p = at_place k t h in omega (arith, p.2, p.3, learnt_all));
+        all_mapped (λ (t : Tally). t.version) (λ v. v ≡ length accepted) out (λ k t h. let p = at_place k t h in omega (arith, p.2, p.3, learnt_all));
   }
 
-  pub run_of : (s.after ≡ true → learnt ≡ length accepted) → IsRun accepted s (bytes_of frames) settled.versions.items settled.counts
-  run_of first =
+  many : length (versions_of out) ≡ batches_in s.batch (length (bytes_of frames))
+  many = length-map out (λ (t : Tally). t.version) ∙ o.in_order.len ∙ ap (batches_in s.batch) (sym (length-map frames (λ (frame : Bor (List ℕ)). frame.now)))
+
+  sums : (f : Figure) → sum_by (λ (t : Tally). counted t.counts f) out ≡ figure f (verdicts_from accepted s.port s.batch (bytes_of frames) (versions_of out))
+  sums f = sums_are accepted s.port s.batch f frames out (λ k t h.
+      let p = at_place k t h in
+      subst (λ (n : ℕ). AreCountsOf (meanings (after (take t.version accepted)) s.port (batch_of s.batch n frames)) t.counts) p.0 p.4)
+
+  pub of_ordered : (settled : Settled) → settled.versions.items ≡ versions_of out → ((f : Figure) → counted settled.counts f ≡ sum_by (λ (t : Tally). counted t.counts f) out)
+      → HasNoZeros settled.counts.ports → (s.after ≡ true → learnt ≡ length accepted) → IsRun accepted s (bytes_of frames) settled.versions.items settled.counts
+  of_ordered settled versions sums_of no_zeros first =
       let R : List ℕ → Type 0 = λ v. IsRun accepted s (bytes_of frames) v settled.counts in
-      subst R (sym i.versions) (record {
-        many = length-map i.out (λ (t : Tally). t.version) ∙ i.in_order.len ∙ ap (batches_in s.batch) (sym (length-map frames (λ (frame : Bor (List ℕ)). frame.now)));
-        admissible = admissible first;
-        counts_are = record {
-          figures = λ f. i.sums f ∙ sums_are accepted s.port s.batch f frames i.out (λ k t h.
-              let p = at_place k t h in
-              subst (λ (n : ℕ). AreCountsOf (meanings (after (take t.version accepted)) s.port (batch_of s.batch n frames)) t.counts) p.0 p.4);
-          no_zeros = i.no_zeros;
+      subst R (sym versions) (record { many = many; admissible = admissible first; counts_are = record { figures = λ f. sums_of f ∙ sums f; no_zeros = no_zeros } })
+
+  pub ordered_passes : (s.after ≡ true → learnt ≡ length accepted) → SumPasses (λ (t : Tally). t.counts) out → SomeRunPasses accepted s (bytes_of frames)
+  ordered_passes first p = record { versions = versions_of out; many = many; admissible = admissible first; passes = (p.0, subst (λ (n : ℕ). 2 ^ 64 ≤ n) (sums p.0) p.1) }
+
+-- ---- one version for all batches
+
+length-copies : (n version : ℕ) → length (copies n version) ≡ n
+length-copies zero version = refl
+length-copies (suc n) version = ap suc (length-copies n version)
+
+copies_at : (n version k v : ℕ) → slice_get (copies n version) k ≡ Some v → v ≡ version
+copies_at zero version k v h = absurd (let e : ⊥ = cc in e)
+copies_at (suc n) version zero v h = let e : v ≡ version = cc in e
+copies_at (suc n) version (suc k) v h = copies_at n version k v h
+
+all_copies : (P : ℕ → Type 0) (n version : ℕ) → P version → (k d : ℕ) → k < length (copies n version) → P (get_or (copies n version) k d)
+all_copies P zero version p k d lt = absurd (omega (arith, lt))
+all_copies P (suc n) version p zero d lt = p
+all_copies P (suc n) version p (suc k) d lt = all_copies P n version p k d (omega (arith, lt))
+
+module _ (accepted : List Request) (s : RunSettings) (frames : List (Bor (List ℕ))) (learnt : ℕ) (ls : List Lane) (ds : List Done) (numbers : AreNumbered s.lanes learnt ls)
+    (did : AllZip (Did s frames) ls ds) (first : s.after ≡ true → learnt ≡ length accepted) where
+  -- where a lane's batch is full, so are all batches by its version
+  lane_passes : SomeLaneIsFull accepted ds → SomeRunPasses accepted s (bytes_of frames)
+  lane_passes l =
+      let z = zip_get (Did s frames) ls ds l.place l.done did l.at_place in
+      let p = z.2.full l.is_full in
+      let number = numbers l.place z.0 z.1 in
+      let requests = p.passes.requests in
+      let version = length requests in
+      let begins : StartsWith accepted requests = starts_with_one accepted p.held requests (l.began p.held p.held_is) p.passes.is_held in
+      let taken : take version accepted ≡ requests = first_so_many accepted requests begins in
+      let at_most : version ≤ length accepted = longer accepted requests begins in
+      let reached : length (learnt_by z.0) ≤ version = longer requests (learnt_by z.0) p.passes.begins_learnt in
+      let n = batches_in s.batch (length frames) in
+      let f = p.passes.passes.0 in
+      let full : 2 ^ 64 ≤ figure f (meanings (after (take version accepted)) s.port (batch_of s.batch p.batch frames)) =
+      subst (λ (q : List Request). 2 ^ 64 ≤ figure f (meanings (after q) s.port (batch_of s.batch p.batch frames))) (sym taken) p.passes.passes.1 in
+      let more = one_of_all accepted s.port s.batch f version n p.batch frames p.inside in
+      record {
+        versions = copies n version;
+        many = length-copies n version ∙ ap (batches_in s.batch) (sym (length-map frames (λ (frame : Bor (List ℕ)). frame.now)));
+        admissible = record {
+          at_most = all_copies (λ v. v ≤ length accepted) n version at_most;
+          never_fall = λ j k v w le residue hv hw. let a = copies_at n version j v hv in let b = copies_at n version k w hw in omega (arith, a, b);
+          all_at_end = λ is. all_copies (λ v. v ≡ length accepted) n version (let learnt_all = first is in let e : version ≡ length accepted = omega (arith, learnt_all, number.2, reached, at_most) in e);
         };
-      })
+        passes = (f, omega (arith, full, more));
+      }
+
+  pub passes_of : SomeLaneIsFull accepted ds ⊎ AllAreFull accepted ds (batches_in s.batch (length frames)) → SomeRunPasses accepted s (bytes_of frames)
+  passes_of full = ⊎_elim lane_passes (λ (a : AllAreFull accepted ds (batches_in s.batch (length frames))). ordered_passes accepted s frames learnt ls ds numbers did a.out a.ordered first a.passes) full
+
+  pub run_of : (settled : Settled) → IsSettled accepted ds (batches_in s.batch (length frames)) settled → IsRun accepted s (bytes_of frames) settled.versions.items settled.counts
+  run_of settled i = of_ordered accepted s frames learnt ls ds numbers did i.out i.ordered settled i.versions i.sums i.no_zeros first
 
 -- ---- lanes that were new
 

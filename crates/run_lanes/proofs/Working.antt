@@ -10,14 +10,14 @@ use Rattle.mib_state.specs.Entities.{Entities}
 use Rattle.mib_state.specs.After.{after}
 use Rattle.frame_meaning.specs.declared.verdict.Verdict.{Verdict}
 use Rattle.frame_stats.specs.declared.counts.Counts.{Counts}
-use Rattle.frame_stats.specs.Figures.{AreCountsOf}
+use Rattle.frame_stats.specs.Figures.{AreCountsOf, SomePasses, figure}
 use Rattle.frame_batch.specs.Batches.{meanings}
 use Rattle.plan_publish.specs.Requests.{StartsWith, StartsWithEach, version_of}
 use Rattle.plan_publish.specs.Holding.{Holds}
 use Rattle.plan_publish.proofs.Beginnings.{version_grows}
 use Rattle.frame_batch.specs.declared.batch.Tally.{Tally}
 use Rattle.run_settings.specs.declared.settings.RunSettings.{RunSettings}
-use Rattle.run_lanes.specs.Work.{batch_of, IsTally, Forwarded, OfLane, Worked}
+use Rattle.run_lanes.specs.Work.{batch_of, BatchPasses, IsTally, Forwarded, OfLane, Worked}
 
 -- what begins with each list begins with any of them
 pub starts_with_one : (all : List Request) (held : List (List Request)) (one : List Request) → StartsWithEach all held → Contains held one → StartsWith all one
@@ -51,6 +51,20 @@ is_forwarded s frames given before learnt entities version lists batch lane numb
         meant ∙ ap (λ (e : Entities). meanings e s.port given) h.entities_are ∙ ap (λ (l : List (Bor (List ℕ))). meanings (after h.now) s.port l) same in
         subst (λ (x : Tally). AreCountsOf (meanings (after h.now) s.port (batch_of s.batch batch frames)) x.counts) (sym is) (subst (λ (l : List Verdict). AreCountsOf l counts) all exact);
   };
+}
+
+-- a batch whose counts are full, by a lane that is in
+pub is_passed : (s : RunSettings) (frames given : List (Bor (List ℕ))) (before : List (List Request)) (learnt : List Request) (entities : Entities) (version : ℕ) (lists : List (List Request)) (batch : ℕ)
+    → Holds before learnt entities version lists → given ≡ batch_of s.batch batch frames → SomePasses (meanings entities s.port given) → BatchPasses s frames lists learnt batch
+is_passed s frames given before learnt entities version lists batch h same p = record {
+  requests = h.now;
+  is_held = subst (λ (l : List (List Request)). Contains l h.now) (sym h.held) (0, omega arith, refl);
+  begins_learnt = h.begins_learnt;
+  passes = (
+    p.0,
+    subst (λ (n : ℕ). 2 ^ 64 ≤ n)
+        (ap (λ (e : Entities). figure p.0 (meanings e s.port given)) h.entities_are ∙ ap (λ (l : List (Bor (List ℕ))). figure p.0 (meanings (after h.now) s.port l)) same) p.1,
+  );
 }
 
 module _ (s : RunSettings) (frames : List (Bor (List ℕ))) (learnt : List Request) (number : ℕ) where

@@ -1,4 +1,4 @@
--- What a run gives.
+-- What a run gives, and when it gives nothing because a count is full.
 use Rattle.std.specs.Prelude.{◌≡◌, ◌≤◌, ℕ, ◌%◌, Bool, true, List, [], ◌∷◌, ◌++◌, length, map, take, drop, Some, slice_get, All}
 use Rattle.std.specs.Int.{div_ceil}
 use Rattle.omci_msg.specs.declared.Request.{Request}
@@ -6,7 +6,7 @@ use Rattle.mib_state.specs.After.{after}
 use Rattle.frame_meaning.specs.declared.verdict.Verdict.{Verdict}
 use Rattle.frame_meaning.specs.Meaning.{meaning}
 use Rattle.frame_stats.specs.declared.counts.Counts.{Counts}
-use Rattle.frame_stats.specs.Figures.{AreCountsOf}
+use Rattle.frame_stats.specs.Figures.{AreCountsOf, SomePasses}
 use Rattle.run_settings.specs.declared.settings.RunSettings.{RunSettings}
 
 -- how many batches of a size so many frames make: the last may be shorter
@@ -32,3 +32,10 @@ pub record IsRun (requests : List Request) (s : RunSettings) (frames : List (Lis
   pub many : length versions ≡ batches_in s.batch (length frames)
   pub admissible : AreAdmissible (length requests) s.lanes s.after versions
   pub counts_are : AreCountsOf (verdicts_from requests s.port s.batch frames versions) counts
+
+-- with these requests accepted, the batches of these frames may have versions by which a sum of all verdicts passes 64 bits
+pub record SomeRunPasses (requests : List Request) (s : RunSettings) (frames : List (List ℕ)) : Type 0 where
+  pub versions : List ℕ
+  pub many : length versions ≡ batches_in s.batch (length frames)
+  pub admissible : AreAdmissible (length requests) s.lanes s.after versions
+  pub passes : SomePasses (verdicts_from requests s.port s.batch frames versions)

@@ -1,5 +1,5 @@
 -- What is known of the lanes' tallies once each lane has shown what it held.
-use Rattle.std.specs.Prelude.{◌≡◌, ◌<◌, ℕ, ◌-◌, ◌^◌, List, map, Some, Ok, IfSome, slice_get, length}
+use Rattle.std.specs.Prelude.{◌≡◌, ◌<◌, ℕ, ◌-◌, ◌^◌, List, map, Some, Ok, IfSome, IsErrOf, slice_get, length}
 use Rattle.std.specs.List.{Contains, sum_by}
 use Rattle.std.specs.declared.vec.Vec.{Vec}
 use Rattle.std.specs.declared.alloc.Global.{Global}
@@ -9,8 +9,9 @@ use Rattle.plan_publish.specs.History.{Home}
 use Rattle.plan_publish.specs.declared.lane.Lane.{Lane}
 use Rattle.plan_publish.specs.Lane.{number_of, held_by, learnt_by, home_of, HeldBeginnings, IsNew}
 use Rattle.frame_batch.specs.declared.batch.Tally.{Tally}
-use Rattle.frame_batch.specs.Gathering.{AreInOrder}
+use Rattle.frame_batch.specs.Gathering.{AreInOrder, SumPasses}
 use Rattle.frame_stats.specs.Figures.{Figure, counted, HasNoZeros}
+use Rattle.run_lanes.specs.declared.fault.LaneFault.TheVariants.{CountFull}
 use Rattle.run_lanes.specs.declared.settling.Done.{Done}
 use Rattle.run_lanes.specs.declared.settling.Settled.{Settled}
 
@@ -39,14 +40,32 @@ pub record HasLearnt (requests : List Request) (before now : Lane) : Type 0 wher
   pub home_is : home_of now ≡ home_of before
   pub learnt : StartsWith (learnt_by now) requests
 
--- the tallies of all batches in order: their versions, and the sums of their counts
-pub record IsSettled (accepted : List Request) (all_done : List Done) (count : ℕ) (settled : Settled) : Type 0 where
+-- these are the tallies of all batches, in order
+pub record AreOrdered (accepted : List Request) (all_done : List Done) (count : ℕ) (out : List Tally) : Type 0 where
   pub all : List Tally
-  pub out : List Tally
   pub collected : Collected accepted all_done all
   pub in_order : AreInOrder (λ (t : Tally). t.batch) count all out
+  pub small : length accepted < 2 ^ 64 - 1
+
+-- the tallies of all batches in order: their versions, and the sums of their counts
+pub record IsSettled (accepted : List Request) (all_done : List Done) (count : ℕ) (settled : Settled) : Type 0 where
+  pub out : List Tally
+  pub ordered : AreOrdered accepted all_done count out
   pub versions : settled.versions.items ≡ map (λ (t : Tally). t.version) out
   pub sums : (f : Figure) → counted settled.counts f ≡ sum_by (λ t. counted t.counts f) out
   pub no_zeros : HasNoZeros settled.counts.ports
   pub accepted_is : settled.accepted ≡ length accepted
-  pub small : length accepted < 2 ^ 64 - 1
+
+-- a lane that held beginnings of these requests was stopped by a full count
+pub record SomeLaneIsFull (accepted : List Request) (all_done : List Done) : Type 0 where
+  pub place : ℕ
+  pub done : Done
+  pub at_place : slice_get all_done place ≡ Some done
+  pub is_full : IsErrOf done.tallies CountFull
+  pub began : HeldBeginnings accepted done.lane
+
+-- a sum of the counts of all batches passes 64 bits
+pub record AllAreFull (accepted : List Request) (all_done : List Done) (count : ℕ) : Type 0 where
+  pub out : List Tally
+  pub ordered : AreOrdered accepted all_done count out
+  pub passes : SumPasses (λ (t : Tally). t.counts) out

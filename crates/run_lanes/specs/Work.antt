@@ -1,5 +1,5 @@
 -- What lanes held, and what they made of frames.
-use Rattle.std.specs.Prelude.{◌≡◌, ◌+◌, ◌*◌, ◌≤◌, ℕ, List, ◌∷◌, Some, IfOk, take, drop, slice_get}
+use Rattle.std.specs.Prelude.{◌≡◌, ◌+◌, ◌*◌, ◌<◌, ◌≤◌, ℕ, List, ◌∷◌, Some, IfOk, IsErrOf, length, take, drop, slice_get}
 use Rattle.std.specs.List.{Contains}
 use Rattle.std.specs.Borrow.{Bor}
 use Rattle.omci_msg.specs.declared.Request.{Request}
@@ -7,11 +7,13 @@ use Rattle.mib_state.specs.After.{after}
 use Rattle.plan_publish.specs.Requests.{StartsWith, StartsWithEach, version_of}
 use Rattle.plan_publish.specs.declared.lane.Lane.{Lane}
 use Rattle.plan_publish.specs.Lane.{number_of, held_by, learnt_by, IsSameLane}
-use Rattle.frame_stats.specs.Figures.{AreCountsOf}
+use Rattle.frame_stats.specs.Figures.{AreCountsOf, SomePasses}
 use Rattle.frame_batch.specs.declared.batch.Tally.{Tally}
 use Rattle.frame_batch.specs.Batches.{meanings}
 use Rattle.run_settings.specs.declared.settings.RunSettings.{RunSettings}
+use Rattle.run_lanes.specs.declared.fault.LaneFault.TheVariants.{CountFull}
 use Rattle.run_lanes.specs.declared.settling.Done.{Done}
+use Rattle.run_lanes.specs.Run.{batches_in}
 
 -- the lane is out
 abbrev pub IsOut : Lane → Type 0
@@ -35,6 +37,13 @@ pub record Forwarded (s : RunSettings) (frames : List (Bor (List ℕ))) (before 
   pub number : t.batch ≡ batch
   pub tally : IsTally s.port (batch_of s.batch batch frames) requests t
 
+-- a list was held that begins with what was learnt, and a sum of what the frames of a batch mean after it passes 64 bits
+pub record BatchPasses (s : RunSettings) (frames : List (Bor (List ℕ))) (held : List (List Request)) (learnt : List Request) (batch : ℕ) : Type 0 where
+  pub requests : List Request
+  pub is_held : Contains held requests
+  pub begins_learnt : StartsWith requests learnt
+  pub passes : SomePasses (meanings (after requests) s.port (batch_of s.batch batch frames))
+
 -- tally i of a lane is of a list that it held, and of its i-th batch
 pub record OfLane (s : RunSettings) (frames : List (Bor (List ℕ))) (held : List (List Request)) (learnt : List Request) (number i : ℕ) (t : Tally) : Type 0 where
   pub requests : List Request
@@ -48,7 +57,16 @@ pub record Worked (s : RunSettings) (frames : List (Bor (List ℕ))) (held : Lis
   pub each : (i : ℕ) (t : Tally) → slice_get tallies i ≡ Some t → OfLane s frames held learnt number i t
   pub never_fall : (i j : ℕ) (q t : Tally) → i ≤ j → slice_get tallies i ≡ Some q → slice_get tallies j ≡ Some t → q.version ≤ t.version
 
--- the lane is back, and has worked
+-- so it is with some batch, of all lists that the lane held
+pub record SomeBatchPasses (s : RunSettings) (frames : List (Bor (List ℕ))) (learnt : List Request) (lane : Lane) : Type 0 where
+  pub held : List (List Request)
+  pub held_is : held_by lane ≡ Some held
+  pub batch : ℕ
+  pub inside : batch < batches_in s.batch (length frames)
+  pub passes : BatchPasses s frames held learnt batch
+
+-- the lane is back, and has worked; or a count was full
 pub record Did (s : RunSettings) (frames : List (Bor (List ℕ))) (lane : Lane) (d : Done) : Type 0 where
   pub same : IsSameLane lane d.lane
   pub worked : IfOk d.tallies (λ v. (held : List (List Request)) × (held_by d.lane ≡ Some held) × Worked s frames held (learnt_by lane) (number_of lane) v.items)
+  pub full : IsErrOf d.tallies CountFull → SomeBatchPasses s frames (learnt_by lane) d.lane

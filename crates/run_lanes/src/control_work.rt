@@ -1,5 +1,5 @@
 //! What the control does.
-ghost use Rattle.std.specs.Prelude.{◌≡◌, ◌∷◌, [], OnOk};
+ghost use Rattle.std.specs.Prelude.{◌≡◌, ◌∷◌, [], OnOk, IsErrOf};
 ghost use Rattle.plan_publish.specs.Control.{accepted_of};
 ghost use Rattle.run_lanes.specs.Control.{Applied};
 
@@ -19,7 +19,8 @@ pub(crate) fn apply_requests<G: Gate, R: Wait>(
     job: &Job<'_, '_>,
     gate: &G,
 ) -> Result<(), LaneFault>
-    ensures { OnOk result (Applied control.old control.new requests.now) }
+    ensures applied { OnOk result (Applied control.old control.new requests.now) }
+    ensures full { ¬ (IsErrOf result LaneFault.CountFull) }
 {
     for request in requests {
         apply_request(rt, control, request, job, gate)?;
@@ -35,7 +36,8 @@ fn apply_request<G: Gate, R: Wait>(
     job: &Job<'_, '_>,
     gate: &G,
 ) -> Result<(), LaneFault>
-    ensures { OnOk result (Applied control.old control.new (request.now ∷ [])) }
+    ensures applied { OnOk result (Applied control.old control.new (request.now ∷ [])) }
+    ensures full { ¬ (IsErrOf result LaneFault.CountFull) }
 {
     let Ok(carried) = control.carry_out(request) else {
         return Err(LaneFault::NoMemory);
@@ -53,8 +55,9 @@ fn publish_one<G: Gate, R: Wait>(
     job: &Job<'_, '_>,
     gate: &G,
 ) -> Result<(), LaneFault>
-    ensures { control.new
+    ensures published { control.new
         ≡ record control.old { published = accepted_of control.old; pending = [] } }
+    ensures full { ¬ (IsErrOf result LaneFault.CountFull) }
 {
     let told = control.publish(rt);
     let version = (told.version() & 0xffff_ffff) as u32;

@@ -1,6 +1,7 @@
 //! Why a run gives nothing.
+ghost use Rattle.std.specs.Prelude.{◌≡◌, ◌≢◌};
+
 use frame_batch::{BatchFault, GatherFault};
-use frame_stats::StatFault;
 use plan_publish::OpenFault;
 use thiserror::Error;
 
@@ -19,7 +20,9 @@ pub enum LaneFault {
 }
 
 /// Why there are no lanes.
-pub(crate) fn opening(fault: OpenFault) -> LaneFault {
+pub(crate) fn opening(fault: OpenFault) -> LaneFault
+    ensures { result ≢ LaneFault.CountFull }
+{
     match fault {
         OpenFault::NoMemory => LaneFault::NoMemory,
         OpenFault::Lanes(_) | OpenFault::Refused => LaneFault::Refused,
@@ -27,7 +30,9 @@ pub(crate) fn opening(fault: OpenFault) -> LaneFault {
 }
 
 /// Why a batch isn't forwarded.
-pub(crate) fn forwarding(fault: BatchFault) -> LaneFault {
+pub(crate) fn forwarding(fault: BatchFault) -> LaneFault
+    ensures { result ≡ LaneFault.CountFull → fault ≡ BatchFault.CountFull }
+{
     match fault {
         BatchFault::NoMemory => LaneFault::NoMemory,
         BatchFault::CountFull => LaneFault::CountFull,
@@ -35,17 +40,10 @@ pub(crate) fn forwarding(fault: BatchFault) -> LaneFault {
     }
 }
 
-/// Why counts aren't noted.
-pub(crate) fn noting(fault: StatFault) -> LaneFault {
-    match fault {
-        StatFault::NoMemory => LaneFault::NoMemory,
-        StatFault::CountFull => LaneFault::CountFull,
-        StatFault::Lane => LaneFault::Refused,
-    }
-}
-
 /// Why tallies aren't gathered.
-pub(crate) fn gathering(fault: GatherFault) -> LaneFault {
+pub(crate) fn gathering(fault: GatherFault) -> LaneFault
+    ensures { result ≡ LaneFault.CountFull → fault ≡ GatherFault.CountFull }
+{
     match fault {
         GatherFault::NoMemory => LaneFault::NoMemory,
         GatherFault::CountFull => LaneFault::CountFull,

@@ -1,5 +1,7 @@
 //! What is to be done.
+ghost use Rattle.std.specs.Prelude.{◌≡◌, length};
 ghost use Rattle.run_settings.specs.Settings.{CanRun};
+ghost use Rattle.run_lanes.specs.Run.{batches_in};
 
 use frame_stats::StatBook;
 use run_settings::RunSettings;
@@ -18,4 +20,5 @@ pub(crate) struct Job<'f, 'a> {
     pub(crate) frames: &'f [&'a [u8]],
     pub(crate) book: &'f Mutex<StatBook>,
     ghost can_run: { CanRun settings },
+    ghost counted: { count ≡ batches_in settings.batch (length frames.now) },
 }

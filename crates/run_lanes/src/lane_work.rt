@@ -1,13 +1,13 @@
 //! What a lane does.
-ghost use Rattle.std.specs.Prelude.{◌≡◌, ◌≤◌, Some, IfOk};
+ghost use Rattle.std.specs.Prelude.{◌≡◌, ◌≤◌, Some, IfOk, IsErrOf};
 ghost use Rattle.plan_publish.specs.Lane.{number_of, held_by, learnt_by, IsSameLane};
 ghost use Rattle.run_settings.specs.Settings.{batch_limit};
-ghost use Rattle.run_lanes.specs.Work.{batch_of, Forwarded, IsOut, Worked};
+ghost use Rattle.run_lanes.specs.Work.{batch_of, BatchPasses, Forwarded, IsOut, SomeBatchPasses, Worked};
 
-use crate::fault::{LaneFault, forwarding, noting};
+use crate::fault::{LaneFault, forwarding};
 use crate::job::Job;
 use frame_batch::{Batch, Gate, Tally, run_batch};
-use frame_stats::StatBook;
+use frame_stats::{StatBook, StatFault};
 use plan_publish::Lane;
 use std::sync::{Mutex, Wait};
 
@@ -23,6 +23,8 @@ pub(crate) fn lane_batches<'a, G: Gate, R: Wait>(
     ensures worked { IfOk result (λ tallies. (held : _) × (held_by lane.new ≡ Some held)
         × Worked job.now.settings job.now.frames.now held (learnt_by lane.old)
         (number_of lane.old) tallies.items) }
+    ensures full { IsErrOf result LaneFault.CountFull
+        → SomeBatchPasses job.now.settings job.now.frames.now (learnt_by lane.old) lane.new }
 {
     let mut tallies = Vec::new(job.alloc);
     let mut k = u32::from(lane.number());
@@ -49,6 +51,9 @@ fn forward_batch<'a, G: Gate>(
         × (held_by lane.new ≡ Some now)
         × Forwarded job.now.settings job.now.frames.now before (learnt_by lane.old) now batch
         tally) }
+    ensures full { IsErrOf result LaneFault.CountFull
+        → (now : _) × (held_by lane.new ≡ Some now)
+        × BatchPasses job.now.settings job.now.frames.now now (learnt_by lane.old) batch }
 {
     let frames = frames_of(job.frames, job.settings.batch, batch);
     if !gate.pass(lane.number(), batch, job.turns) {
@@ -85,10 +90,14 @@ fn frames_of<'f, 'a>(frames: &'f [&'a [u8]], size: u32, batch: u32) -> &'f [&'a 
     &frames[from..to]
 }
 
-/// Adds a batch's counts to the book.
-fn note<R: Wait>(rt: &R, book: &Mutex<StatBook>, tally: &Tally) -> Result<(), LaneFault> {
+/// Adds a batch's counts to the book. A full book is passed over: its sums are those of some batches, so a sum of all batches passes
+/// 64 bits too, which is told once the lanes are back.
+fn note<R: Wait>(rt: &R, book: &Mutex<StatBook>, tally: &Tally) -> Result<(), LaneFault>
+    ensures { ¬ (IsErrOf result LaneFault.CountFull) }
+{
     match book.lock(rt).add(tally.lane, &tally.counts) {
-        Ok(()) => Ok(()),
-        Err(fault) => Err(noting(fault)),
+        Ok(()) | Err(StatFault::CountFull) => Ok(()),
+        Err(StatFault::NoMemory) => Err(LaneFault::NoMemory),
+        Err(StatFault::Lane) => Err(LaneFault::Refused),
     }
 }

@@ -1,17 +1,17 @@
 //! The whole run.
-ghost use Rattle.std.specs.Prelude.{◌≡◌, ◌≤◌, ◌<◌, ◌^◌, IfOk, All, false, length, map, true};
+ghost use Rattle.std.specs.Prelude.{◌≡◌, ◌≤◌, ◌<◌, ◌^◌, IfOk, IsErrOf, All, false, length, map, true};
 ghost use Rattle.std.specs.List.{AllZip};
 ghost use Rattle.mib_state.specs.After.{accepted};
 ghost use Rattle.plan_publish.specs.Lane.{home_of};
 ghost use Rattle.plan_publish.specs.Told.{told_home, told_list};
 ghost use Rattle.run_settings.specs.Settings.{CanRun};
 ghost use Rattle.run_lanes.specs.Control.{IsNewControl};
-ghost use Rattle.run_lanes.specs.Outcome.{IsRunOf};
-ghost use Rattle.run_lanes.specs.Run.{IsRun, batches_in};
+ghost use Rattle.run_lanes.specs.Outcome.{IsRunOf, SomeOutcomePasses};
+ghost use Rattle.run_lanes.specs.Run.{IsRun, SomeRunPasses};
 ghost use Rattle.run_lanes.specs.Settling.{AreNew, HasLearnt};
 
 use crate::control_work::apply_requests;
-use crate::fault::{LaneFault, noting, opening};
+use crate::fault::{LaneFault, opening};
 use crate::job::Job;
 use crate::settling::{Settled, settle};
 use crate::threads::{lanes_work, work_at_once};
@@ -46,11 +46,12 @@ fn run_at_once<G: Gate + Sync, R: Threads + Wait + Sync>(
     job: &Job<'_, '_>,
     gate: &G,
 ) -> Result<Settled, LaneFault>
-    requires job { (job.now.settings.after ≡ false)
-        × (job.now.count ≡ batches_in job.now.settings.batch (length job.now.frames.now)) }
+    requires job { job.now.settings.after ≡ false }
     requires control { IsNewControl control.old }
     requires lanes { AreNew job.now.settings.lanes control.old.home lanes.items }
-    ensures { IfOk result (IsRunOf requests.now job.now) }
+    ensures run { IfOk result (IsRunOf requests.now job.now) }
+    ensures full { IsErrOf result LaneFault.CountFull
+        → SomeOutcomePasses requests.now job.now }
 {
     let (done, applied) = work_at_once(rt, control, lanes, requests, job, gate);
     applied?;
@@ -70,10 +71,11 @@ fn run_after<G: Gate + Sync, R: Threads + Wait + Sync>(
     job: &Job<'_, '_>,
     gate: &G,
 ) -> Result<Settled, LaneFault>
-    requires job { job.now.count ≡ batches_in job.now.settings.batch (length job.now.frames.now) }
     requires control { IsNewControl control.old }
     requires lanes { AreNew job.now.settings.lanes control.old.home lanes.items }
-    ensures { IfOk result (IsRunOf requests.now job.now) }
+    ensures run { IfOk result (IsRunOf requests.now job.now) }
+    ensures full { IsErrOf result LaneFault.CountFull
+        → SomeOutcomePasses requests.now job.now }
 {
     let mut lanes = lanes;
     apply_requests(rt, control, requests, job, gate)?;
@@ -103,8 +105,9 @@ fn run_job<G: Gate + Sync, R: Threads + Wait + Sync>(
     job: &Job<'_, '_>,
     gate: &G,
 ) -> Result<Settled, LaneFault>
-    requires { job.now.count ≡ batches_in job.now.settings.batch (length job.now.frames.now) }
-    ensures { IfOk result (IsRunOf requests.now job.now) }
+    ensures run { IfOk result (IsRunOf requests.now job.now) }
+    ensures full { IsErrOf result LaneFault.CountFull
+        → SomeOutcomePasses requests.now job.now }
 {
     let (mut control, lanes) = match open(rt, job.alloc, job.settings.lanes) {
         Ok(opened) => opened,
@@ -139,7 +142,8 @@ pub struct RunInput<'f, 'a> {
 /// version as the batch. It may look up to `turns` times for what it waits for.
 ///
 /// [`LaneFault::NoMemory`] where there is no memory, [`LaneFault::CountFull`] where a count passes 64 bits, and
-/// [`LaneFault::Refused`] where the gate answers false, or a lane can't have, or at the end doesn't hold, what it should.
+/// [`LaneFault::Refused`] where the gate answers false, or a lane can't have, or at the end doesn't hold, what it should. A count
+/// that passes is one of all verdicts, by versions that the batches may have.
 pub fn run_lanes<G: Gate + Sync, R: Threads + Wait + Sync>(
     rt: &R,
     alloc: Global,
@@ -153,12 +157,15 @@ pub fn run_lanes<G: Gate + Sync, R: Threads + Wait + Sync>(
         ≡ length (accepted input.now.requests.now)) }
     ensures run { IfOk result (λ ran. IsRun (accepted input.now.requests.now) input.now.settings.now
         (map (λ frame. frame.now) input.now.frames.now) ran.versions.items ran.counts) }
+    ensures full { IsErrOf result LaneFault.CountFull
+        → SomeRunPasses (accepted input.now.requests.now) input.now.settings.now
+        (map (λ frame. frame.now) input.now.frames.now) }
 {
     let settings = input.settings;
-    let book = match StatBook::new(alloc, settings.lanes) {
-        Ok(book) => Mutex::new(book),
-        Err(fault) => return Err(noting(fault)),
+    let Ok(book) = StatBook::new(alloc, settings.lanes) else {
+        return Err(LaneFault::NoMemory);
     };
+    let book = Mutex::new(book);
     let job = Job {
         alloc,
         settings: *settings,

@@ -1,8 +1,8 @@
 //! What is known once the lanes are back.
-ghost use Rattle.std.specs.Prelude.{◌≡◌, ◌++◌, Ok, IfOk, All, map};
+ghost use Rattle.std.specs.Prelude.{◌≡◌, ◌++◌, ◌⊎◌, Ok, IfOk, IsErrOf, All, map};
 ghost use Rattle.plan_publish.specs.Lane.{home_of, HeldBeginnings};
 ghost use Rattle.plan_publish.specs.Told.{told_home, told_list};
-ghost use Rattle.run_lanes.specs.Settling.{Collected, IsSettled};
+ghost use Rattle.run_lanes.specs.Settling.{AllAreFull, Collected, IsSettled, SomeLaneIsFull};
 
 use crate::fault::{LaneFault, gathering};
 use frame_batch::{Tally, gather_tallies};
@@ -38,8 +38,12 @@ pub(crate) fn settle(
     count: u32,
 ) -> Result<Settled, LaneFault>
     requires { All (λ d. told_home told.now ≡ home_of d.lane) all_done.items }
-    ensures { IfOk result (IsSettled (told_list told.now) all_done.items count) }
+    ensures settled { IfOk result (IsSettled (told_list told.now) all_done.items count) }
+    ensures full { IsErrOf result LaneFault.CountFull
+        → SomeLaneIsFull (told_list told.now) all_done.items
+        ⊎ AllAreFull (told_list told.now) all_done.items count }
 {
+    let accepted = told.version();
     let tallies = collect(alloc, all_done, told)?;
     let gathered = match gather_tallies(alloc, tallies, count) {
         Ok(gathered) => gathered,
@@ -47,7 +51,7 @@ pub(crate) fn settle(
     };
     let versions = versions_of(alloc, &gathered.tallies)?;
     Ok(Settled {
-        accepted: told.version(),
+        accepted,
         versions,
         counts: gathered.counts,
     })
@@ -55,7 +59,9 @@ pub(crate) fn settle(
 
 /// The versions of batches.
 fn versions_of(alloc: Global, tallies: &[Tally]) -> Result<Vec<u64>, LaneFault>
-    ensures { IfOk result (λ versions. versions.items ≡ map (λ t. t.version) tallies.now) }
+    ensures versions { IfOk result (λ versions.
+        versions.items ≡ map (λ t. t.version) tallies.now) }
+    ensures full { ¬ (IsErrOf result LaneFault.CountFull) }
 {
     let Ok(mut versions) = Vec::with_capacity(alloc, tallies.len()) else {
         return Err(LaneFault::NoMemory);
@@ -69,8 +75,11 @@ fn versions_of(alloc: Global, tallies: &[Tally]) -> Result<Vec<u64>, LaneFault>
 /// The tallies of a lane, which then holds what was told.
 fn confirmed(done: Done, told: &Told) -> Result<Vec<Tally>, LaneFault>
     requires { told_home told.now ≡ home_of done.lane }
-    ensures { IfOk result (λ tallies. (done.tallies ≡ Ok tallies)
+    ensures confirmed { IfOk result (λ tallies. (done.tallies ≡ Ok tallies)
         × HeldBeginnings (told_list told.now) done.lane) }
+    ensures full { IsErrOf result LaneFault.CountFull
+        → IsErrOf done.tallies LaneFault.CountFull
+        × HeldBeginnings (told_list told.now) done.lane }
 {
     let Done { lane, tallies } = done;
     let mut lane = lane;
@@ -82,7 +91,8 @@ fn confirmed(done: Done, told: &Told) -> Result<Vec<Tally>, LaneFault>
 
 /// The tallies of one lane more.
 fn add_tallies(all: Vec<Tally>, more: Vec<Tally>) -> Result<Vec<Tally>, LaneFault>
-    ensures { IfOk result (λ both. both.items ≡ all.items ++ more.items) }
+    ensures added { IfOk result (λ both. both.items ≡ all.items ++ more.items) }
+    ensures full { ¬ (IsErrOf result LaneFault.CountFull) }
 {
     let mut all = all;
     let mut more = more;
@@ -99,7 +109,10 @@ pub(crate) fn collect(
     told: &Told,
 ) -> Result<Vec<Tally>, LaneFault>
     requires { All (λ d. told_home told.now ≡ home_of d.lane) all_done.items }
-    ensures { IfOk result (λ all. Collected (told_list told.now) all_done.items all.items) }
+    ensures collected { IfOk result (λ all.
+        Collected (told_list told.now) all_done.items all.items) }
+    ensures full { IsErrOf result LaneFault.CountFull
+        → SomeLaneIsFull (told_list told.now) all_done.items }
 {
     let mut all = Vec::new(alloc);
     for done in all_done {

@@ -1,5 +1,5 @@
 //! The lanes on threads of their own, and the control beside them.
-ghost use Rattle.std.specs.Prelude.{◌≡◌, IfOk, OnOk, All};
+ghost use Rattle.std.specs.Prelude.{◌≡◌, IfOk, OnOk, IsErrOf, All};
 ghost use Rattle.std.specs.List.{AllZip};
 ghost use Rattle.std.specs.Option.{ForSome};
 ghost use Rattle.run_lanes.specs.Control.{Applied};
@@ -78,6 +78,7 @@ pub(crate) fn work_at_once<G: Gate + Sync, R: Threads + Wait + Sync>(
     ensures done { IfOk result.0 (λ all.
         AllZip (Did job.now.settings job.now.frames.now) lanes.items all.items) }
     ensures applied { OnOk result.1 (Applied control.old control.new requests.now) }
+    ensures full { ¬ (IsErrOf result.1 LaneFault.CountFull) }
 {
     let mut waiting = Some(lanes);
     join_mut(
@@ -90,7 +91,9 @@ pub(crate) fn work_at_once<G: Gate + Sync, R: Threads + Wait + Sync>(
                 all.items)) }
         { waiting_work(rt, &mut waiting, job, gate) },
         &mut || -> Result<(), LaneFault>
-            ensures { OnOk result (Applied control.entry.now control.exit.now requests.entry.now) }
+            ensures applied { OnOk result
+                (Applied control.entry.now control.exit.now requests.entry.now) }
+            ensures full { ¬ (IsErrOf result LaneFault.CountFull) }
         { apply_requests(rt, control, requests, job, gate) },
     )
 }

@@ -16,7 +16,7 @@ nothing trace file s held (BadTrace n) why = (why, Keeps-refl held)
 nothing trace file s held (Capture fault) why = (why, Keeps-refl held)
 nothing trace file s held NoMemory why = (why, Keeps-refl held)
 nothing trace file s held Refused why = (why, Keeps-refl held)
-nothing trace file s held CountFull why = (why, Keeps-refl held)
+nothing trace file s held CountFull why = (why.0, why.1, Keeps-refl held)
 nothing trace file s held Write why = absurd why
 
 pub returns-in-Err : goal.returns-in-Err

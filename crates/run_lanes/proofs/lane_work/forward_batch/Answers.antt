@@ -1,7 +1,9 @@
-use Rattle.std.proofs.Common.{rules}
+use Rattle.std.proofs.Common.{◌≡◌, ap, rules}
+use Rattle.std.specs.Prelude.{Err}
 use Rattle.plan_publish.specs.Held.{held_entities, held_lists, held_version}
 use Rattle.plan_publish.specs.Lane.{learnt_by}
-use Rattle.run_lanes.proofs.Working.{is_forwarded}
+use Rattle.run_lanes.specs.declared.fault.LaneFault.TheVariants.{CountFull}
+use Rattle.run_lanes.proofs.Working.{is_forwarded, is_passed}
 use Rattle.run_lanes.proofs.lane_work.forward_batch.Goals as goal
 
 pub returns-in-Ok-clause-forwarded : goal.returns-in-Ok-clause-forwarded
@@ -16,4 +18,16 @@ returns-in-Ok-clause-forwarded g c =
       search rules,
       is_forwarded c.args.job.now.settings c.args.job.now.frames.now c.frames_of-frames.result.now h.0 (learnt_by c.args.lane.now) (held_entities held) (held_version held) (held_lists held) c.args.batch
           report.lane report.batch report.version report.verdicts.items report.counts c.tally.result h.2 c.frames_of-frames.ensures done.number done.version done.verdicts report.exact c.tally.ensures,
+    )
+
+pub returns-in-Err-clause-full : goal.returns-in-Err-clause-full
+returns-in-Err-clause-full g c is =
+    let h = c.in-Some.ensures.holds in
+    let held = c.in-Some.held in
+    let same : c.forwarding.result ≡ CountFull = cc in
+    let passes = c.in-Err.ensures.full (ap Err (c.forwarding.ensures same)) in (
+      held_lists held,
+      search rules,
+      is_passed c.args.job.now.settings c.args.job.now.frames.now c.frames_of-frames.result.now h.0 (learnt_by c.args.lane.now) (held_entities held) (held_version held) (held_lists held) c.args.batch h.2
+          c.frames_of-frames.ensures passes,
     )

@@ -1,7 +1,6 @@
-use Rattle.std.proofs.Common.{◌≡◌, ◌∙◌, List, subst, sym, true}
+use Rattle.std.proofs.Common.{◌≡◌, ◌∙◌, sym, true}
 use Rattle.std.specs.Prelude.{length}
 use mathlib.Core.Bool.{false≢true}
-use Rattle.omci_msg.specs.declared.Request.{Request}
 use Rattle.mib_state.specs.After.{accepted}
 use Rattle.plan_publish.specs.Told.{told_list}
 use Rattle.std.specs.List.{AllZip}
@@ -9,14 +8,10 @@ use Rattle.std.specs.declared.vec.Vec.{Vec}
 use Rattle.std.specs.declared.alloc.Global.{Global}
 use Rattle.run_lanes.specs.Work.{Did}
 use Rattle.run_lanes.specs.declared.settling.Done.{Done}
-use Rattle.run_lanes.specs.declared.settling.Settled.{Settled}
 use Rattle.run_lanes.specs.Control.{Applied}
-use Rattle.run_lanes.specs.Outcome.{IsRunOf}
-use Rattle.run_lanes.specs.Run.{batches_in}
-use Rattle.run_lanes.specs.Settling.{IsSettled}
 use Rattle.run_lanes.proofs.Applying.{applied_new}
-use Rattle.run_lanes.proofs.Running.{of_ok, on_ok, new_home, new_numbers, done_home, run_of}
-use Rattle.run_lanes.proofs.Zips.{ok_then}
+use Rattle.run_lanes.proofs.Running.{of_ok, on_ok, new_home, new_numbers, done_home}
+use Rattle.run_lanes.proofs.Outcomes.{run_given, passes_given}
 use Rattle.run_lanes.proofs.run.run_at_once.Goals as goal
 
 pub settle-requires : goal.settle-requires
@@ -31,21 +26,20 @@ settle-requires g c =
 
 pub returns : goal.returns
 returns g c =
-    let s = c.args.job.now.settings in
-    let frames = c.args.job.now.frames.now in
+    let job = c.args.job.now in
+    let s = job.settings in
+    let frames = job.frames.now in
     let lanes = c.args.lanes.items in
     let ds = c.in-Ok.done.items in
     let home = c.args.control.now.home in
     let did = of_ok c.work_at_once-done.result.0 c.in-Ok.done (λ (v : Vec Done Global). AllZip (Did s frames) c.args.lanes.items v.items) c.in-Ok.is c.work_at_once-done.ensures.done in
     let asked = c.args.requests.now in
     let applied = on_ok c.work_at_once-done.result.1 c.in_ok-applied.field-0 (Applied c.args.control.now c.work_at_once-done.new.control asked) c.in_ok-applied.was c.work_at_once-done.ensures.applied in
-    let all : told_list c.publish-told.result ≡ accepted asked = c.publish-told.ensures.told ∙ applied_new c.args.control.now c.work_at_once-done.new.control asked c.requires.control applied in
-    let P : Settled → Type 0 = λ settled. IsSettled (told_list c.publish-told.result) ds c.args.job.now.count settled in
-    ok_then c.settle.result P (IsRunOf asked c.args.job.now) c.settle.ensures (λ settled i.
-    let whole : IsSettled (accepted asked) ds (batches_in s.batch (length frames)) settled =
-    subst (λ (l : List Request). IsSettled l ds (batches_in s.batch (length frames)) settled) all (subst (λ n. IsSettled (told_list c.publish-told.result) ds n settled) c.requires.job.1 i) in
+    let told = told_list c.publish-told.result in
+    let all : told ≡ accepted asked = c.publish-told.ensures.told ∙ applied_new c.args.control.now c.work_at_once-done.new.control asked c.requires.control applied in
+    let numbers = new_numbers lanes s.lanes home c.requires.lanes in
+    let never : s.after ≡ true → 0 ≡ length (accepted asked) = λ first. absurd (false≢true (sym c.requires.job ∙ first)) in
     record {
-      accepted_is = whole.accepted_is;
-      run = run_of (accepted asked) s frames 0 lanes ds (new_numbers lanes s.lanes home c.requires.lanes) did settled whole
-          (λ (first : s.after ≡ true). absurd (false≢true (sym c.requires.job.0 ∙ first)));
-    })
+      run = run_given told asked job 0 lanes ds numbers did all never c.settle.result c.settle.ensures.settled;
+      full = λ is. passes_given told asked job 0 lanes ds numbers did all never (c.settle.ensures.full is);
+    }
