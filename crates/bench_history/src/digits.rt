@@ -60,6 +60,15 @@ impl<'a> Digits<'a> {
         read_bytes(self.digits, buffer).unwrap_or(&[])
     }
 
+    /// The same digits once more: they stay in the text.
+    pub fn copied(&self) -> Self
+        ensures { result ≡ self.now }
+    {
+        Digits {
+            digits: self.digits,
+        }
+    }
+
     /// The digits, two for each byte, as they stand in the text.
     pub fn as_digits(&self) -> &'a [u8]
         ensures bytes { decode_of result.now ≡ Ok self.now }
