@@ -1,0 +1,199 @@
+-- What is known of the frame whose end leaves no choice.
+use Rattle.std.proofs.Common.{◌≡◌, ℕ, ◌+◌, ◌<◌, ◌≤◌, Bool, true, false, List, length, map, take, get_or, slice_index, Option, Some, None, Vec, slice_get, ap, ap₂, sym, subst, ◌∙◌, arith, take-take}
+use Rattle.std.specs.declared.alloc.Global.{Global}
+use Rattle.std.proofs.Math.Nat.{min-le_left}
+use Rattle.std.proofs.lemmas.List.{length-map}
+use Rattle.std.proofs.lemmas.Option.{get_or_from_slice_get, slice_get_within}
+use Rattle.omci_msg.specs.declared.request.Request.{Request}
+use Rattle.mib_state.specs.After.{after}
+use Rattle.frame_meaning.specs.Meaning.{meaning}
+use Rattle.frame_meaning.specs.declared.verdict.Verdict.{Verdict}
+use Rattle.bench_history.specs.History.{is_end_of}
+use Rattle.bench_history.specs.declared.event.Event.{Event}
+use Rattle.bench_history.specs.declared.event.Event.TheVariants.{Entered}
+use Rattle.bench_judge.specs.Asked.{accepted_of, version}
+use Rattle.bench_judge.specs.Windows.{least_behind, most_behind}
+use Rattle.bench_judge.specs.Explained.{EndedFrame, IsEnded}
+use Rattle.bench_judge.specs.Frames.{AreFrames, AreWithin, FitsLeast, IsKeptIn}
+use Rattle.bench_judge.specs.Bounds.{IsLeastLeft, IsMostLeft}
+use Rattle.bench_judge.specs.Cut.{IsSwept, IsTurn, until}
+use Rattle.bench_judge.specs.Sweep.{AreLeast}
+use Rattle.bench_judge.specs.Judged.{AreRuns, IsAtLeast, IsAtMost, IsEndAs, IsWrongFrame}
+use Rattle.bench_judge.specs.Walk.{AreInOrder, IsWalk}
+use Rattle.bench_judge.specs.declared.frame.Frame.{Frame}
+use Rattle.bench_judge.specs.declared.judgement.End.{End}
+use Rattle.bench_judge.specs.declared.judgement.Run.{Run}
+use Rattle.bench_judge.specs.declared.settings.JudgeSettings.{JudgeSettings}
+use Rattle.bench_judge.specs.declared.walk.Walk.{Walk}
+use Rattle.bench_judge.proofs.Choices.{BeginWith, fits_of_choice}
+use Rattle.bench_judge.proofs.Cuts.{cut_frames, cut_within}
+use Rattle.bench_judge.proofs.Deviations.{at_least_is, at_most_is, one_number}
+use Rattle.bench_judge.proofs.Fronts.{ended_in_front, most_grows, version_front}
+use Rattle.bench_judge.proofs.Joined.{same_runs}
+use Rattle.bench_judge.proofs.Lists.{read_is}
+use Rattle.bench_judge.proofs.Swept.{begin_shorter}
+use Rattle.bench_judge.proofs.Turns.{EndsAt, turn_ends}
+
+-- what is left is no more than the window has
+pub most_left : (unordered : Bool) (events : List Event) (requests : List Request) (frames : List Frame) (port n most bound : ℕ)
+    → IsMostLeft unordered events requests frames port n most bound → bound ≤ most
+most_left true events requests frames port n most bound is = omega (arith, is)
+most_left false events requests frames port n most bound (Some m, first, left) =
+    let le = min-le_left most left.0 in omega (arith, left.2, le)
+most_left false events requests frames port n most bound (None, first, left) = omega (arith, left)
+
+-- runs by the same verdicts
+pub same_verdicts : (one other : ℕ → Verdict) (sent : List ℕ) (from to : ℕ) (runs : List Run) → ((v : ℕ) → v ≤ to → one v ≡ other v)
+    → AreRuns one sent from to runs → AreRuns other sent from to runs
+same_verdicts one other sent from to runs same are =
+    record {
+      none = are.none;
+      some = λ le. same_runs one other sent from (to + 1) runs (λ v lt. same v (omega (arith, lt))) (are.some le);
+    }
+
+module _ (settings : JudgeSettings) (events : List Event) (walk : Walk) (place : ℕ) (order : AreInOrder events) (known : IsWalk settings.modelled events walk)
+    (lt : place < walk.walked) (turn : IsTurn settings.unordered events place) where
+  pub within : place < length events
+  within = omega (arith, lt, known.within)
+
+  abbrev pub e : EndsAt events place
+  e = turn_ends settings.unordered events place order within turn
+
+  abbrev pub f : EndedFrame
+  f = e.f
+
+  pub in_walk : IsEnded (take walk.walked events) f
+  in_walk = ended_in_front walk.walked events f (omega (arith, e.ended, lt)) e.is
+
+  abbrev pub kept : IsKeptIn (take walk.walked events) walk.frames.items f
+  kept = known.frames.each f in_walk
+
+  seen_at : slice_get events place ≡ Some f.seen
+  seen_at = ap (slice_get events) (sym e.ended) ∙ e.is.seen
+
+  pub event_is : (event : Event) → event ≡ get_or events place event → event ≡ f.seen
+  event_is event read = read_is events place event f.seen read seen_at
+
+  pub ends : (event : Event) → event ≡ get_or events place event → (n : ℕ) × (is_end_of n event ≡ true)
+  ends event read = (f.number, ap (is_end_of f.number) (event_is event read) ∙ e.is.is_end)
+
+  pub number_is : (event : Event) (n : ℕ) → event ≡ get_or events place event → is_end_of n event ≡ true → n ≡ f.number
+  number_is event n read is = one_number n f.number f.seen (ap (is_end_of n) (sym (event_is event read)) ∙ is) e.is.is_end
+
+  pub number_within : (n : ℕ) → n ≡ f.number → n < length walk.frames.items
+  number_within n is = let lt = slice_get_within walk.frames.items f.number kept.frame kept.at in omega (arith, is, lt)
+
+  pub frame_is : (n : ℕ) (frame d : Frame) → n ≡ f.number → frame ≡ get_or walk.frames.items n d → frame ≡ kept.frame
+  frame_is n frame d is read = read ∙ get_or_from_slice_get walk.frames.items n kept.frame d (ap (slice_get walk.frames.items) is ∙ kept.at)
+
+  sent_front : take f.sent (take walk.walked events) ≡ take f.sent events
+  sent_front = take-take f.sent walk.walked events (omega (arith, e.is.later, e.ended, lt))
+
+  pub sent_at : (frame : Frame) → frame ≡ kept.frame → slice_get events frame.sent ≡ Some (Entered f.port f.bytes)
+  sent_at frame is = ap (λ (x : Frame). slice_get events x.sent) is ∙ ap (slice_get events) kept.kept.sent ∙ e.is.entered
+
+  pub sent_within : (frame : Frame) → frame ≡ kept.frame → frame.sent < place
+  sent_within frame is =
+      let same : frame.sent ≡ f.sent = ap (λ (x : Frame). x.sent) is ∙ kept.kept.sent in
+      omega (arith, same, e.is.later, e.ended)
+
+  pub most_is : (frame : Frame) → frame ≡ kept.frame → frame.most ≡ most_behind (take place events)
+  most_is frame is =
+      ap (λ (x : Frame). x.most) is ∙ kept.kept.most ∙ ap (λ n. most_behind (take n (take walk.walked events))) e.ended
+      ∙ ap most_behind (take-take place walk.walked events (omega (arith, lt)))
+
+  module _ (requests : List Request) (frames : List Frame) (same_requests : requests ≡ walk.requests.items) (same_frames : frames ≡ map (until place) walk.frames.items) where
+    accepts : requests ≡ accepted_of (take walk.walked events)
+    accepts = same_requests ∙ known.requests
+
+    pub cut_are : AreFrames (take place events) frames
+    cut_are = subst (AreFrames (take place events)) (sym same_frames) (cut_frames place walk.walked events walk.frames.items (omega (arith, lt)) known.frames)
+
+    pub bounded : AreWithin requests frames
+    bounded = subst (AreWithin requests) (sym same_frames) (cut_within place walk.walked events requests walk.frames.items (omega (arith, lt)) accepts known.frames)
+
+    begins : BeginWith requests (take place events)
+    begins = begin_shorter place walk.walked events requests (omega (arith, lt)) accepts
+
+    pub not_none : IsSwept settings.unordered events requests frames None → ⊥
+    not_none none = none turn.before.0 (fits_of_choice place events requests begins settings.unordered frames turn.before.0 cut_are turn.before.1)
+
+    pub cut_long : (n : ℕ) → n ≡ f.number → n < length frames
+    cut_long n is =
+        let len : length frames ≡ length walk.frames.items = ap (λ (l : List Frame). length l) same_frames ∙ length-map walk.frames.items (until place) in
+        let under = number_within n is in
+        omega (arith, len, under)
+
+    pub most_within : (frame : Frame) → frame ≡ kept.frame → frame.most ≤ length requests
+    most_within frame is =
+        let most = most_is frame is in
+        let count : length requests ≡ most_behind (take walk.walked events) = ap (λ (l : List Request). length l) accepts in
+        omega (arith, most, count, most_grows place walk.walked events (omega (arith, lt)))
+
+    meant : (frame : Frame) (sent : List ℕ) (v : ℕ) → frame ≡ kept.frame → sent ≡ f.bytes → v ≤ frame.most
+        → meaning (after (take v requests)) frame.port sent ≡ meaning (version events v) f.port f.bytes
+    meant frame sent v is bytes le =
+        let port : frame.port ≡ f.port = ap (λ (x : Frame). x.port) is ∙ kept.kept.port in
+        let most = most_is frame is in
+        let entities : after (take v requests) ≡ version events v =
+        ap (λ l. after (take v l)) accepts
+        ∙ sym (version_front walk.walked v events (omega (arith, le, most, most_grows place walk.walked events (omega (arith, lt))))) in
+        ap (λ e. meaning e frame.port sent) entities ∙ ap₂ (λ p b. meaning (version events v) p b) port bytes
+
+    -- all of it together
+    pub wrong_frame_is : (n : ℕ) (frame : Frame) (versions : ℕ → ℕ) (at_least at_most : ℕ) (sent : List ℕ) (end : End) (runs : Vec Run Global)
+        → n ≡ f.number → frame ≡ kept.frame → FitsLeast settings.unordered events requests frames versions
+        → IsLeastLeft settings.unordered frames versions frame.port n frame.least at_least
+        → IsMostLeft settings.unordered events requests frames frame.port n frame.most at_most
+        → sent ≡ f.bytes → IsEndAs f.seen end
+        → AreRuns (λ v. meaning (after (take v requests)) frame.port sent) sent at_least at_most runs.items
+        → IsWrongFrame settings events place
+        (record { number = n; port = frame.port; sent_line = frame.sent + 1; sent = sent; seen = end; at_least = at_least; at_most = at_most; runs = runs })
+    wrong_frame_is n frame versions at_least at_most sent end runs number is fits least most bytes ended are =
+        let port : frame.port ≡ f.port = ap (λ (x : Frame). x.port) is ∙ kept.kept.port in
+        record {
+          f = f;
+          is = e.is;
+          ended = e.ended;
+          number = number;
+          port = port;
+          line = ap (λ m. m + 1) (ap (λ (x : Frame). x.sent) is ∙ kept.kept.sent);
+          sent = bytes;
+          seen = ended;
+          at_least = subst (λ l. IsAtLeast settings.unordered (take place events) f l at_least)
+              (ap (λ (x : Frame). x.least) is ∙ kept.kept.least ∙ ap least_behind sent_front)
+              (at_least_is place events requests begins frames cut_are f settings.unordered versions frame.least at_least fits
+              (subst (λ m. IsLeastLeft settings.unordered frames versions f.port m frame.least at_least) number
+              (subst (λ p. IsLeastLeft settings.unordered frames versions p n frame.least at_least) port least)));
+          at_most = subst (λ m. IsAtMost settings.unordered (take place events) f m at_most) (most_is frame is)
+              (at_most_is place events requests begins frames cut_are f settings.unordered frame.most at_most
+              (subst (λ m. IsMostLeft settings.unordered events requests frames f.port m frame.most at_most) number
+              (subst (λ p. IsMostLeft settings.unordered events requests frames p n frame.most at_most) port most)));
+          runs = subst (λ b. AreRuns (λ v. meaning (version events v) f.port f.bytes) b at_least at_most runs.items) bytes
+              (same_verdicts (λ v. meaning (after (take v requests)) frame.port sent) (λ v. meaning (version events v) f.port f.bytes) sent at_least at_most runs.items
+              (λ v le. meant frame sent v is bytes (let top = most_left settings.unordered events requests frames frame.port n frame.most at_most most in omega (arith, le, top))) are);
+        }
+
+    -- the same, with what each call was given
+    pub wrong_frame_by : (n : ℕ) (frame : Frame) (at_least at_most : ℕ) (sent : List ℕ) (end : End) (runs : Vec Run Global)
+        → n ≡ f.number → frame ≡ kept.frame
+        → (swept_requests : List Request) (swept_frames : List Frame) (found : Option (Vec ℕ Global)) (versions : Vec ℕ Global)
+        → swept_requests ≡ requests → swept_frames ≡ frames → found ≡ Some versions → IsSwept settings.unordered events swept_requests swept_frames found
+        → (given : List ℕ) → given ≡ versions.items
+        → IsLeastLeft settings.unordered frames (slice_index given) frame.port n frame.least at_least
+        → IsMostLeft settings.unordered events requests frames frame.port n frame.most at_most
+        → sent ≡ f.bytes → IsEndAs f.seen end
+        → (run_requests : List Request) (bytes : List ℕ) → run_requests ≡ requests → bytes ≡ sent
+        → AreRuns (λ v. meaning (after (take v run_requests)) frame.port bytes) bytes at_least at_most runs.items
+        → IsWrongFrame settings events place
+        (record { number = n; port = frame.port; sent_line = frame.sent + 1; sent = sent; seen = end; at_least = at_least; at_most = at_most; runs = runs })
+    wrong_frame_by n frame at_least at_most sent end runs number is swept_requests swept_frames found versions same_r same_f some swept given same_v least most bytes ended
+        run_requests run_bytes same_run same_bytes are =
+        let fits : AreLeast settings.unordered events requests frames versions.items =
+        subst (λ r. AreLeast settings.unordered events r frames versions.items) same_r
+        (subst (λ fs. AreLeast settings.unordered events swept_requests fs versions.items) same_f
+        (subst (IsSwept settings.unordered events swept_requests swept_frames) some swept)) in
+        wrong_frame_is n frame (slice_index versions.items) at_least at_most sent end runs number is fits.least
+        (subst (λ l. IsLeastLeft settings.unordered frames (slice_index l) frame.port n frame.least at_least) same_v least) most bytes ended
+        (subst (λ r. AreRuns (λ v. meaning (after (take v r)) frame.port sent) sent at_least at_most runs.items) same_run
+        (subst (λ b. AreRuns (λ v. meaning (after (take v run_requests)) frame.port b) b at_least at_most runs.items) same_bytes are))

@@ -1,0 +1,124 @@
+-- What is kept of frames, one event on.
+use Rattle.std.proofs.Common.{◌≡◌, ◌≢◌, ◌+◌, ℕ, Bool, true, false, cond, ◌||◌, eqb, List, [], ◌∷◌, ◌++◌, length, take, set, Option, Some, None, inl, inr, refl, ap, sym, subst, ◌∙◌, arith, length-append, length-set}
+use Rattle.std.specs.List.{slice_get}
+use Rattle.std.proofs.lemmas.Bool.{eq-eqb, ne_eqb}
+use Rattle.std.proofs.lemmas.Option.{slice_get_within}
+use Rattle.bench_history.specs.History.{frames_in, has_ended, is_end_of, is_frame}
+use Rattle.bench_history.specs.declared.event.Event.{Event}
+use Rattle.bench_history.specs.declared.event.Event.TheVariants.{Entered}
+use Rattle.bench_judge.specs.Windows.{least_behind, most_behind}
+use Rattle.bench_judge.specs.Scene.{AreFramesOf, IsEndOf, IsFrameOf}
+use Rattle.bench_judge.specs.declared.frame.Frame.{Frame}
+use Rattle.bench_judge.proofs.Places.{get_pushed, get_written}
+use Rattle.bench_judge.proofs.Counted.{ended_with, frames_with}
+
+or_none : (a b : Bool) → b ≡ false → (a || b) ≡ a
+or_none true b none = refl
+or_none false b none = none
+
+-- a frame that no event ends stays as it is
+frame_kept : (events : List Event) (place n : ℕ) (frame : Frame) → has_ended n (take (place + 1) events) ≡ has_ended n (take place events)
+    → IsFrameOf events place n frame → IsFrameOf events (place + 1) n frame
+frame_kept events place n frame same is = record {
+  bytes = is.bytes;
+  entered = is.entered;
+  within = omega (arith, is.within);
+  number = is.number;
+  least = is.least;
+  end = elim frame.ended as (λ e. IsEndOf events place n frame e → IsEndOf events (place + 1) n frame e) [
+    | Some end ↦ λ ended. record {
+      within = omega (arith, ended.within);
+      later = ended.later;
+      seen = ended.seen;
+      at = ended.at;
+      is_end = ended.is_end;
+      most = ended.most;
+    }
+    | None ↦ λ open_yet. (same ∙ open_yet.0, open_yet.1)
+  ] is.end;
+}
+
+-- an event that is no frame and ends none
+pub frames_same : (events : List Event) (place : ℕ) (event : Event) (frames : List Frame) → slice_get events place ≡ Some event
+    → is_frame event ≡ false → ((n : ℕ) → is_end_of n event ≡ false)
+    → AreFramesOf events place frames → AreFramesOf events (place + 1) frames
+frames_same events place event frames at none ends are =
+    let same : (n : ℕ) → has_ended n (take (place + 1) events) ≡ has_ended n (take place events) =
+    λ n. ended_with n events place event at ∙ or_none (has_ended n (take place events)) (is_end_of n event) (ends n) in
+    record {
+      count = are.count ∙ sym (frames_with events place event at ∙ omega (arith, ap {B = ℕ} (λ (b : Bool). cond b 1 0) none));
+      each = λ n frame here. frame_kept events place n frame (same n) (are.each n frame here);
+      unsent = λ n past. same n ∙ are.unsent n past;
+    }
+
+-- a frame that is sent
+pub record IsSentFrame (events : List Event) (place into : ℕ) (frame : Frame) : Type 0 where
+  pub sent : frame.sent ≡ place
+  pub open_yet : frame.ended ≡ None
+  pub port : frame.port ≡ into
+  pub least : frame.least ≡ least_behind (take place events)
+  pub most : frame.most ≡ 0
+
+pub frames_more : (events : List Event) (place port : ℕ) (bytes : List ℕ) (frames : List Frame) (frame : Frame)
+    → slice_get events place ≡ Some (Entered port bytes) → IsSentFrame events place port frame
+    → AreFramesOf events place frames → AreFramesOf events (place + 1) (frames ++ frame ∷ [])
+frames_more events place port bytes frames frame at is are =
+    let same : (n : ℕ) → has_ended n (take (place + 1) events) ≡ has_ended n (take place events) =
+    λ n. ended_with n events place (Entered port bytes) at ∙ or_none (has_ended n (take place events)) false refl in
+    let one_more = length-append frames (frame ∷ []) in
+    let last : IsFrameOf events (place + 1) (length frames) frame = record {
+      bytes = bytes;
+      entered = ap (slice_get events) is.sent ∙ at ∙ ap (λ (p : ℕ). Some (Entered p bytes)) (sym is.port);
+      within = omega (arith, is.sent);
+      number = ap (λ (p : ℕ). frames_in (take p events)) is.sent ∙ sym are.count;
+      least = is.least ∙ ap (λ (p : ℕ). least_behind (take p events)) (sym is.sent);
+      end = subst (λ (e : Option ℕ). IsEndOf events (place + 1) (length frames) frame e) (sym is.open_yet) (same (length frames) ∙ are.unsent (length frames) (omega arith), is.most);
+    } in
+    record {
+      count = omega (arith, one_more, are.count, frames_with events place (Entered port bytes) at);
+      each = λ n other here.
+          elim (get_pushed frames frame n other here) [
+            | inl old ↦ frame_kept events place n other (same n) (are.each n other old)
+            | inr end ↦ subst (λ (f : Frame). IsFrameOf events (place + 1) n f) end.1 (subst (λ (k : ℕ). IsFrameOf events (place + 1) k frame) (sym end.0) last)
+          ];
+      unsent = λ n past. same n ∙ are.unsent n (omega (arith, past, one_more));
+    }
+
+-- a frame that is ended
+pub frames_ended : (events : List Event) (place number : ℕ) (event : Event) (frames : List Frame) (frame : Frame)
+    → slice_get events place ≡ Some event → is_frame event ≡ false → ((n : ℕ) → is_end_of n event ≡ eqb number n)
+    → slice_get frames number ≡ Some frame
+    → AreFramesOf events place frames
+    → AreFramesOf events (place + 1) (set frames number (record frame { ended = Some place; most = most_behind (take place events) }))
+frames_ended events place number event frames frame at none ends here are =
+    let closed : Frame = record frame { ended = Some place; most = most_behind (take place events) } in
+    let old : IsFrameOf events place number frame = are.each number frame here in
+    let same : (n : ℕ) → n ≢ number → has_ended n (take (place + 1) events) ≡ has_ended n (take place events) =
+    λ n other. ended_with n events place event at
+    ∙ or_none (has_ended n (take place events)) (is_end_of n event) (ends n ∙ ne_eqb number n (λ e. other (sym e))) in
+    let many : length (set frames number closed) ≡ length frames = length-set frames number closed in
+    let less = slice_get_within frames number frame here in
+    let now : IsFrameOf events (place + 1) number closed = record {
+      bytes = old.bytes;
+      entered = old.entered;
+      within = omega (arith, old.within);
+      number = old.number;
+      least = old.least;
+      end = record {
+        within = omega arith;
+        later = old.within;
+        seen = event;
+        at = at;
+        is_end = ends number ∙ eq-eqb number number refl;
+        most = refl;
+      };
+    } in
+    record {
+      count = many ∙ are.count ∙ sym (frames_with events place event at ∙ omega (arith, ap {B = ℕ} (λ (b : Bool). cond b 1 0) none));
+      each = λ n other there.
+          elim (get_written frames number closed n other there) [
+            | inl new ↦ subst (λ (f : Frame). IsFrameOf events (place + 1) n f) new.1 (subst (λ (k : ℕ). IsFrameOf events (place + 1) k closed) (sym new.0) now)
+            | inr kept ↦ frame_kept events place n other (same n kept.0) (are.each n other kept.1)
+          ];
+      unsent = λ n past. same n (λ e. omega (arith, e, past, many, less)) ∙ are.unsent n (omega (arith, past, many));
+    }

@@ -1,0 +1,201 @@
+-- What is kept of the events before a place, said of the front of them.
+use Rattle.std.proofs.Common.{◌≡◌, ◌<◌, ◌≤◌, ◌+◌, ℕ, Bool, true, false, ltb, not, List, length, take, Option, Some, None, is_some, inl, inr, refl, ap, sym, subst, ◌∙◌, arith}
+use Rattle.std.specs.List.{slice_get}
+use Rattle.std.proofs.lemmas.Bool.{and_parts, both_ways, cases_order, eqb-true, not-true}
+use Rattle.std.proofs.lemmas.List.{take-take}
+use Rattle.std.proofs.lemmas.List.Folds.{list_any_at}
+use Rattle.std.proofs.lemmas.Option.{get_or_from_slice_get, slice_get_within}
+use Rattle.omci_msg.specs.declared.request.Request.{Request}
+use Rattle.bench_history.specs.History.{frames_in, has_ended, is_end_of, may_follow, replies_in}
+use Rattle.bench_history.specs.declared.event.Event.{Event}
+use Rattle.bench_history.specs.declared.event.Event.TheVariants.{Sent, Replied, Entered, Left, Dropped, Waited, Nothing}
+use Rattle.bench_judge.specs.Explained.{EndedFrame, IsEnded}
+use Rattle.bench_judge.specs.Frames.{AreFrames, AreWithin, IsKeptIn, IsKeptOf}
+use Rattle.bench_judge.specs.Asked.{accepted_of, wanted}
+use Rattle.bench_judge.specs.Replies.{AreRight, IsRight}
+use Rattle.bench_judge.specs.Walk.{AreInOrder, IsAwaited}
+use Rattle.bench_judge.specs.Windows.{least_behind, most_behind}
+use Rattle.bench_judge.specs.Scene.{AreFramesOf, AreRightUpTo, IsDue, IsEndOf, IsFrameOf}
+use Rattle.bench_judge.specs.declared.asking.Due.{Due}
+use Rattle.bench_judge.specs.declared.frame.Frame.{Frame}
+use Rattle.bench_judge.specs.declared.walk.Awaited.{Awaited}
+use Rattle.bench_judge.proofs.Counted.{frames_front, frames_with}
+use Rattle.bench_judge.proofs.Messages.{most_front}
+use Rattle.bench_judge.proofs.Places.{element_at, front_get, get_in_front}
+
+-- ---- a frame is sent once, and ends once
+
+sent_before : (events : List Event) (i j port : ℕ) (bytes : List ℕ) → slice_get events i ≡ Some (Entered port bytes)
+    → frames_in (take i events) ≡ frames_in (take j events) → i < j → ⊥
+sent_before events i j port bytes at same less =
+    omega (arith, frames_with events i (Entered port bytes) at, frames_front events (i + 1) j (omega (arith, less)), same)
+
+sent_once : (events : List Event) (i j one other : ℕ) (bytes more : List ℕ)
+    → slice_get events i ≡ Some (Entered one bytes) → slice_get events j ≡ Some (Entered other more)
+    → frames_in (take i events) ≡ frames_in (take j events) → i ≡ j
+sent_once events i j one other bytes more at there same =
+    elim (cases_order i j) [
+      | inl is ↦ is
+      | inr differ ↦ elim differ [
+        | inl less ↦ absurd (sent_before events i j one bytes at same less)
+        | inr less ↦ absurd (sent_before events j i other more there (sym same) less)
+      ]
+    ]
+
+-- by one port
+same_port : (events : List Event) (i j one other : ℕ) (bytes more : List ℕ) → i ≡ j
+    → slice_get events i ≡ Some (Entered one bytes) → slice_get events j ≡ Some (Entered other more) → one ≡ other
+same_port events i j one other bytes more same at there =
+    let is : Some (Entered one bytes) ≡ Some (Entered other more) = sym at ∙ ap (slice_get events) same ∙ there in
+    cc is
+
+-- an event that ends a frame stands where it is open
+open_before : (n : ℕ) (before : List Event) (event : Event) → is_end_of n event ≡ true → may_follow before event ≡ true → has_ended n before ≡ false
+open_before n before (Left gem number bytes) ends may =
+    ap (λ (k : ℕ). has_ended k before) (sym (eqb-true number n ends))
+    ∙ not-true (has_ended number before) (and_parts (ltb number (frames_in before)) (not (has_ended number before)) may).1
+open_before n before (Dropped number) ends may =
+    ap (λ (k : ℕ). has_ended k before) (sym (eqb-true number n ends))
+    ∙ not-true (has_ended number before) (and_parts (ltb number (frames_in before)) (not (has_ended number before)) may).1
+open_before n before (Sent message) ends may = cc ends
+open_before n before (Replied reply) ends may = cc ends
+open_before n before (Entered port bytes) ends may = cc ends
+open_before n before (Waited replies) ends may = cc ends
+open_before n before Nothing ends may = cc ends
+
+-- an event that ends a frame is among those of a front
+has_ended_at : (events : List Event) (n place i : ℕ) (event : Event) → slice_get events i ≡ Some event → is_end_of n event ≡ true → i < place
+    → has_ended n (take place events) ≡ true
+has_ended_at events n place i event at ends less =
+    let here : slice_get (take place events) i ≡ Some event = front_get place events i less ∙ at in
+    list_any_at (is_end_of n) (take place events) i event (slice_get_within (take place events) i event here)
+    (ap (is_end_of n) (get_or_from_slice_get (take place events) i event event here) ∙ ends)
+
+ends_before : (events : List Event) (n i j : ℕ) (one other : Event) → AreInOrder events
+    → slice_get events i ≡ Some one → slice_get events j ≡ Some other
+    → is_end_of n one ≡ true → is_end_of n other ≡ true → i < j → ⊥
+ends_before events n i j one other order at there ends again less =
+    both_ways (has_ended n (take j events)) (open_before n (take j events) other again (order j other there)) (has_ended_at events n j i one at ends less)
+
+ends_once : (events : List Event) (n i j : ℕ) (one other : Event) → AreInOrder events
+    → slice_get events i ≡ Some one → slice_get events j ≡ Some other
+    → is_end_of n one ≡ true → is_end_of n other ≡ true → i ≡ j
+ends_once events n i j one other order at there ends again =
+    elim (cases_order i j) [
+      | inl is ↦ is
+      | inr differ ↦ elim differ [
+        | inl less ↦ absurd (ends_before events n i j one other order at there ends again less)
+        | inr less ↦ absurd (ends_before events n j i other one order there at again ends less)
+      ]
+    ]
+
+-- ---- the frames
+
+-- how a frame that has ended was kept at its end
+kept_end : (events : List Event) (place : ℕ) (f : EndedFrame) (frame : Frame) (e : Option ℕ) → AreInOrder events
+    → f.ended < place → slice_get events f.ended ≡ Some f.seen → is_end_of f.number f.seen ≡ true
+    → IsEndOf events place f.number frame e → (e ≡ Some f.ended) × (frame.most ≡ most_behind (take f.ended events))
+kept_end events place f frame (Some end) order less at ends is =
+    let same : end ≡ f.ended = ends_once events f.number end f.ended is.seen f.seen order is.at at is.is_end ends in
+    (ap (λ (k : ℕ). Some k) same, is.most ∙ ap (λ (k : ℕ). most_behind (take k events)) same)
+kept_end events place f frame None order less at ends is =
+    absurd (both_ways (has_ended f.number (take place events)) is.0 (has_ended_at events f.number place f.ended f.seen at ends less))
+
+frame_of_ended : (events : List Event) (place : ℕ) (frames : List Frame) → AreInOrder events → AreFramesOf events place frames
+    → (f : EndedFrame) → IsEnded (take place events) f → IsKeptIn (take place events) frames f
+frame_of_ended events place frames order are f is =
+    let sent = get_in_front place events f.sent (Entered f.port f.bytes) is.entered in
+    let seen = get_in_front place events f.ended f.seen is.seen in
+    let fronts : take f.sent (take place events) ≡ take f.sent events = take-take f.sent place events (omega (arith, sent.0)) in
+    let ends : take f.ended (take place events) ≡ take f.ended events = take-take f.ended place events (omega (arith, seen.0)) in
+    let number : f.number ≡ frames_in (take f.sent events) = is.number ∙ ap (λ (xs : List Event). frames_in xs) fronts in
+    let within : f.number < length frames =
+    omega (arith, number, are.count, frames_with events f.sent (Entered f.port f.bytes) sent.1, frames_front events (f.sent + 1) place (omega (arith, sent.0))) in
+    let here = element_at frames f.number within in
+    let frame : Frame = here.0 in
+    let kept : IsFrameOf events place f.number frame = are.each f.number frame here.1 in
+    let same : frame.sent ≡ f.sent = sent_once events frame.sent f.sent frame.port f.port kept.bytes f.bytes kept.entered sent.1 (kept.number ∙ number) in
+    let end = kept_end events place f frame frame.ended order seen.0 seen.1 is.is_end kept.end in
+    record {
+      frame = frame;
+      at = here.1;
+      kept = record {
+        sent = same;
+        ended = end.0;
+        port = same_port events frame.sent f.sent frame.port f.port kept.bytes f.bytes same kept.entered sent.1;
+        least = kept.least ∙ ap (λ (k : ℕ). least_behind (take k events)) same ∙ ap (λ (xs : List Event). least_behind xs) (sym fronts);
+        most = end.1 ∙ ap (λ (xs : List Event). most_behind xs) (sym ends);
+      };
+    }
+
+-- what is kept as ended has ended
+ended_of_frame : (events : List Event) (place n : ℕ) (frame : Frame) (e : Option ℕ) → frame.ended ≡ e → is_some e ≡ true
+    → IsFrameOf events place n frame → IsEndOf events place n frame e → IsKeptOf (take place events) n frame
+ended_of_frame events place n frame (Some end) same some kept is =
+    let fronts : take frame.sent (take place events) ≡ take frame.sent events = take-take frame.sent place events (omega (arith, kept.within)) in
+    let ends : take end (take place events) ≡ take end events = take-take end place events (omega (arith, is.within)) in
+    record {
+      f = record { sent = frame.sent; ended = end; number = n; port = frame.port; bytes = kept.bytes; seen = is.seen };
+      is = record {
+        entered = front_get place events frame.sent kept.within ∙ kept.entered;
+        number = sym kept.number ∙ ap (λ (xs : List Event). frames_in xs) (sym fronts);
+        later = is.later;
+        seen = front_get place events end is.within ∙ is.at;
+        is_end = is.is_end;
+      };
+      number = refl;
+      kept = record {
+        sent = refl;
+        ended = same;
+        port = refl;
+        least = kept.least ∙ ap (λ (xs : List Event). least_behind xs) (sym fronts);
+        most = is.most ∙ ap (λ (xs : List Event). most_behind xs) (sym ends);
+      };
+    }
+ended_of_frame events place n frame None same some kept is = cc some
+
+pub whole_frames : (events : List Event) (place : ℕ) (frames : List Frame) → AreInOrder events → AreFramesOf events place frames
+    → AreFrames (take place events) frames
+whole_frames events place frames order are = record {
+  each = frame_of_ended events place frames order are;
+  only = λ n frame at some.
+      let kept : IsFrameOf events place n frame = are.each n frame at in
+      ended_of_frame events place n frame frame.ended refl some kept kept.end;
+}
+
+-- ---- the greatest versions
+
+within_of : (events : List Event) (place n : ℕ) (frame : Frame) (e : Option ℕ) → IsEndOf events place n frame e
+    → frame.most ≤ most_behind (take place events)
+within_of events place n frame (Some end) is = omega (arith, is.most, most_front events end place (omega (arith, is.within)))
+within_of events place n frame None is = omega (arith, is.1)
+
+-- no version is behind all requests
+pub whole_bounded : (events : List Event) (place : ℕ) (requests : List Request) (frames : List Frame) → requests ≡ accepted_of (take place events)
+    → AreFramesOf events place frames → AreWithin requests frames
+whole_bounded events place requests frames same are n frame at =
+    let within = within_of events place n frame frame.ended (are.each n frame at).end in
+    omega (arith, within, ap (λ (qs : List Request). length qs) same)
+
+-- ---- the replies
+
+pub whole_right : (modelled : Bool) (events : List Event) (place : ℕ) → AreRightUpTo modelled events place → AreRight modelled (take place events)
+whole_right modelled events place right i bytes at =
+    let there = get_in_front place events i (Replied bytes) at in
+    subst (λ (xs : List Event). IsRight modelled xs bytes) (sym (take-take i place events (omega (arith, there.0)))) (right i bytes there.0 there.1)
+
+-- the request that the next reply answers
+pub whole_awaited : (modelled : Bool) (events : List Event) (place : ℕ) (due : Due) (awaited : Awaited)
+    → IsDue modelled events place (replies_in (take place events)) due → awaited.sent ≡ due.sent → awaited.reply ≡ due.reply
+    → IsAwaited (take place events) awaited
+whole_awaited modelled events place due awaited is sent reply = record {
+  answers = is.answers;
+  next = is.at;
+  reply = reply ∙ is.reply;
+  message = is.message;
+  sent = ap (slice_get (take place events)) sent ∙ front_get place events due.sent is.within ∙ is.sent;
+  request = is.request;
+  before = ap (λ (p : ℕ). length (wanted (take p (take place events)))) sent
+      ∙ ap (λ (xs : List Event). length (wanted xs)) (take-take due.sent place events (omega (arith, is.within)))
+      ∙ is.before;
+}

@@ -1,0 +1,14 @@
+use Rattle.std.proofs.Common.{◌<◌, ◌≤◌, ◌-◌, take}
+use Rattle.bench_judge.specs.Cut.{HasChoice}
+use Rattle.bench_judge.proofs.halving.turn.Given as goal
+
+abbrev pub invariant-loop-high : goal.invariant-loop-high
+invariant-loop-high g l = record {
+  apart : l.low < l.high;
+  within : l.high ≤ l.walk.walked;
+  low : HasChoice l.unordered (take l.low l.events);
+  high : ¬ (HasChoice l.unordered (take l.high l.events));
+}
+
+abbrev pub decreases-loop-high : goal.decreases-loop-high
+decreases-loop-high g l = l.high - l.low

@@ -1,0 +1,51 @@
+use Rattle.std.proofs.Common.{◌≡◌, ◌<◌, ◌≤◌, ◌∙◌, ℕ, Bool, Some, length, take, refl, subst, arith}
+use Rattle.std.specs.List.{slice_get}
+use Rattle.std.proofs.lemmas.Bool.{false≢true}
+use Rattle.std.proofs.lemmas.Option.{slice_get_read}
+use Rattle.bench_judge.specs.Scene.{IsScene}
+use Rattle.bench_judge.specs.Walk.{IsWalk}
+use Rattle.bench_judge.proofs.Answering.{wrong_reply}
+use Rattle.bench_judge.proofs.walk.walk_through.Goals as goal
+
+pub loop-place-init : goal.loop-place-init
+loop-place-init c = record {
+  modelled = c.in_ok-scene.ensures.modelled;
+  scene = c.in_ok-scene.ensures.scene c.args.events.now;
+}
+
+pub loop-place-preserved : goal.loop-place-preserved
+loop-place-preserved c =
+    let events = c.args.events.now in
+    let place : ℕ = c.loop-place.place in
+    let event = c.index-events-place.result in
+    let is = c.loop-place.invariant.scene in
+    let less : place < length events = omega arith in
+    let at : slice_get events place ≡ Some event = slice_get_read events (length events) place event refl less c.index-events-place.is in
+    let admitted = (c.if-not-admits.ensures events place is).0 refl in
+    record {
+      modelled = c.add.ensures.modelled ∙ c.loop-place.invariant.modelled;
+      scene = c.in_ok-add.ensures.scene events at (c.requires place event at) admitted is;
+    }
+
+pub returns-then-not-admits : goal.returns-then-not-admits
+returns-then-not-admits c =
+    let events = c.args.events.now in
+    let place : ℕ = c.loop-place.place in
+    let event = c.index-events-place.result in
+    let is = c.loop-place.invariant.scene in
+    let less : place < length events = omega arith in
+    let within : place ≤ length events = omega arith in
+    let at : slice_get events place ≡ Some event = slice_get_read events (length events) place event refl less c.index-events-place.is in
+    let decides = c.if-not-admits.ensures events place is in
+    let wrong = wrong_reply c.loop-place.scene.modelled (take place events) event (slice_get events place) at (λ right. false≢true (decides.1 right)) in
+    subst (λ (m : Bool). IsWalk m events c.into_walk.result) c.loop-place.invariant.modelled
+    (c.into_walk.ensures events c.requires within is (λ _. wrong))
+
+pub returns : goal.returns
+returns c =
+    let events = c.args.events.now in
+    let end : c.loop-place.place ≡ length events = omega arith in
+    let within : length events ≤ length events = omega arith in
+    let is = subst (λ (n : ℕ). IsScene events n c.loop-place.scene) end c.loop-place.invariant.scene in
+    subst (λ (m : Bool). IsWalk m events c.into_walk-2.result) c.loop-place.invariant.modelled
+    (c.into_walk-2.ensures events c.requires within is (λ less. absurd (omega (arith, less))))

@@ -1,0 +1,66 @@
+-- Frames as a front of the events shows them, and what the sweep of them says.
+use Rattle.std.specs.Prelude.{◌≡◌, ◌≤◌, ◌+◌, ℕ, Bool, List, Option, Some, None, MatchOption, if◌then◌else◌, nat_lt, set, slice_get, slice_index, take, Vec}
+use Rattle.std.specs.declared.alloc.Global.{Global}
+use Rattle.omci_msg.specs.declared.request.Request.{Request}
+use Rattle.bench_history.specs.declared.event.Event.{Event}
+use Rattle.bench_judge.specs.Explained.{IsChoice, IsLeastChoice}
+use Rattle.bench_judge.specs.Frames.{Fits}
+use Rattle.bench_judge.specs.Sweep.{AreLeast, NoneFit}
+use Rattle.bench_judge.specs.Walk.{IsWalk}
+use Rattle.bench_judge.specs.declared.frame.Frame.{Frame}
+use Rattle.bench_judge.specs.declared.walk.Walk.{Walk}
+
+-- an end that comes before a place
+abbrev pub end_before : ℕ → Option ℕ → Option ℕ
+end_before place None = None
+end_before place (Some end) = if nat_lt end place then Some end else None
+
+-- a frame with an end, or without one
+abbrev pub with_end : Option ℕ → Frame → Frame
+with_end (Some end) frame = record frame { ended = Some end }
+with_end None frame = record frame { ended = None; most = 0 }
+
+-- a frame as the events before a place show it: open where it ends there or behind
+abbrev pub until : ℕ → Frame → Frame
+until place frame = with_end (end_before place frame.ended) frame
+
+-- numbers by their places, 0 past the end
+abbrev pub by_number : Vec ℕ Global → ℕ → ℕ
+by_number versions n = slice_index versions.items n
+
+-- whether there are versions that fit together, and the least if so
+abbrev pub IsSwept : Bool → List Event → List Request → List Frame → Option (Vec ℕ Global) → Type 0
+IsSwept unordered events requests frames found =
+    MatchOption found (NoneFit unordered events requests frames) (λ versions. AreLeast unordered events requests frames versions.items)
+
+-- events have a choice
+abbrev pub HasChoice : Bool → List Event → Type 0
+HasChoice unordered events = (versions : ℕ → ℕ) × IsChoice unordered events versions
+
+-- the least choice of events, or that they have none
+abbrev pub IsLeastOf : Bool → List Event → Option (Vec ℕ Global) → Type 0
+IsLeastOf unordered events found =
+    MatchOption found (¬ (HasChoice unordered events)) (λ versions. IsLeastChoice unordered events (by_number versions))
+
+-- a walk, by either way of looking at contents
+abbrev pub IsSomeWalk : List Event → Walk → Type 0
+IsSomeWalk events walk = (modelled : Bool) × IsWalk modelled events walk
+
+-- the events before a place have a choice, and with the one there they have none
+pub record IsTurn (unordered : Bool) (events : List Event) (place : ℕ) : Type 0 where
+  pub before : HasChoice unordered (take place events)
+  pub behind : ¬ (HasChoice unordered (take (place + 1) events))
+
+-- ---- a frame whose versions begin later
+
+-- the frame of a number may have no version under one
+abbrev pub RaisedAt : List Frame → ℕ → ℕ → List Frame → Type 0
+RaisedAt frames n from raised =
+    (frame : Frame) → slice_get frames n ≡ Some frame → raised ≡ set frames n (record frame { least = from })
+
+-- the greatest version of the frame of a number in all that fit
+pub record IsGreatestFit (unordered : Bool) (events : List Event) (requests : List Request) (frames : List Frame) (n v : ℕ) : Type 0 where
+  pub versions : ℕ → ℕ
+  pub fits : Fits unordered events requests frames versions
+  pub has : versions n ≡ v
+  pub greatest : (other : ℕ → ℕ) → Fits unordered events requests frames other → other n ≤ v

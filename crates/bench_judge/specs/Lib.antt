@@ -1,0 +1,14 @@
+pub mod Asked
+pub mod Replies
+pub mod Windows
+pub mod Explained
+pub mod Frames
+pub mod Heads
+pub mod Sweep
+pub mod Walk
+pub mod Scene
+pub mod Cut
+pub mod Bounds
+pub mod Rising
+pub mod Judged
+pub mod Laws

@@ -1,0 +1,54 @@
+//! What the events before a place show of frames and of their versions.
+ghost use Rattle.std.specs.Prelude.{◌≡◌, ◌≤◌, IfOk, map, take};
+ghost use Rattle.bench_judge.specs.Cut.{IsLeastOf, IsSomeWalk, until};
+
+use crate::frame::Frame;
+use crate::sweep::sweep;
+use crate::walk::Walk;
+use bench_history::Event;
+use std::alloc::{AllocError, Global};
+
+/// A frame as the events before a place show it: open where it ends there or behind.
+fn until(frame: &Frame, place: usize) -> Frame
+    ensures { result ≡ until place frame.now }
+{
+    match frame.ended {
+        Some(end) if end < place => *frame,
+        _ => Frame {
+            ended: None,
+            most: 0,
+            ..*frame
+        },
+    }
+}
+
+/// The same of each of some frames.
+pub(crate) fn frames_until(
+    alloc: Global,
+    frames: &[Frame],
+    place: usize,
+) -> Result<Vec<Frame>, AllocError>
+    ensures { IfOk result (λ cut. cut.items ≡ map (until place) frames.now) }
+{
+    let mut cut = Vec::with_capacity(alloc, frames.len())?;
+    for frame in frames {
+        cut.push(until(frame, place))?;
+    }
+    Ok(cut)
+}
+
+/// The least versions of the frames of the events before a place, by their numbers, or None where these events have no choice.
+pub(crate) fn least_until(
+    alloc: Global,
+    events: &[Event<'_>],
+    walk: &Walk,
+    unordered: bool,
+    place: usize,
+) -> Result<Option<Vec<usize>>, AllocError>
+    requires walked { IsSomeWalk events.now walk.now }
+    requires within { place ≤ walk.now.walked }
+    ensures { IfOk result (IsLeastOf unordered (take place events.now)) }
+{
+    let frames = frames_until(alloc, &walk.frames, place)?;
+    sweep(alloc, events, &walk.requests, &frames, unordered)
+}

@@ -1,0 +1,15 @@
+//! What is kept of a frame that was sent.
+
+/// What is kept of a frame that was sent. The frames of a history stand by their numbers.
+#[derive(Clone, Copy, Debug, PartialEq, Eq)]
+pub(crate) struct Frame {
+    /// The place of the event that sent it.
+    pub(crate) sent: usize,
+    /// The place of the event that ended it, unless it is open.
+    pub(crate) ended: Option<usize>,
+    pub(crate) port: u16,
+    /// The least version that it may have.
+    pub(crate) least: usize,
+    /// The greatest, if it has ended.
+    pub(crate) most: usize,
+}

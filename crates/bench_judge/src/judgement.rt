@@ -1,0 +1,131 @@
+//! What is found of a history.
+
+use arrayvec::ArrayVec;
+use bench_history::Digits;
+use forward_plan::Reason;
+use omci_msg::Reply;
+use tag_view::Tag;
+
+/// What is found of a history. Lines are numbered from 1, frames from 0 in the order in which they were sent, and a version is a number
+/// of accepted requests.
+#[derive(Debug, Drop)]
+pub enum Judgement<'a> {
+    /// A right unit may have behaved so.
+    Explained(Explanation),
+    /// A right unit can't have behaved so, and up to the line before it may have.
+    Deviates(Deviation<'a>),
+}
+
+/// What an explained history shows.
+#[derive(Debug, Drop)]
+pub struct Explanation {
+    pub counts: Counts,
+    /// Where the least versions of the frames of a port grow, in the order of frames; none where each frame is judged by itself.
+    pub steps: Vec<Step>,
+}
+
+/// How much a history has of what.
+#[derive(Clone, Copy, Debug, PartialEq, Eq)]
+pub struct Counts {
+    /// Messages that were sent.
+    pub messages: usize,
+    /// Requests among them that the model accepts.
+    pub accepted: usize,
+    /// Replies that were seen.
+    pub replies: usize,
+    /// Frames that were seen to leave.
+    pub forwarded: usize,
+    /// Frames that are known to have been dropped.
+    pub dropped: usize,
+    /// Frames of which neither is said.
+    pub open: usize,
+}
+
+/// A frame whose least version is greater than that of all ended frames before it at its port.
+#[derive(Clone, Copy, Debug, PartialEq, Eq)]
+pub struct Step {
+    pub port: u16,
+    pub version: usize,
+    /// The number of the frame.
+    pub frame: usize,
+    /// The line that sent it.
+    pub line: usize,
+}
+
+/// The first line that no right unit explains, with all lines before it.
+#[derive(Debug, Drop)]
+pub struct Deviation<'a> {
+    pub line: usize,
+    pub wrong: Wrong<'a>,
+}
+
+/// What is wrong with it.
+#[derive(Debug, Drop)]
+pub enum Wrong<'a> {
+    /// A reply, and no request above waits for one.
+    Unasked { reply: Digits<'a> },
+    /// A reply other than the model's.
+    Reply(WrongReply<'a>),
+    /// A frame that left or was dropped as by none of the versions that are left to it.
+    Frame(WrongFrame<'a>),
+}
+
+/// A reply other than the model's.
+#[derive(Debug, Drop)]
+pub struct WrongReply<'a> {
+    /// The line of the request that it answers.
+    pub request_line: usize,
+    pub reply: Digits<'a>,
+    /// What the model replies.
+    pub model: Reply,
+}
+
+/// A frame that left or was dropped as by none of the versions that are left to it.
+#[derive(Debug, Drop)]
+pub struct WrongFrame<'a> {
+    pub number: usize,
+    pub port: u16,
+    /// The line that sent it.
+    pub sent_line: usize,
+    /// The frame as it was sent.
+    pub sent: Digits<'a>,
+    pub seen: End<'a>,
+    /// The least version that the lines before leave to it.
+    pub at_least: usize,
+    /// The greatest. Where it is under the least, no version is left.
+    pub at_most: usize,
+    /// What the frame's versions from the least to the greatest mean for it, ascending.
+    pub runs: Vec<Run>,
+}
+
+/// How a frame was seen to end.
+#[derive(Debug, Drop)]
+pub enum End<'a> {
+    /// It left by a GEM port, with these bytes.
+    Left { gem: u16, frame: Digits<'a> },
+    Dropped,
+}
+
+/// Versions that follow each other and give a frame the same answer.
+#[derive(Debug, Drop)]
+pub struct Run {
+    pub from: usize,
+    pub to: usize,
+    pub answer: Answer,
+}
+
+/// What becomes of a frame.
+#[derive(Debug, Drop)]
+pub enum Answer {
+    Left(Leaving),
+    Dropped(Reason),
+}
+
+/// A frame as it leaves: the twelve bytes of the addresses of the frame that was sent, tags, outermost first, and its last bytes.
+#[derive(Debug, Drop)]
+pub struct Leaving {
+    pub gem: u16,
+    pub tags: ArrayVec<Tag, 4>,
+    /// How many of the last bytes of the frame that was sent stand behind the tags.
+    pub rest: usize,
+}

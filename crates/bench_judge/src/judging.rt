@@ -1,0 +1,102 @@
+//! The judgement of a history.
+ghost use Rattle.std.specs.Prelude.{◌≡◌, IfErr, IfOk};
+ghost use Rattle.bench_judge.specs.Judged.{IsFound, IsJudgement, IsWhyUnjudged};
+ghost use Rattle.bench_judge.specs.Walk.{AreInOrder};
+
+use crate::counts::counts;
+use crate::cut::least_until;
+use crate::deviation::{wrong_frame, wrong_reply};
+use crate::fault::JudgeFault;
+use crate::halving::turn;
+use crate::judgement::{Deviation, Explanation, Judgement, Wrong};
+use crate::settings::JudgeSettings;
+use crate::steps::steps;
+use crate::walk::walk_through;
+use crate::watch::{Nobody, Stage, Watch};
+use bench_history::{Event, HistoryFault, read_history};
+use std::alloc::{AllocError, Global};
+
+/// What is found of events.
+fn judge_events<'a, W: Watch>(
+    alloc: Global,
+    events: &[Event<'a>],
+    settings: &JudgeSettings,
+    watch: &mut W,
+) -> Result<Judgement<'a>, AllocError>
+    requires { AreInOrder events.now }
+    ensures { IfOk result (IsFound settings.now events.now) }
+{
+    let walk = walk_through(alloc, events, settings.modelled)?;
+    watch.reached(Stage::Walked {
+        frames: walk.frames.len(),
+        requests: walk.requests.len(),
+    });
+    let Some(versions) = least_until(alloc, events, &walk, settings.unordered, walk.walked)? else {
+        let place = turn(alloc, events, &walk, settings.unordered, watch)?;
+        let frame = wrong_frame(alloc, events, &walk, settings, place)?;
+        return Ok(Judgement::Deviates(Deviation {
+            line: place + 1,
+            wrong: Wrong::Frame(frame),
+        }));
+    };
+    if walk.walked < events.len() {
+        return Ok(Judgement::Deviates(Deviation {
+            line: walk.walked + 1,
+            wrong: wrong_reply(events, walk, settings),
+        }));
+    }
+    Ok(Judgement::Explained(Explanation {
+        counts: counts(events, walk.requests.len()),
+        steps: steps(alloc, &walk.frames, &versions, settings.unordered)?,
+    }))
+}
+
+/// Judges a history: whether a right unit may have behaved so while it was configured.
+///
+/// A unit is right where it answers each request as the model does, and each of its ports is served by one lane, which forwards each frame
+/// as the managed entities mean after some of the accepted requests, never after fewer than a frame before it. A history is explained where
+/// each reply is the model's, and each frame that is seen to end has a version, a number of accepted requests. By the entities after so
+/// many, what was seen is what becomes of the frame. They are no fewer than those that were sent up to the request that is answered by the
+/// last reply that a wait above the frame waits for, and no more than those that were sent before the frame was seen to end. The frames
+/// before it at its port have no greater versions, unless each frame is judged by itself.
+///
+/// Where it isn't explained, the judgement names the first line that isn't with all those before it. It takes time in proportion to the
+/// events, the versions and the ports, once more for each halving of the history where it isn't explained, and memory in proportion to the
+/// text.
+///
+/// [`JudgeFault::BadLine`] comes exactly where a line is bad, with the number of the first; [`JudgeFault::NoMemory`] where a request for
+/// memory is refused.
+pub fn judge<'a>(
+    alloc: Global,
+    history: &'a [u8],
+    settings: &JudgeSettings,
+) -> Result<Judgement<'a>, JudgeFault>
+    ensures found { IfOk result (IsJudgement settings.now history.now) }
+    ensures fault { IfErr result (IsWhyUnjudged history.now) }
+{
+    judge_watched(alloc, history, settings, &mut Nobody)
+}
+
+/// Does as [`judge`] does, and tells meanwhile how far it is.
+pub fn judge_watched<'a, W: Watch>(
+    alloc: Global,
+    history: &'a [u8],
+    settings: &JudgeSettings,
+    watch: &mut W,
+) -> Result<Judgement<'a>, JudgeFault>
+    ensures found { IfOk result (IsJudgement settings.now history.now) }
+    ensures fault { IfErr result (IsWhyUnjudged history.now) }
+{
+    let events = match read_history(alloc, history) {
+        Ok(events) => events,
+        Err(HistoryFault::BadLine(number)) => return Err(JudgeFault::BadLine(number)),
+        Err(HistoryFault::NoMemory) => return Err(JudgeFault::NoMemory),
+    };
+    watch.reached(Stage::Read {
+        lines: events.len(),
+    });
+    match judge_events(alloc, &events, settings, watch) {
+        Ok(judgement) => Ok(judgement),
+        Err(_) => Err(JudgeFault::NoMemory),
+    }
+}

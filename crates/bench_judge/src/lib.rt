@@ -1,0 +1,47 @@
+//! The judge of histories: may a right unit have done what this one was seen to do?
+//!
+//! A history (bench_history) is what one observer saw at an optical network unit: messages, replies, frames that were sent into its
+//! ports and how they ended. [`judge`] says that a right unit may have behaved so, or names the first line that no right unit explains,
+//! and what the versions that are left to its frame would have done.
+//!
+//! **The definitions** stand in `specs/`: what was asked and what the model replies (Asked), which replies are right (Replies), from
+//! which version to which a frame may leave (Windows), which histories are explained (Explained), and what is said of one (Judged). A
+//! *version* is a number of accepted requests: the entities after them decide what becomes of a frame.
+//!
+//! **The way.** The events are walked once, from front to back, up to the first wrong reply (walk); a frame is then its window and the
+//! places of its events (frame). A sweep goes once through the versions, with one plan that is followed from version to version, and lets
+//! the next frame of each port take the least that it may have (sweep, seeing). Where a frame finds none, the first line is found by
+//! halving, and so is the greatest version that the frame behind it leaves (halving, bounds). No payload is decoded: digits are compared.
+#![tactic(auto)]
+
+mod asking;
+mod bounds;
+mod counts;
+mod cut;
+mod deviation;
+mod fault;
+mod frame;
+mod halving;
+mod judgement;
+mod judging;
+mod laws;
+mod message;
+mod replying;
+mod runs;
+mod scene;
+mod seeing;
+mod settings;
+mod steps;
+mod sweep;
+mod walk;
+mod watch;
+
+pub use fault::JudgeFault;
+pub use judgement::{
+    Answer, Counts, Deviation, End, Explanation, Judgement, Leaving, Run, Step, Wrong, WrongFrame,
+    WrongReply,
+};
+pub use judging::{judge, judge_watched};
+pub use laws::{law_of_fronts, law_of_least_versions};
+pub use settings::JudgeSettings;
+pub use watch::{Stage, Watch};

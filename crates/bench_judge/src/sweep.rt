@@ -1,0 +1,198 @@
+//! The least versions of frames, found once through all versions. Each port has a queue of its ended frames, in order: only the one at
+//! its head may be given the version that is tried, and then the next one comes to the head.
+ghost use Rattle.std.specs.Prelude.{◌≡◌, ◌<◌, ◌||◌, Bool, List, Some, true, Decides, IfOk, MatchBool, MatchOption, suc, is_some, length, nat_le, slice_get, take};
+ghost use Rattle.omci_msg.specs.declared.request.Request.{Request as TheRequest};
+ghost use Rattle.mib_state.specs.After.{after};
+ghost use Rattle.bench_judge.specs.Frames.{AreWithin, MayHave};
+ghost use Rattle.bench_history.specs.declared.event.Event.{Event as TheEvent};
+ghost use Rattle.bench_judge.specs.Sweep.{AreLeast, AreQueuedSoFar, IsSoFar, IsWhole, NoneFit};
+ghost use Rattle.bench_judge.specs.declared.frame.Frame.{Frame as TheFrame};
+
+use crate::frame::Frame;
+use crate::seeing::{Buffers, is_seen};
+use bench_history::Event;
+use forward_plan::Live;
+use omci_msg::Request;
+use std::alloc::{AllocError, Global};
+
+/// How many ports there are: one for each number of 16 bits.
+const PORTS: usize = 65_536;
+
+/// The queues of frames, and the versions that were found so far.
+#[derive(Drop)]
+pub(crate) struct SweepState {
+    // Behind each ended frame, by its number, the next of its queue, or what is no number of a frame.
+    pub(crate) next: Vec<usize>,
+    // For each queue the frame at its head, or what is no number of a frame.
+    pub(crate) waiting: Vec<usize>,
+    // The version of each frame, by its number. It is 0 as long as none is found.
+    pub(crate) versions: Vec<usize>,
+    buffers: Buffers,
+}
+
+/// Whether a frame may have a version, by the entities of that version.
+fn may_have(
+    live: &Live,
+    events: &[Event<'_>],
+    frame: &Frame,
+    version: usize,
+    buffers: &mut Buffers,
+) -> bool
+    ensures { (requests : List TheRequest) → live.now ≡ after (take version requests)
+        → Decides result (MayHave events.now requests frame.now version) }
+{
+    frame.least <= version && version <= frame.most && is_seen(live, events, frame, buffers)
+}
+
+/// Gives the frames at the head of a queue a version, one after the other, as long as they may have it. Whether the frame that is at the
+/// head then, if there is one, may have a greater one by its window.
+fn settle(
+    live: &Live,
+    events: &[Event<'_>],
+    frames: &[Frame],
+    sweep: &mut SweepState,
+    slot: usize,
+    version: usize,
+) -> bool
+    requires slot { slot < length sweep.old.waiting.items }
+    requires whole { IsWhole frames.now sweep.old }
+    ensures whole { IsWhole frames.now sweep.new }
+    ensures slots { length sweep.new.waiting.items ≡ length sweep.old.waiting.items }
+    ensures so_far { (unordered : Bool) (requests : List TheRequest)
+        → live.now ≡ after (take version requests)
+        → IsSoFar unordered events.now requests frames.now version slot sweep.old
+        → MatchBool result
+        (IsSoFar unordered events.now requests frames.now version (suc slot) sweep.new)
+        (NoneFit unordered events.now requests frames.now) }
+{
+    'each_head: while let Some(frame) = frames.get(sweep.waiting[slot]) {
+        if !may_have(live, events, frame, version, &mut sweep.buffers) {
+            return version < frame.most;
+        }
+        let number = sweep.waiting[slot];
+        sweep.versions[number] = version;
+        sweep.waiting[slot] = sweep.next[number];
+    }
+    true
+}
+
+/// Tries a version at each queue. Whether each frame that is at the head of one then may have a greater version by its window.
+fn settle_all(
+    live: &Live,
+    events: &[Event<'_>],
+    frames: &[Frame],
+    sweep: &mut SweepState,
+    version: usize,
+) -> bool
+    requires whole { IsWhole frames.now sweep.old }
+    ensures whole { IsWhole frames.now sweep.new }
+    ensures so_far { (unordered : Bool) (requests : List TheRequest)
+        → live.now ≡ after (take version requests)
+        → IsSoFar unordered events.now requests frames.now version 0 sweep.old
+        → MatchBool result
+        (IsSoFar unordered events.now requests frames.now version
+        (length sweep.new.waiting.items) sweep.new)
+        (NoneFit unordered events.now requests frames.now) }
+{
+    for slot in 0..sweep.waiting.len() {
+        if !settle(live, events, frames, sweep, slot, version) {
+            return false;
+        }
+    }
+    true
+}
+
+/// Whether a frame begins a queue, by the last frame of its port before it, or what is no number of one.
+fn begins_queue(tail: usize, number: usize, unordered: bool) -> bool
+    ensures { result ≡ (unordered || nat_le number tail) }
+{
+    unordered || tail >= number
+}
+
+/// Puts an ended frame behind the last one of its queue, or at the head of a new one.
+fn enqueue(
+    sweep: &mut SweepState,
+    tails: &mut Vec<usize>,
+    number: usize,
+    port: u16,
+    unordered: bool,
+) -> Result<(), AllocError>
+    requires tails { length tails.old.items ≡ 65536 }
+    requires links { number < length sweep.old.next.items }
+    ensures tails { length tails.new.items ≡ 65536 }
+    ensures links { length sweep.new.next.items ≡ length sweep.old.next.items }
+    ensures versions { sweep.new.versions.items ≡ sweep.old.versions.items }
+    ensures queued { (frames : List TheFrame) (frame : TheFrame)
+        → slice_get frames number ≡ Some frame → is_some frame.ended ≡ true → frame.port ≡ port
+        → length sweep.old.next.items ≡ length frames
+        → AreQueuedSoFar unordered frames number tails.old.items sweep.old
+        → IfOk result (λ _.
+        AreQueuedSoFar unordered frames (suc number) tails.new.items sweep.new) }
+{
+    let port = usize::from(port);
+    let tail = tails[port];
+    if begins_queue(tail, number, unordered) {
+        sweep.waiting.push(number)?;
+    } else {
+        sweep.next[tail] = number;
+    }
+    tails[port] = number;
+    Ok(())
+}
+
+/// The queues of frames: one for each port, or for each frame where order doesn't count.
+fn queues(alloc: Global, frames: &[Frame], unordered: bool) -> Result<SweepState, AllocError>
+    ensures whole { IfOk result (IsWhole frames.now) }
+    ensures so_far { IfOk result (λ sweep. (events : List TheEvent) (requests : List TheRequest)
+        → IsSoFar unordered events requests frames.now 0 0 sweep) }
+{
+    let none = frames.len();
+    let mut tails = vec![in alloc; none; PORTS]?;
+    let mut sweep = SweepState {
+        next: vec![in alloc; none; none]?,
+        waiting: Vec::new(alloc),
+        versions: vec![in alloc; 0; none]?,
+        buffers: Buffers::new(),
+    };
+    for (number, frame) in frames.iter().enumerate() {
+        if frame.ended.is_some() {
+            enqueue(&mut sweep, &mut tails, number, frame.port, unordered)?;
+        }
+    }
+    Ok(sweep)
+}
+
+/// The least version of each frame, by its number, where all can be had together; of one that is open it is 0. None where they can't.
+///
+/// It takes time in proportion to the frames, the versions and, for each version, the queues, and memory in proportion to the frames.
+pub(crate) fn sweep(
+    alloc: Global,
+    events: &[Event<'_>],
+    requests: &[Request],
+    frames: &[Frame],
+    unordered: bool,
+) -> Result<Option<Vec<usize>>, AllocError>
+    requires { AreWithin requests.now frames.now }
+    ensures { IfOk result (λ found. MatchOption found
+        (NoneFit unordered events.now requests.now frames.now)
+        (λ versions. AreLeast unordered events.now requests.now frames.now versions.items)) }
+{
+    let mut live = Live::new(alloc)?;
+    let mut sweep = queues(alloc, frames, unordered)?;
+    if !settle_all(&live, events, frames, &mut sweep, 0) {
+        return Ok(None);
+    }
+    for (before, request) in requests.iter().enumerate() {
+        live.apply(request);
+        if !settle_all(&live, events, frames, &mut sweep, before + 1) {
+            return Ok(None);
+        }
+    }
+    let SweepState {
+        next: _,
+        waiting: _,
+        versions,
+        buffers: _,
+    } = sweep;
+    Ok(Some(versions))
+}

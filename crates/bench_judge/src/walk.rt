@@ -1,0 +1,53 @@
+//! The way through events from front to back.
+ghost use Rattle.std.specs.Prelude.{IfOk};
+ghost use Rattle.bench_judge.specs.Walk.{AreInOrder, IsWalk};
+
+use crate::frame::Frame;
+use crate::scene::Scene;
+use bench_history::Event;
+use omci_msg::{Reply, Request};
+use std::alloc::{AllocError, Global};
+
+/// What is known of events up to the first wrong reply, or of all.
+#[derive(Drop)]
+pub(crate) struct Walk {
+    /// How many events were walked. Their replies are right, and where others follow, the next is a wrong reply.
+    pub(crate) walked: usize,
+    /// The frames that they sent.
+    pub(crate) frames: Vec<Frame>,
+    /// The accepted requests among theirs.
+    pub(crate) requests: Vec<Request>,
+    /// The request that the next reply answers, if one waits.
+    pub(crate) awaited: Option<Awaited>,
+}
+
+/// A request that waits for its reply.
+#[derive(Clone, Debug, Drop)]
+pub(crate) struct Awaited {
+    /// The place of the event that sent it.
+    pub(crate) sent: usize,
+    /// What the model replies.
+    pub(crate) reply: Reply,
+}
+
+/// Goes through the events of a history once, from front to back, up to the first wrong reply. Where the contents of replies are looked at
+/// only as modelled, other contents are right.
+///
+/// It takes time and memory in proportion to the events.
+pub(crate) fn walk_through(
+    alloc: Global,
+    events: &[Event<'_>],
+    modelled: bool,
+) -> Result<Walk, AllocError>
+    requires { AreInOrder events.now }
+    ensures { IfOk result (IsWalk modelled events.now) }
+{
+    let mut scene = Scene::new(alloc, modelled)?;
+    for (place, event) in events.iter().enumerate() {
+        if !scene.admits(event) {
+            return Ok(scene.into_walk(place));
+        }
+        scene.add(place, event)?;
+    }
+    Ok(scene.into_walk(events.len()))
+}

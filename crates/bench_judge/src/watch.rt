@@ -1,0 +1,27 @@
+//! Who is told how far a judgement is.
+
+/// How far a judgement is.
+#[derive(Clone, Copy, Debug, PartialEq, Eq)]
+pub enum Stage {
+    /// The history was read: so many lines.
+    Read { lines: usize },
+    /// The events were walked up to the first wrong reply, or all of them: so many frames and accepted requests, for whose versions is
+    /// looked now.
+    Walked { frames: usize, requests: usize },
+    /// The history isn't explained, and the first line that shows it is one of so many: half of them are left out next.
+    Halving { lines: usize },
+}
+
+/// Who is told how far a judgement is. What it does has no part in the judgement.
+pub trait Watch {
+    /// Is told that a judgement has come to a stage.
+    fn reached(&mut self, stage: Stage);
+}
+
+/// Nobody is told.
+#[derive(Drop)]
+pub(crate) struct Nobody;
+
+impl Watch for Nobody {
+    fn reached(&mut self, _stage: Stage) {}
+}
