@@ -1,0 +1,177 @@
+//! What a history shows, as text.
+use crate::answer::{EndWords, RunWords};
+use crate::digits::DigitWords;
+use bench_history::Digits;
+use bench_judge::{
+    Counts, Deviation, Explanation, Judgement, Run, Step, Wrong, WrongFrame, WrongReply,
+};
+use std::alloc::{AllocError, Global};
+use std::io::Write;
+use text_entities::HexWords;
+use text_writing::{TextFault, write_whole};
+
+/// Writes what a history shows.
+///
+/// Of an explained one: how many messages, replies and frames it has, a line for each frame whose least version is greater than that
+/// of all ended frames before it at its port, and `explained`. Of another: the first line that no right unit explains, what was seen
+/// by it, and what the model replies, or what becomes of the frame by each version that is left to it.
+///
+/// A line is made in memory before it is written, and none is kept.
+pub fn write_judgement<W: Write>(
+    alloc: Global,
+    judgement: &Judgement<'_>,
+    writer: &mut W,
+) -> Result<(), TextFault> {
+    match judgement {
+        Judgement::Explained(explanation) => write_explanation(alloc, explanation, writer),
+        Judgement::Deviates(deviation) => write_deviation(alloc, deviation, writer),
+    }
+}
+
+/// Writes what an explained history shows.
+fn write_explanation<W: Write>(
+    alloc: Global,
+    explanation: &Explanation,
+    writer: &mut W,
+) -> Result<(), TextFault> {
+    let counts = counts_of(alloc, &explanation.counts)?;
+    write_whole(writer, counts.as_bytes())?;
+    for step in &explanation.steps {
+        write_step(alloc, step, writer)?;
+    }
+    write_whole(writer, b"explained\n")?;
+    Ok(())
+}
+
+/// The lines of how much a history has of what.
+fn counts_of(alloc: Global, counts: &Counts) -> Result<String, AllocError> {
+    let Counts {
+        messages,
+        accepted,
+        replies,
+        forwarded,
+        dropped,
+        open: unended,
+    } = *counts;
+    let frames = forwarded.saturating_add(dropped).saturating_add(unended);
+    let mut text = String::new(alloc);
+    writeln!(
+        text,
+        "messages {messages} accepted {accepted} replies {replies}"
+    )?;
+    writeln!(
+        text,
+        "frames {frames} forwarded {forwarded} dropped {dropped} open {unended}"
+    )?;
+    Ok(text)
+}
+
+/// Writes the line of a frame whose least version is greater than those before it.
+fn write_step<W: Write>(alloc: Global, step: &Step, writer: &mut W) -> Result<(), TextFault> {
+    let Step {
+        port,
+        version,
+        frame,
+        line,
+    } = *step;
+    let text = format!(in alloc; "port {port} version {version} from frame {frame} line {line}\n")?;
+    write_whole(writer, text.as_bytes())?;
+    Ok(())
+}
+
+/// Writes the first line that no right unit explains.
+fn write_deviation<W: Write>(
+    alloc: Global,
+    deviation: &Deviation<'_>,
+    writer: &mut W,
+) -> Result<(), TextFault> {
+    let line = deviation.line;
+    let front = format!(in alloc; "deviation at line {line}\n")?;
+    write_whole(writer, front.as_bytes())?;
+    match &deviation.wrong {
+        Wrong::Unasked { reply } => {
+            let text = unasked(alloc, reply)?;
+            write_whole(writer, text.as_bytes())?;
+            Ok(())
+        }
+        Wrong::Reply(wrong) => {
+            let text = wrong_reply(alloc, wrong)?;
+            write_whole(writer, text.as_bytes())?;
+            Ok(())
+        }
+        Wrong::Frame(wrong) => write_frame(alloc, wrong, writer),
+    }
+}
+
+/// The lines of a reply that no request waits for.
+fn unasked(alloc: Global, reply: &Digits<'_>) -> Result<String, AllocError> {
+    let mut text = String::new(alloc);
+    text.push_str("a reply, and no request waits for one\n")?;
+    put_seen_reply(&mut text, reply)?;
+    Ok(text)
+}
+
+/// The lines of a reply other than the model's.
+fn wrong_reply(alloc: Global, wrong: &WrongReply<'_>) -> Result<String, AllocError> {
+    let line = wrong.request_line;
+    let mut text = String::new(alloc);
+    writeln!(text, "reply to the request at line {line}")?;
+    put_seen_reply(&mut text, &wrong.reply)?;
+    let bytes = omci_msg::write(&wrong.model);
+    let model = HexWords(&bytes);
+    writeln!(text, "model r {model}")?;
+    Ok(text)
+}
+
+/// Puts the line of a reply that was seen.
+fn put_seen_reply(text: &mut String, reply: &Digits<'_>) -> Result<(), AllocError> {
+    let digits = DigitWords(reply.as_digits());
+    writeln!(text, "seen r {digits}")
+}
+
+/// Writes the lines of a frame that ended as by none of the versions that are left to it.
+fn write_frame<W: Write>(
+    alloc: Global,
+    wrong: &WrongFrame<'_>,
+    writer: &mut W,
+) -> Result<(), TextFault> {
+    let front = frame_front(alloc, wrong)?;
+    write_whole(writer, front.as_bytes())?;
+    if wrong.at_least > wrong.at_most {
+        let text = no_version(alloc, wrong)?;
+        write_whole(writer, text.as_bytes())?;
+        return Ok(());
+    }
+    for run in &wrong.runs {
+        write_run(alloc, run, wrong.sent.as_digits(), writer)?;
+    }
+    Ok(())
+}
+
+/// The lines of which frame it is, and of how it was seen to end.
+fn frame_front(alloc: Global, wrong: &WrongFrame<'_>) -> Result<String, AllocError> {
+    let (number, port, line) = (wrong.number, wrong.port, wrong.sent_line);
+    let seen = EndWords(&wrong.seen);
+    format!(in alloc; "frame {number}, sent into port {port} at line {line}\nseen {seen}\n")
+}
+
+/// The line that no version is left.
+fn no_version(alloc: Global, wrong: &WrongFrame<'_>) -> Result<String, AllocError> {
+    let (least, most) = (wrong.at_least, wrong.at_most);
+    format!(in alloc;
+        "no version is left: at least {least} by frames before it or by what was waited for, at most {most}\n"
+    )
+}
+
+/// Writes the line of a run of versions.
+fn write_run<W: Write>(
+    alloc: Global,
+    run: &Run,
+    sent: &[u8],
+    writer: &mut W,
+) -> Result<(), TextFault> {
+    let words = RunWords { run, sent };
+    let text = format!(in alloc; "{words}\n")?;
+    write_whole(writer, text.as_bytes())?;
+    Ok(())
+}

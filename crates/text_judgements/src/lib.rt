@@ -1,0 +1,12 @@
+//! What a history shows of the unit that it was seen at, as text and as JSON.
+//!
+//! What is said here is found by the crate `bench_judge`, whose contracts tie it to the meaning of histories; this crate writes it.
+#![tactic(auto)]
+
+mod answer;
+mod digits;
+mod judgement_json;
+mod judgement_text;
+
+pub use judgement_json::write_judgement_json;
+pub use judgement_text::write_judgement;
