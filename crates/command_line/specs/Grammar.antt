@@ -59,6 +59,20 @@ frame = record (new_rule (codes "frame")) {
   required = true;
 }
 
+abbrev pub modelled : Rule
+modelled = flag (codes "modelled")
+
+abbrev pub unordered : Rule
+unordered = flag (codes "unordered")
+
+-- a file with a history, which may be left out
+abbrev pub history : Rule
+history = record (new_rule (codes "history")) {
+  action = Some Set;
+  value_names = 1;
+  parser = Some NonEmptyString;
+}
+
 abbrev pub replay : App
 replay = new_app (codes "replay")
 
@@ -85,6 +99,9 @@ rules = at_port (codes "rules")
 abbrev pub explain : App
 explain = with_rule (at_port (codes "explain")) frame
 
+abbrev pub judge : App
+judge = with_rule (with_rule (with_rule (with_rule (new_app (codes "judge")) modelled) unordered) json) history
+
 -- the program alone, which shows its help where no word follows
 abbrev pub alone : App
 alone = record (new_app (codes "onuctl")) {
@@ -100,4 +117,4 @@ abbrev pub with_looking : App → App
 with_looking app = with_subcommand (with_subcommand (with_subcommand (with_subcommand app decode.top) mib.top) rules.top) explain.top
 
 abbrev pub onuctl : App
-onuctl = with_looking (with_doing alone)
+onuctl = with_subcommand (with_looking (with_doing alone)) judge.top

@@ -4,7 +4,7 @@ ghost use Rattle.std.specs.Prelude.{◌≡◌, IfOk, Ok, Some, false, codes};
 ghost use Rattle.clap.specs.Words.{App, Rule, Text, app_of, new_app, rule_of, with_rule, with_subcommand};
 ghost use Rattle.clap.specs.declared.builder.command.Command.TheViews.{out-Command as fields_of};
 ghost use Rattle.clap.specs.declared.builder.value_parser.ValueParser.TheVariants.{NonEmptyString};
-ghost use Rattle.command_line.specs.Grammar.{IsCommand, after, at_port, batch, decode, explain, frame, json, lanes, mib, onuctl, port, replay, rules, run, trace, valued};
+ghost use Rattle.command_line.specs.Grammar.{IsCommand, after, at_port, batch, decode, explain, frame, history, json, judge, lanes, mib, modelled, onuctl, port, replay, rules, run, trace, unordered, valued};
 
 use clap::builder::ValueParser;
 use clap::{Arg, ArgAction, Command, value_parser};
@@ -234,6 +234,58 @@ fn explain<'a>(alloc: Global) -> Result<Command<'a>, AllocError>
     with_arg(at_port(alloc, alone), frame(alloc))
 }
 
+/// Whether the contents of replies are looked at only where the model has the class.
+fn modelled<'a>(alloc: Global) -> Arg<'a>
+    ensures rule { rule_of result ≡ modelled }
+    ensures local { result.global ≡ false }
+{
+    Arg::new(alloc, "modelled")
+        .long("modelled")
+        .action(ArgAction::SetTrue)
+        .help(
+            "Compare contents of replies only for a MIB reset and on classes 130, 171, 266 and 268; has no value [example: --modelled]",
+        )
+}
+
+/// Whether each frame is judged by itself.
+fn unordered<'a>(alloc: Global) -> Arg<'a>
+    ensures rule { rule_of result ≡ unordered }
+    ensures local { result.global ≡ false }
+{
+    Arg::new(alloc, "unordered")
+        .long("unordered")
+        .action(ArgAction::SetTrue)
+        .help(
+            "Judge each frame by itself, for ports that several lanes serve; has no value [example: --unordered]",
+        )
+}
+
+/// The file with a history.
+fn history<'a>(alloc: Global) -> Arg<'a>
+    ensures rule { rule_of result ≡ history }
+    ensures local { result.global ≡ false }
+{
+    Arg::new(alloc, "history")
+        .value_name("FILE")
+        .action(ArgAction::Set)
+        .value_parser(ValueParser::NonEmptyString)
+        .help("History, a file; standard input without it [example: bench.history]")
+}
+
+fn judge<'a>(alloc: Global) -> Result<Command<'a>, AllocError>
+    ensures { IsCommand result judge }
+{
+    let alone = Command::new(alloc, "judge")
+        .about("Say whether a right unit may have done what a history says")
+        .after_help(
+            "Status: 0 if it may, 3 if not, 2 for a bad line, 1 for any other fault\nExample: onuctl judge bench.history",
+        );
+    let of_model = with_arg(Ok(alone), modelled(alloc));
+    let of_order = with_arg(of_model, unordered(alloc));
+    let shown = with_arg(of_order, json(alloc));
+    with_arg(shown, history(alloc))
+}
+
 /// The program with all that it can be asked for.
 pub fn onuctl<'a>(alloc: Global) -> Result<Command<'a>, AllocError>
     ensures { IfOk result (λ command. app_of command ≡ onuctl) }
@@ -248,5 +300,6 @@ pub fn onuctl<'a>(alloc: Global) -> Result<Command<'a>, AllocError>
     let decoding = with_sub(forwarding, decode(alloc));
     let showing = with_sub(decoding, mib(alloc));
     let listing = with_sub(showing, rules(alloc));
-    with_sub(listing, explain(alloc))
+    let explaining = with_sub(listing, explain(alloc));
+    with_sub(explaining, judge(alloc))
 }

@@ -8,4 +8,4 @@ mod words;
 
 pub use reading::read_words;
 pub use report::report_words;
-pub use words::{ExplainWords, MibWords, RulesWords, RunWords, Words};
+pub use words::{ExplainWords, JudgeWords, MibWords, RulesWords, RunWords, Words};

@@ -2,7 +2,7 @@
 ghost use Rattle.std.specs.Prelude.{◌≡◌, ◌≤◌, IfErr, IfNone, IfOk, IfSome};
 ghost use Rattle.clap.specs.Words.{app_of, found_of, rows_of, subcommand_of, subcommand_rows_of};
 ghost use Rattle.clap.specs.Walk.{texts};
-ghost use Rattle.command_line.specs.Asked.{IsAskedBy, IsExplain, IsMib, IsRules, IsRun};
+ghost use Rattle.command_line.specs.Asked.{IsAskedBy, IsExplain, IsJudge, IsMib, IsRules, IsRun};
 ghost use Rattle.command_line.specs.Refused.{IsRightlyRefused};
 ghost use Rattle.command_line.specs.declared.words.Words.{Words};
 ghost use Rattle.command_line.specs.declared.words.RunWords.{RunWords};
@@ -13,7 +13,7 @@ ghost use Rattle.command_line.specs.Grammar.{onuctl};
 ghost use Rattle.command_line.specs.Range.{AreInRange, IsInRange};
 
 use crate::grammar::onuctl;
-use crate::words::{ExplainWords, MibWords, RulesWords, RunWords, Words};
+use crate::words::{ExplainWords, JudgeWords, MibWords, RulesWords, RunWords, Words};
 use clap::error::ErrorKind;
 use clap::{ArgMatches, Command, Error};
 use run_settings::RunSettings;
@@ -78,6 +78,18 @@ fn read_explain<'a>(given: &ArgMatches<'a>) -> Option<ExplainWords<'a>>
     })
 }
 
+/// What the words behind `judge` ask for.
+fn read_judge<'a>(given: &ArgMatches<'a>) -> JudgeWords<'a>
+    ensures { IsJudge (rows_of (found_of given.now)) result }
+{
+    JudgeWords {
+        file: given.get_str("history"),
+        modelled: given.get_flag("modelled"),
+        unordered: given.get_flag("unordered"),
+        json: given.get_flag("json"),
+    }
+}
+
 /// What a parse asks for; None where a value is missing, or no number in its range.
 fn read_matches<'a>(matches: &ArgMatches<'a>) -> Option<Words<'a>>
     ensures asked { IfSome result (IsAskedBy (subcommand_rows_of matches.now)) }
@@ -100,8 +112,11 @@ fn read_matches<'a>(matches: &ArgMatches<'a>) -> Option<Words<'a>>
     if let Some(given) = matches.subcommand_matches("rules") {
         return Some(Words::Rules(read_rules(given)?));
     }
-    let given = matches.subcommand_matches("explain")?;
-    Some(Words::Explain(read_explain(given)?))
+    if let Some(given) = matches.subcommand_matches("explain") {
+        return Some(Words::Explain(read_explain(given)?));
+    }
+    let given = matches.subcommand_matches("judge")?;
+    Some(Words::Judge(read_judge(given)))
 }
 
 /// What these words ask for, as a command takes them apart that has the program's grammar.

@@ -16,6 +16,8 @@ pub enum Words<'a> {
     Rules(RulesWords<'a>),
     /// What becomes of one frame after a trace.
     Explain(ExplainWords<'a>),
+    /// Whether a right unit may have done what a history says.
+    Judge(JudgeWords<'a>),
 }
 
 /// What `run` is to do.
@@ -58,6 +60,19 @@ pub struct ExplainWords<'a> {
     pub port: u16,
     /// The bytes of the frame, in hexadecimal digits if it is one.
     pub frame: &'a str,
+    /// Whether it is shown as JSON.
+    pub json: bool,
+}
+
+/// What `judge` is to judge.
+#[derive(Clone, Copy, Debug, PartialEq, Eq)]
+pub struct JudgeWords<'a> {
+    /// The file with the history, or None for standard input.
+    pub file: Option<&'a str>,
+    /// Whether the contents of replies are looked at only where the model has the class and the action.
+    pub modelled: bool,
+    /// Whether each frame is judged by itself.
+    pub unordered: bool,
     /// Whether it is shown as JSON.
     pub json: bool,
 }

@@ -1,7 +1,9 @@
 //! Words and what they ask for. What the program says of each word that is refused, and each help, `examples/hostile` compares.
 
 use clap::Error;
-use command_line::{ExplainWords, MibWords, RulesWords, RunWords, Words, read_words, report_words};
+use command_line::{
+    ExplainWords, JudgeWords, MibWords, RulesWords, RunWords, Words, read_words, report_words,
+};
 use run_settings::RunSettings;
 use std::alloc::AllocError;
 use std::test::Fail;
@@ -19,6 +21,7 @@ Commands:
   mib      Show the managed entities after a trace
   rules    Show the VLAN tagging table in force at a port after a trace
   explain  Say step by step what becomes of one frame after a trace
+  judge    Say whether a right unit may have done what a history says
   help     Print this message or the help of the given subcommand(s)
 
 Options:
@@ -132,6 +135,45 @@ fn words_ask_to_look_inside(rt: HostRuntime) -> Result<(), Fail> {
         ),
     ] {
         same!(rt; read_words(rt.alloc(), words)?, asked, "{words:?}");
+    }
+    Ok(())
+}
+
+#[test]
+fn words_ask_for_a_judgement(rt: HostRuntime) -> Result<(), Fail> {
+    let plain = JudgeWords {
+        file: None,
+        modelled: false,
+        unordered: false,
+        json: false,
+    };
+    for (words, asked) in [
+        (&["onuctl", "judge"][..], plain),
+        (
+            &["onuctl", "judge", "--modelled", "h"][..],
+            JudgeWords {
+                file: Some("h"),
+                modelled: true,
+                ..plain
+            },
+        ),
+        (
+            &["onuctl", "judge", "h", "--unordered"][..],
+            JudgeWords {
+                file: Some("h"),
+                unordered: true,
+                ..plain
+            },
+        ),
+        (
+            &["onuctl", "judge", "--json"][..],
+            JudgeWords {
+                json: true,
+                ..plain
+            },
+        ),
+    ] {
+        same!(rt; read_words(rt.alloc(), words)?, Words::Judge(asked), "{words:?}");
     }
     Ok(())
 }

@@ -9,4 +9,5 @@ returns c =
     let decoding = c.with_sub-decoding.ensures _ _ forwarding c.decode.ensures in
     let showing = c.with_sub-showing.ensures _ _ decoding c.mib.ensures in
     let listing = c.with_sub-listing.ensures _ _ showing c.rules.ensures in
-    c.with_sub.ensures _ _ listing c.explain.ensures
+    let explaining = c.with_sub-explaining.ensures _ _ listing c.explain.ensures in
+    c.with_sub.ensures _ _ explaining c.judge.ensures
