@@ -2,10 +2,13 @@
 #![tactic(auto)]
 
 mod files;
+mod judge_progress;
+mod judging;
 mod looking;
 mod running;
 
 use command_line::{Words, read_words, report_words};
+use judging::judge_history;
 use looking::{decode_lines, explain_frame, show_mib, show_rules};
 use running::run;
 use script_replay::{replay, report_replay};
@@ -63,6 +66,7 @@ fn answer<
         Ok(Words::Mib(words)) => show_mib(rt, &words, out, err),
         Ok(Words::Rules(words)) => show_rules(rt, &words, out, err),
         Ok(Words::Explain(words)) => explain_frame(rt, &words, out, err),
+        Ok(Words::Judge(words)) => judge_history(rt, &words, input, out, err),
         Err(error) => report_words(&error, out, err),
     }
 }

@@ -1,0 +1,119 @@
+//! Whether a right unit may have done what a history says.
+use crate::files::{read_whole, report_unread};
+use crate::judge_progress::Shown;
+use bench_judge::{JudgeFault, JudgeSettings, Judgement, judge_watched};
+use command_line::JudgeWords;
+use std::alloc::Global;
+use std::io::{ErrorKind, IsTerminal, Read, Write};
+use std::rt::Files;
+use text_judgements::{write_judgement, write_judgement_json};
+use text_writing::{LookFault, TextFault, report_look};
+
+/// The status where a history isn't explained.
+const DEVIATES: u8 = 3;
+
+/// Why a history isn't judged.
+fn judge_fault(fault: JudgeFault) -> LookFault {
+    match fault {
+        JudgeFault::BadLine(line) => LookFault::BadLine(line),
+        JudgeFault::NoMemory => LookFault::NoMemory,
+    }
+}
+
+/// All that a reader gives.
+fn read_input<I: Read>(alloc: Global, input: &mut I) -> Result<Vec<u8>, LookFault> {
+    let mut history = Vec::new(alloc);
+    match input.read_to_end(&mut history) {
+        Ok(_) => Ok(history),
+        Err(error) if error.kind() == ErrorKind::OutOfMemory => Err(LookFault::NoMemory),
+        Err(_) => Err(LookFault::Read),
+    }
+}
+
+/// The history that the words name, or the status where it can't be had; why is written to `err`.
+fn history_of<R: Files + Alloc<A = Global>, I: Read, E: Write>(
+    rt: &R,
+    file: Option<&str>,
+    input: &mut I,
+    err: &mut E,
+) -> Result<Vec<u8>, u8> {
+    match file {
+        Some(path) => match read_whole(rt, path) {
+            Ok(history) => Ok(history),
+            Err(error) => Err(report_unread(&error, b"cannot read history\n", err)),
+        },
+        None => match read_input(rt.alloc(), input) {
+            Ok(history) => Ok(history),
+            Err(fault) => Err(report_look(&Err(fault), err)),
+        },
+    }
+}
+
+/// Writes what a history shows, as text or as JSON.
+fn write_found<O: Write>(
+    alloc: Global,
+    words: &JudgeWords,
+    found: &Judgement<'_>,
+    out: &mut O,
+) -> Result<(), TextFault> {
+    if words.json {
+        write_judgement_json(alloc, found, out)
+    } else {
+        write_judgement(alloc, found, out)
+    }
+}
+
+/// Judges a history, and shows on `err` meanwhile how far that is, where it is a terminal and the history long.
+fn judge_shown<'a, E: Write + IsTerminal>(
+    alloc: Global,
+    words: &JudgeWords,
+    history: &'a [u8],
+    err: &mut E,
+) -> Result<Judgement<'a>, LookFault> {
+    let settings = JudgeSettings {
+        modelled: words.modelled,
+        unordered: words.unordered,
+    };
+    let mut shown = Shown::new(err);
+    let found = judge_watched(alloc, history, &settings, &mut shown);
+    shown.end();
+    match found {
+        Ok(found) => Ok(found),
+        Err(fault) => Err(judge_fault(fault)),
+    }
+}
+
+/// Judges a history, and writes what it shows to `out`. It gives the status where nothing is wrong with the call.
+fn judge_text<O: Write, E: Write + IsTerminal>(
+    alloc: Global,
+    words: &JudgeWords,
+    history: &[u8],
+    out: &mut O,
+    err: &mut E,
+) -> Result<u8, LookFault> {
+    let found = judge_shown(alloc, words, history, err)?;
+    write_found(alloc, words, &found, out)?;
+    match found {
+        Judgement::Explained(_) => Ok(0),
+        Judgement::Deviates(_) => Ok(DEVIATES),
+    }
+}
+
+/// Reads a history whole, from its file or from `input`, and writes what it shows to `out`, and why nothing, or not all, to `err`. It
+/// gives the status.
+pub fn judge_history<R: Files + Alloc<A = Global>, I: Read, O: Write, E: Write + IsTerminal>(
+    rt: &R,
+    words: &JudgeWords,
+    input: &mut I,
+    out: &mut O,
+    err: &mut E,
+) -> u8 {
+    let history = match history_of(rt, words.file, input, err) {
+        Ok(history) => history,
+        Err(status) => return status,
+    };
+    match judge_text(rt.alloc(), words, &history, out, err) {
+        Ok(status) => status,
+        Err(fault) => report_look(&Err(fault), err),
+    }
+}
