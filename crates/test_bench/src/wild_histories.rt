@@ -47,7 +47,7 @@ fn piece_together(alloc: Global, bytes: &[u8]) -> Result<Vec<u8>, AllocError> {
 }
 
 /// A history of pieces, changed or not.
-fn draw_near(draws: &mut Draws, alloc: Global) -> Result<Vec<u8>, AllocError> {
+pub(crate) fn draw_near(draws: &mut Draws, alloc: Global) -> Result<Vec<u8>, AllocError> {
     let frame = draws.wild_frame(alloc)?;
     let mut history = piece_together(alloc, &frame)?;
     draws.change(&mut history)?;

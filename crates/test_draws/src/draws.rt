@@ -26,9 +26,17 @@ impl Draws {
     }
 
     /// One of some choices.
-    pub(crate) fn of<T: Copy>(&mut self, choices: &[T]) -> T
+    pub fn of<T: Copy>(&mut self, choices: &[T]) -> T
         requires { 0 < length choices.now }
     {
         choices[(self.next() % choices.len() as u64) as usize]
+    }
+
+    /// A number under a bound, or 0 where the bound is 0.
+    pub fn under(&mut self, bound: usize) -> usize {
+        if bound == 0 {
+            return 0;
+        }
+        (self.next() % bound as u64) as usize
     }
 }

@@ -13,6 +13,7 @@ mod control;
 mod counts;
 mod entities;
 mod forwarding;
+mod judging;
 mod memory;
 mod requests;
 mod runs;
@@ -33,6 +34,7 @@ fn make_calls<R: Threads + Wait + Sync + Print>(rt: &R, memory: &Memory) {
     forwarding::make_calls(rt, memory);
     control::make_calls(rt, memory);
     runs::make_calls(rt, memory);
+    judging::make_calls(rt, memory);
 }
 
 fn main(rt: HostRuntime) -> ExitCode {
