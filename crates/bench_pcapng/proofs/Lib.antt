@@ -1,0 +1,4 @@
+pub mod Examples
+pub mod OptionWalk
+pub mod Powers
+pub mod Readings

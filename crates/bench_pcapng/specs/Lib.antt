@@ -1,0 +1,11 @@
+pub mod Blocks
+pub mod Captured
+pub mod Effects
+pub mod Fault
+pub mod Interfaces
+pub mod Numbers
+pub mod Packets
+pub mod Reading
+pub mod Sections
+pub mod Times
+pub mod Walks

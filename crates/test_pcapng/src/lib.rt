@@ -1,0 +1,5 @@
+//! Tests of captures in the pcapng format, bench_pcapng.
+#![tactic(auto)]
+
+#[cfg(test)]
+mod pcapng_tests;
