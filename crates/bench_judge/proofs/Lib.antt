@@ -9,7 +9,6 @@ pub mod Deviations
 pub mod Endings
 pub mod Found
 pub mod Fronts
-pub mod Heads
 pub mod InOrder
 pub mod Joined
 pub mod Least

@@ -13,8 +13,8 @@ use Rattle.frame_meaning.specs.declared.verdict.Verdict.TheVariants.{Forward, Dr
 use Rattle.bench_history.specs.declared.event.Event.{Event}
 use Rattle.bench_history.specs.declared.event.Event.TheVariants.{Sent, Replied, Entered, Left, Dropped, Waited, Nothing}
 use Rattle.bench_judge.specs.Explained.{IsSeenAs}
-use Rattle.bench_judge.specs.Heads.{IsHeadOf}
-use Rattle.bench_judge.proofs.Heads.{meant_by_head, rest_within, with_rest}
+use Rattle.script_heads.specs.Heads.{IsHeadOf}
+use Rattle.script_heads.proofs.Heads.{meant_by_head, rest_within, with_rest}
 
 -- the rest that leaves is no longer than the frame that came
 pub rest_fits : (e : Entities) (port : ℕ) (digits bytes head : List ℕ) (gem : ℕ) (frame : Reading) → decode_of digits ≡ Ok bytes → IsHeadOf bytes head

@@ -3,7 +3,6 @@ pub mod Replies
 pub mod Windows
 pub mod Explained
 pub mod Frames
-pub mod Heads
 pub mod Sweep
 pub mod Walk
 pub mod Scene

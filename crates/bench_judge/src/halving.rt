@@ -13,7 +13,8 @@ use bench_history::Event;
 use omci_msg::Request;
 use std::alloc::{AllocError, Global};
 
-/// The place of the first event that leaves no choice, where all that were walked have none.
+/// The place of the first event that leaves no choice, where all that were walked have none. It is looked for from the end, by steps
+/// that double until events have a choice, and then by halving: a history is mostly recorded until it deviates.
 pub(crate) fn turn<W: Watch>(
     alloc: Global,
     events: &[Event<'_>],
@@ -27,13 +28,16 @@ pub(crate) fn turn<W: Watch>(
 {
     let mut low = 0;
     let mut high = walk.walked;
+    let mut step = 1;
     while high - low > 1 {
         watch.reached(Stage::Halving { lines: high - low });
-        let middle = low + (high - low) / 2;
+        let back = step.min((high - low) / 2);
+        let middle = high - back;
         if least_until(alloc, events, walk, unordered, middle)?.is_some() {
             low = middle;
         } else {
             high = middle;
+            step = 2 * back;
         }
     }
     Ok(low)

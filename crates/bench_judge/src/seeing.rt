@@ -8,18 +8,13 @@ ghost use Rattle.tag_view.specs.Tag.{tag_bytes};
 ghost use Rattle.frame_meaning.specs.Meaning.{meaning};
 ghost use Rattle.bench_judge.specs.Explained.{IsSeenAs};
 ghost use Rattle.bench_judge.specs.Frames.{IsSeenBy};
-ghost use Rattle.bench_judge.specs.Heads.{IsHeadOf};
 
 use crate::frame::Frame;
 use bench_history::{Digits, Event};
 use forward_plan::{Live, OutFrame, Verdict};
-use script_digits::read_digits;
+use script_heads::read_head;
 use script_lines::{MOST_SPELLED, read_bytes};
 use tag_view::Tag;
-
-/// How many bytes of a frame decide what becomes of it: its addresses, two tags, a type, and the front of an IP header that has the
-/// DSCP.
-const HEAD: usize = 24;
 
 /// Room for a frame as it was sent and for one as it was seen.
 #[derive(Drop)]
@@ -36,17 +31,6 @@ impl Buffers {
             seen: [0; MOST_SPELLED],
         }
     }
-}
-
-/// As many bytes as digits spell, of which the first are those that they spell. What the others are is left open.
-fn read_head<'b>(digits: &[u8], buffer: &'b mut [u8; MOST_SPELLED]) -> &'b [u8]
-    requires { length digits.now ≤ 20000 }
-    ensures { (bytes : List ℕ) → decode_of digits.now ≡ Ok bytes → IsHeadOf bytes result.now }
-{
-    let count = digits.len() / 2;
-    let known = count.min(HEAD);
-    read_digits(digits.split_at(2 * known).0, &mut buffer[..known]);
-    &buffer[..count]
 }
 
 /// Whether characters are the same in lower case.

@@ -1,7 +1,6 @@
 pub mod Answering
 pub mod Ends
 pub mod Finished
-pub mod Heads
 pub mod Held
 pub mod Messages
 pub mod Replaying

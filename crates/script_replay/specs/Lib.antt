@@ -1,7 +1,6 @@
 pub mod Answers
 pub mod Fault
 pub mod Finish
-pub mod Heads
 pub mod Replay
 pub mod Report
 pub mod Room

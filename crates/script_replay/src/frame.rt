@@ -4,7 +4,6 @@ ghost use Rattle.std.specs.Prelude.{◌≡◌, ◌+◌, ◌*◌, ◌≤◌, ◌+
 ghost use Rattle.frame_meaning.specs.Meaning.{meaning};
 ghost use Rattle.hex.specs.Hex.{decode_of, encode_lower};
 ghost use Rattle.script_replay.specs.Answers.{dropped_line, forwarded_line, verdict_line};
-ghost use Rattle.script_replay.specs.Heads.{IsHeadOf};
 ghost use Rattle.std.specs.List.{flat_map};
 ghost use Rattle.tag_view.specs.Frame.{spelled};
 ghost use Rattle.tag_view.specs.Tag.{tag_bytes};
@@ -13,13 +12,10 @@ use crate::answer::{put, put_digits};
 use crate::onu::Onu;
 use forward_plan::{OutFrame, Reason, Verdict};
 use itoa::Buffer;
-use script_digits::{make_lower, read_digits};
+use script_digits::make_lower;
+use script_heads::read_head;
 use script_lines::MOST_SPELLED;
 use tag_view::Tag;
-
-/// How many bytes of a frame decide what becomes of it: its addresses, two tags, a type, and the front of an IP header that has the
-/// DSCP.
-const HEAD: usize = 24;
 
 /// Puts digits behind the answers so far, in lower case.
 fn put_lower(answers: &mut Vec<u8>, digits: &[u8])
@@ -81,17 +77,6 @@ fn put_dropped(answers: &mut Vec<u8>, reason: Reason)
 {
     put(answers, b"d ");
     put(answers, &[b'0' + reason.code(), b'\n']);
-}
-
-/// As many bytes as digits spell, of which the first are those that they spell. What the others are is left open.
-fn read_head<'b>(digits: &[u8], buffer: &'b mut [u8; MOST_SPELLED]) -> &'b [u8]
-    requires { length digits.now ≤ 20000 }
-    ensures { (bytes : List ℕ) → decode_of digits.now ≡ Ok bytes → IsHeadOf bytes result.now }
-{
-    let count = digits.len() / 2;
-    let known = count.min(HEAD);
-    read_digits(digits.split_at(2 * known).0, &mut buffer[..known]);
-    &buffer[..count]
 }
 
 /// Forwards the frame that digits spell, and puts what became of it behind the answers so far. There is

@@ -13,6 +13,7 @@ loop-high-init g c =
     record {
       apart = some_walked c.args.unordered c.args.events.now c.args.walk.now.walked c.requires.none;
       within = omega arith;
+      some = omega arith;
       low = ((λ n. 0), no_events c.args.unordered (λ n. 0));
       high = c.requires.none;
     }

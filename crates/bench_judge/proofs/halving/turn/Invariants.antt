@@ -6,6 +6,7 @@ abbrev pub invariant-loop-high : goal.invariant-loop-high
 invariant-loop-high g l = record {
   apart : l.low < l.high;
   within : l.high ≤ l.walk.walked;
+  some : 0 < l.step;
   low : HasChoice l.unordered (take l.low l.events);
   high : ¬ (HasChoice l.unordered (take l.high l.events));
 }

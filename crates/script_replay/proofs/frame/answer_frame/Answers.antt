@@ -8,8 +8,8 @@ use Rattle.mib_state.specs.Entities.{Entities}
 use Rattle.tag_view.specs.Frame.{Reading}
 use Rattle.script_digits.proofs.Digits.{spelled_rest}
 use Rattle.script_replay.specs.Answers.{verdict_line}
-use Rattle.script_replay.specs.Heads.{IsHeadOf}
-use Rattle.script_replay.proofs.Heads.{meant_by_head, rest_within, with_rest}
+use Rattle.script_heads.specs.Heads.{IsHeadOf}
+use Rattle.script_heads.proofs.Heads.{meant_by_head, rest_within, with_rest}
 use Rattle.script_replay.proofs.Messages.{frame_length}
 use Rattle.script_replay.proofs.frame.answer_frame.Goals as goal
 

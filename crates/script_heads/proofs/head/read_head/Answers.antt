@@ -4,8 +4,8 @@ use Rattle.hex.specs.Hex.{decode_of, decode_sized}
 use Rattle.hex.specs.declared.error.FromHexError.{FromHexError}
 use Rattle.hex.proofs.HexLemmas.{decode_of-ok, decode_sized-twice}
 use Rattle.script_digits.proofs.Digits.{spelled_front}
-use Rattle.bench_judge.proofs.Heads.{head_read}
-use Rattle.bench_judge.proofs.seeing.read_head.Goals as goal
+use Rattle.script_heads.proofs.Heads.{head_read}
+use Rattle.script_heads.proofs.head.read_head.Goals as goal
 
 pub returns : goal.returns
 returns c bytes is =

@@ -14,7 +14,7 @@ use Rattle.frame_meaning.specs.declared.reason.Reason.{Reason}
 use Rattle.frame_meaning.specs.declared.verdict.Verdict.{Verdict}
 use Rattle.frame_meaning.specs.declared.verdict.Verdict.TheVariants.{Forward, Drop}
 use Rattle.mib_state.specs.Entities.{Entities}
-use Rattle.bench_judge.specs.Heads.{IsHeadOf}
+use Rattle.script_heads.specs.Heads.{IsHeadOf}
 
 -- ---- what begins alike
 
