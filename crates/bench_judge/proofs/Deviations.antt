@@ -7,7 +7,7 @@ use Rattle.bench_history.specs.declared.event.Event.{Event}
 use Rattle.bench_history.specs.declared.event.Event.TheVariants.{Sent, Replied, Entered, Left, Dropped, Waited, Nothing}
 use Rattle.bench_judge.specs.Explained.{EndedFrame, IsEnded}
 use Rattle.bench_judge.specs.Frames.{AreFrames, FitsLeast, IsKeptIn, IsKeptOf}
-use Rattle.bench_judge.specs.Cut.{IsGreatestFit}
+use Rattle.bench_judge.specs.Cut.{IsGreatestFit, Suits}
 use Rattle.bench_judge.specs.Bounds.{HasEndedAt, IsFirstOf, IsLastOf, IsLeastLeft, IsMostLeft}
 use Rattle.bench_judge.specs.Judged.{IsAtLeast, IsAtMost, IsFirstBehind, IsGreatestVersion, IsLastBefore, IsLeastVersion}
 use Rattle.bench_judge.specs.declared.frame.Frame.{Frame}
@@ -70,7 +70,7 @@ module _ (k : ℕ) (all : List Event) (requests : List Request) (begins : BeginW
         }
 
     -- the least version that is left
-    pub at_least_is : (unordered : Bool) (versions : ℕ → ℕ) (least bound : ℕ) → FitsLeast unordered all requests frames versions
+    pub at_least_is : (unordered : Bool) (versions : ℕ → ℕ) (least bound : ℕ) → Suits unordered all requests frames versions
         → IsLeastLeft unordered frames versions f.port f.number least bound → IsAtLeast unordered events f least bound
     at_least_is true versions least bound fits left =
         record { alone = λ is. left; behind = λ bad. absurd (cc bad); first = λ bad. absurd (cc bad) }
@@ -79,7 +79,7 @@ module _ (k : ℕ) (all : List Event) (requests : List Request) (begins : BeginW
           alone = λ bad. absurd (cc bad);
           behind = λ order g before.
               let same = last_is n g last before in
-              (versions g.number, least_version versions g fits before.ended, is ∙ ap (λ m. max least (versions m)) same);
+              (versions g.number, least_version versions g (fits.1 refl) before.ended, is ∙ ap (λ m. max least (versions m)) same);
           first = λ order none. absurd (let g = last_before_is n last in none g.0 g.1);
         }
     at_least_is false versions least bound fits (None, last, is) =

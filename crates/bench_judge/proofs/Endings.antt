@@ -16,8 +16,7 @@ use Rattle.bench_judge.specs.Windows.{least_behind, most_behind}
 use Rattle.bench_judge.specs.Explained.{EndedFrame, IsEnded}
 use Rattle.bench_judge.specs.Frames.{AreFrames, AreWithin, FitsLeast, IsKeptIn}
 use Rattle.bench_judge.specs.Bounds.{IsLeastLeft, IsMostLeft}
-use Rattle.bench_judge.specs.Cut.{IsSwept, IsTurn, until}
-use Rattle.bench_judge.specs.Sweep.{AreLeast}
+use Rattle.bench_judge.specs.Cut.{IsFitted, IsTurn, Suits, until}
 use Rattle.bench_judge.specs.Judged.{AreRuns, IsAtLeast, IsAtMost, IsEndAs, IsWrongFrame}
 use Rattle.bench_judge.specs.Walk.{AreInOrder, IsWalk}
 use Rattle.bench_judge.specs.declared.frame.Frame.{Frame}
@@ -115,7 +114,7 @@ module _ (settings : JudgeSettings) (events : List Event) (walk : Walk) (place :
     begins : BeginWith requests (take place events)
     begins = begin_shorter place walk.walked events requests (omega (arith, lt)) accepts
 
-    pub not_none : IsSwept settings.unordered events requests frames None → ⊥
+    pub not_none : IsFitted settings.unordered events requests frames None → ⊥
     not_none none = none turn.before.0 (fits_of_choice place events requests begins settings.unordered frames turn.before.0 cut_are turn.before.1)
 
     pub cut_long : (n : ℕ) → n ≡ f.number → n < length frames
@@ -142,7 +141,7 @@ module _ (settings : JudgeSettings) (events : List Event) (walk : Walk) (place :
 
     -- all of it together
     pub wrong_frame_is : (n : ℕ) (frame : Frame) (versions : ℕ → ℕ) (at_least at_most : ℕ) (sent : List ℕ) (end : End) (runs : Vec Run Global)
-        → n ≡ f.number → frame ≡ kept.frame → FitsLeast settings.unordered events requests frames versions
+        → n ≡ f.number → frame ≡ kept.frame → Suits settings.unordered events requests frames versions
         → IsLeastLeft settings.unordered frames versions frame.port n frame.least at_least
         → IsMostLeft settings.unordered events requests frames frame.port n frame.most at_most
         → sent ≡ f.bytes → IsEndAs f.seen end
@@ -178,7 +177,7 @@ module _ (settings : JudgeSettings) (events : List Event) (walk : Walk) (place :
     pub wrong_frame_by : (n : ℕ) (frame : Frame) (at_least at_most : ℕ) (sent : List ℕ) (end : End) (runs : Vec Run Global)
         → n ≡ f.number → frame ≡ kept.frame
         → (swept_requests : List Request) (swept_frames : List Frame) (found : Option (Vec ℕ Global)) (versions : Vec ℕ Global)
-        → swept_requests ≡ requests → swept_frames ≡ frames → found ≡ Some versions → IsSwept settings.unordered events swept_requests swept_frames found
+        → swept_requests ≡ requests → swept_frames ≡ frames → found ≡ Some versions → IsFitted settings.unordered events swept_requests swept_frames found
         → (given : List ℕ) → given ≡ versions.items
         → IsLeastLeft settings.unordered frames (slice_index given) frame.port n frame.least at_least
         → IsMostLeft settings.unordered events requests frames frame.port n frame.most at_most
@@ -189,11 +188,11 @@ module _ (settings : JudgeSettings) (events : List Event) (walk : Walk) (place :
         (record { number = n; port = frame.port; sent_line = frame.sent + 1; sent = sent; seen = end; at_least = at_least; at_most = at_most; runs = runs })
     wrong_frame_by n frame at_least at_most sent end runs number is swept_requests swept_frames found versions same_r same_f some swept given same_v least most bytes ended
         run_requests run_bytes same_run same_bytes are =
-        let fits : AreLeast settings.unordered events requests frames versions.items =
-        subst (λ r. AreLeast settings.unordered events r frames versions.items) same_r
-        (subst (λ fs. AreLeast settings.unordered events swept_requests fs versions.items) same_f
-        (subst (IsSwept settings.unordered events swept_requests swept_frames) some swept)) in
-        wrong_frame_is n frame (slice_index versions.items) at_least at_most sent end runs number is fits.least
+        let fits : Suits settings.unordered events requests frames (slice_index versions.items) =
+        subst (λ r. Suits settings.unordered events r frames (slice_index versions.items)) same_r
+        (subst (λ fs. Suits settings.unordered events swept_requests fs (slice_index versions.items)) same_f
+        (subst (IsFitted settings.unordered events swept_requests swept_frames) some swept)) in
+        wrong_frame_is n frame (slice_index versions.items) at_least at_most sent end runs number is fits
         (subst (λ l. IsLeastLeft settings.unordered frames (slice_index l) frame.port n frame.least at_least) same_v least) most bytes ended
         (subst (λ r. AreRuns (λ v. meaning (after (take v r)) frame.port sent) sent at_least at_most runs.items) same_run
         (subst (λ b. AreRuns (λ v. meaning (after (take v run_requests)) frame.port b) b at_least at_most runs.items) same_bytes are))

@@ -4,7 +4,7 @@ use Rattle.std.specs.declared.alloc.Global.{Global}
 use Rattle.bench_history.specs.declared.event.Event.{Event}
 use Rattle.bench_history.specs.declared.event.Event.TheVariants.{Entered}
 use Rattle.bench_judge.specs.Bounds.{AreSent, AreStepsUnder}
-use Rattle.bench_judge.specs.Cut.{HasChoice, IsLeastOf, IsTurn, by_number}
+use Rattle.bench_judge.specs.Cut.{HasChoice, IsChosen, IsGoodChoice, IsTurn, by_number}
 use Rattle.bench_judge.specs.Explained.{IsLeastChoice}
 use Rattle.bench_judge.specs.Frames.{AreFrames, IsKeptOf}
 use Rattle.bench_judge.specs.Judged.{AreCounts, IsDeviation, IsExplanation, IsFirstUnexplained, IsWrongAt}
@@ -51,16 +51,16 @@ module _ (settings : JudgeSettings) (events : List Event) (walk : Walk) (known :
             (explained.replies walk.walked w.bytes (front_has (walk.walked + 1) walk.walked events (omega arith) ∙ w.replied)));
       }
 
-  choice_of : (found : Option (Vec ℕ Global)) (versions : Vec ℕ Global) → found ≡ Some versions → IsLeastOf settings.unordered (take walk.walked events) found
-      → IsLeastChoice settings.unordered (take walk.walked events) (by_number versions)
-  choice_of found versions is least = subst (IsLeastOf settings.unordered (take walk.walked events)) is least
+  choice_of : (found : Option (Vec ℕ Global)) (versions : Vec ℕ Global) → found ≡ Some versions → IsChosen settings.unordered (take walk.walked events) found
+      → IsGoodChoice settings.unordered (take walk.walked events) (by_number versions)
+  choice_of found versions is least = subst (IsChosen settings.unordered (take walk.walked events)) is least
 
   pub reply_deviates : (wrong : Wrong) (found : Option (Vec ℕ Global)) (versions : Vec ℕ Global) → found ≡ Some versions
-      → IsLeastOf settings.unordered (take walk.walked events) found → walk.walked < length events → IsWrongAt settings events walk.walked wrong
+      → IsChosen settings.unordered (take walk.walked events) found → walk.walked < length events → IsWrongAt settings events walk.walked wrong
       → IsDeviation settings events (record { line = walk.walked + 1; wrong = wrong })
   reply_deviates wrong found versions is least within at =
       let choice = choice_of found versions is least in
-      record { place = walk.walked; line = refl; first = first_reply within (by_number versions, choice.choice); wrong = at }
+      record { place = walk.walked; line = refl; first = first_reply within (by_number versions, choice.0); wrong = at }
 
   -- ended frames were sent by lines with a number
   pub frames_sent : (frames : List Frame) → frames ≡ walk.frames.items → length events < 18446744073709551616 → AreSent frames
@@ -71,27 +71,29 @@ module _ (settings : JudgeSettings) (events : List Event) (walk : Walk) (known :
 
   -- all are explained
   pub all_explained : (counts : Counts) (steps : Vec Step Global) (found : Option (Vec ℕ Global)) (versions : Vec ℕ Global) → length events ≤ walk.walked
-      → found ≡ Some versions → IsLeastOf settings.unordered (take walk.walked events) found → AreCounts events counts
+      → found ≡ Some versions → IsChosen settings.unordered (take walk.walked events) found → AreCounts events counts
       → (settings.unordered ≡ true → steps.items ≡ [])
       → (frames : List Frame) (given : List ℕ) → frames ≡ walk.frames.items → given ≡ versions.items
       → (settings.unordered ≡ false → AreStepsUnder frames (slice_index given) (length frames) steps.items)
       → IsExplanation settings events (record { counts = counts; steps = steps })
   all_explained counts steps found versions whole is least are none frames given same_frames same_given under =
       let all : take walk.walked events ≡ events = take_all walk.walked events whole in
-      let choice : IsLeastChoice settings.unordered events (by_number versions) =
-      subst (λ l. IsLeastChoice settings.unordered l (by_number versions)) all (choice_of found versions is least) in
+      let choice : IsGoodChoice settings.unordered events (by_number versions) =
+      subst (λ l. IsGoodChoice settings.unordered l (by_number versions)) all (choice_of found versions is least) in
       let frames_are : AreFrames events walk.frames.items = subst (λ l. AreFrames l walk.frames.items) all known.frames in
       record {
         explained = record {
           replies = subst (AreRight settings.modelled) all known.right;
           versions = by_number versions;
-          choice = choice.choice;
+          choice = choice.0;
         };
         counts = are;
         unordered = none;
-        versions = by_number versions;
-        least = choice;
-        steps = λ order. steps_are events walk.frames.items (by_number versions) frames_are steps.items
-            (subst (λ fs. AreStepsUnder fs (by_number versions) (length fs) steps.items) same_frames
-            (subst (λ l. AreStepsUnder frames (slice_index l) (length frames) steps.items) same_given (under order)));
+        steps = λ order. record {
+          versions = by_number versions;
+          least = choice.1 order;
+          steps = steps_are events walk.frames.items (by_number versions) frames_are steps.items
+              (subst (λ fs. AreStepsUnder fs (by_number versions) (length fs) steps.items) same_frames
+              (subst (λ l. AreStepsUnder frames (slice_index l) (length frames) steps.items) same_given (under order)));
+        };
       }

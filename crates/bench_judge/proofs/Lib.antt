@@ -1,5 +1,6 @@
 mod Examples
 pub mod Actions
+pub mod Alone
 pub mod Afters
 pub mod Answering
 pub mod Choices

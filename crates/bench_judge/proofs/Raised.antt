@@ -11,12 +11,12 @@ use Rattle.bench_judge.specs.Frames.{AreWithin, Fits, IsSeenBy, MayHave}
 use Rattle.bench_judge.specs.Cut.{IsSwept, by_number}
 use Rattle.bench_judge.specs.declared.frame.Frame.{Frame}
 
-set_same : {A : Type 0} (xs : List A) (n : ℕ) (x : A) → n < length xs → slice_get (set xs n x) n ≡ Some x
+pub set_same : {A : Type 0} (xs : List A) (n : ℕ) (x : A) → n < length xs → slice_get (set xs n x) n ≡ Some x
 set_same [] n x lt = absurd (omega (arith, lt))
 set_same (y ∷ xs) zero x lt = refl
 set_same (y ∷ xs) (suc n) x lt = set_same xs n x (omega (arith, lt))
 
-set_other : {A : Type 0} (xs : List A) (n m : ℕ) (x : A) → m ≢ n → slice_get (set xs n x) m ≡ slice_get xs m
+pub set_other : {A : Type 0} (xs : List A) (n m : ℕ) (x : A) → m ≢ n → slice_get (set xs n x) m ≡ slice_get xs m
 set_other [] n m x differ = refl
 set_other (y ∷ xs) zero zero x differ = absurd (differ refl)
 set_other (y ∷ xs) zero (suc m) x differ = refl

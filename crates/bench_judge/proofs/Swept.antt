@@ -7,10 +7,10 @@ use Rattle.mib_state.specs.After.{accepted_from, after}
 use Rattle.bench_history.specs.declared.event.Event.{Event}
 use Rattle.bench_judge.specs.Asked.{accepted_of, asked}
 use Rattle.bench_judge.specs.Frames.{AreFrames}
-use Rattle.bench_judge.specs.Cut.{IsLeastOf, IsSomeWalk, IsSwept, by_number, until}
+use Rattle.bench_judge.specs.Cut.{IsChosen, IsFitted, IsSomeWalk, by_number, until}
 use Rattle.bench_judge.specs.declared.frame.Frame.{Frame}
 use Rattle.bench_judge.specs.declared.walk.Walk.{Walk}
-use Rattle.bench_judge.proofs.Choices.{BeginWith, fits_of_choice, least_of_fits}
+use Rattle.bench_judge.proofs.Choices.{BeginWith, choice_of_fits, fits_of_choice, least_of_fits}
 use Rattle.bench_judge.proofs.Cuts.{cut_frames}
 use Rattle.bench_judge.proofs.Fronts.{accepted_front}
 
@@ -22,25 +22,27 @@ begin_shorter m k all requests le is =
     let more = accepted_from (after (asked (take m (take k all)))) (asked (drop m (take k all))) in
     (more, is ∙ parts ∙ ap (λ l. l ++ more) front)
 
-by_found : (events : List Event) (requests : List Request) (frames : List Frame) (unordered : Bool) (all : List Event) (place : ℕ) → events ≡ take place all
+by_found : (requests : List Request) (frames : List Frame) (unordered : Bool) (all : List Event) (place : ℕ)
     → BeginWith requests (take place all) → AreFrames (take place all) frames
-    → (found : Option (Vec ℕ Global)) → IsSwept unordered all requests frames found → IsLeastOf unordered (take place all) found
-by_found events requests frames unordered all place same begins are None none =
+    → (found : Option (Vec ℕ Global)) → IsFitted unordered all requests frames found → IsChosen unordered (take place all) found
+by_found requests frames unordered all place begins are None none =
     λ choice. none choice.0 (fits_of_choice place all requests begins unordered frames choice.0 are choice.1)
-by_found events requests frames unordered all place same begins are (Some versions) least =
-    least_of_fits place all requests begins unordered frames (by_number versions) are least.least
+by_found requests frames unordered all place begins are (Some versions) suits = (
+  choice_of_fits place all requests begins unordered frames (by_number versions) are suits.0,
+  λ ordered. least_of_fits place all requests begins unordered frames (by_number versions) are (suits.1 ordered),
+)
 
 by_result : (requests : List Request) (frames : List Frame) (unordered : Bool) (all : List Event) (place : ℕ)
     → BeginWith requests (take place all) → AreFrames (take place all) frames
-    → (found : Result (Option (Vec ℕ Global)) AllocError) → IfOk found (IsSwept unordered all requests frames) → IfOk found (IsLeastOf unordered (take place all))
-by_result requests frames unordered all place begins are (Ok found) swept = by_found (take place all) requests frames unordered all place refl begins are found swept
-by_result requests frames unordered all place begins are (Err e) swept = tt
+    → (found : Result (Option (Vec ℕ Global)) AllocError) → IfOk found (IsFitted unordered all requests frames) → IfOk found (IsChosen unordered (take place all))
+by_result requests frames unordered all place begins are (Ok found) fitted = by_found requests frames unordered all place begins are found fitted
+by_result requests frames unordered all place begins are (Err e) fitted = tt
 
-pub least_of_swept : (all : List Event) (walk : Walk) (unordered : Bool) (place : ℕ) → IsSomeWalk all walk → place ≤ walk.walked
+pub chosen_of_fitted : (all : List Event) (walk : Walk) (unordered : Bool) (place : ℕ) → IsSomeWalk all walk → place ≤ walk.walked
     → (requests : List Request) (frames : List Frame) → requests ≡ walk.requests.items → frames ≡ map (until place) walk.frames.items
-    → (found : Result (Option (Vec ℕ Global)) AllocError) → IfOk found (IsSwept unordered all requests frames) → IfOk found (IsLeastOf unordered (take place all))
-least_of_swept all walk unordered place known le requests frames same_requests same_frames found swept =
+    → (found : Result (Option (Vec ℕ Global)) AllocError) → IfOk found (IsFitted unordered all requests frames) → IfOk found (IsChosen unordered (take place all))
+chosen_of_fitted all walk unordered place known le requests frames same_requests same_frames found fitted =
     by_result requests frames unordered all place
     (begin_shorter place walk.walked all requests le (same_requests ∙ known.1.requests))
     (subst (AreFrames (take place all)) (sym same_frames) (cut_frames place walk.walked all walk.frames.items le known.1.frames))
-    found swept
+    found fitted

@@ -1,10 +1,10 @@
 -- Frames as a front of the events shows them, and what the sweep of them says.
-use Rattle.std.specs.Prelude.{◌≡◌, ◌≤◌, ◌+◌, ℕ, Bool, List, Option, Some, None, MatchOption, if◌then◌else◌, nat_lt, set, slice_get, slice_index, take, Vec}
+use Rattle.std.specs.Prelude.{◌≡◌, ◌≤◌, ◌+◌, ℕ, Bool, false, List, Option, Some, None, MatchOption, if◌then◌else◌, nat_lt, set, slice_get, slice_index, take, Vec}
 use Rattle.std.specs.declared.alloc.Global.{Global}
 use Rattle.omci_msg.specs.declared.request.Request.{Request}
 use Rattle.bench_history.specs.declared.event.Event.{Event}
 use Rattle.bench_judge.specs.Explained.{IsChoice, IsLeastChoice}
-use Rattle.bench_judge.specs.Frames.{Fits}
+use Rattle.bench_judge.specs.Frames.{Fits, FitsLeast}
 use Rattle.bench_judge.specs.Sweep.{AreLeast, NoneFit}
 use Rattle.bench_judge.specs.Walk.{IsWalk}
 use Rattle.bench_judge.specs.declared.frame.Frame.{Frame}
@@ -37,10 +37,23 @@ IsSwept unordered events requests frames found =
 abbrev pub HasChoice : Bool → List Event → Type 0
 HasChoice unordered events = (versions : ℕ → ℕ) × IsChoice unordered events versions
 
--- the least choice of events, or that they have none
-abbrev pub IsLeastOf : Bool → List Event → Option (Vec ℕ Global) → Type 0
-IsLeastOf unordered events found =
-    MatchOption found (¬ (HasChoice unordered events)) (λ versions. IsLeastChoice unordered events (by_number versions))
+-- versions that fit, and the least of them where order counts
+abbrev pub Suits : Bool → List Event → List Request → List Frame → (ℕ → ℕ) → Type 0
+Suits unordered events requests frames versions =
+    Fits unordered events requests frames versions × (unordered ≡ false → FitsLeast unordered events requests frames versions)
+
+abbrev pub IsFitted : Bool → List Event → List Request → List Frame → Option (Vec ℕ Global) → Type 0
+IsFitted unordered events requests frames found =
+    MatchOption found (NoneFit unordered events requests frames) (λ versions. Suits unordered events requests frames (by_number versions))
+
+-- a choice of events, and the least where order counts, or that they have none
+abbrev pub IsGoodChoice : Bool → List Event → (ℕ → ℕ) → Type 0
+IsGoodChoice unordered events versions =
+    IsChoice unordered events versions × (unordered ≡ false → IsLeastChoice unordered events versions)
+
+abbrev pub IsChosen : Bool → List Event → Option (Vec ℕ Global) → Type 0
+IsChosen unordered events found =
+    MatchOption found (¬ (HasChoice unordered events)) (λ versions. IsGoodChoice unordered events (by_number versions))
 
 -- a walk, by either way of looking at contents
 abbrev pub IsSomeWalk : List Event → Walk → Type 0

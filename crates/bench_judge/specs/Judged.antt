@@ -86,14 +86,18 @@ pub record AreSteps (events : List Event) (versions : ℕ → ℕ) (steps : List
   pub all : (f : EndedFrame) → IsRise events versions f → (k : ℕ) × (step : Step) × (slice_get steps k ≡ Some step) × (step.frame ≡ f.number)
   pub ascend : (j k : ℕ) (one other : Step) → slice_get steps j ≡ Some one → slice_get steps k ≡ Some other → j < k → one.frame < other.frame
 
+-- the steps of the least versions
+pub record AreLeastSteps (unordered : Bool) (events : List Event) (given : List Step) : Type 0 where
+  pub versions : ℕ → ℕ
+  pub least : IsLeastChoice unordered events versions
+  pub steps : AreSteps events versions given
+
 -- what is said of explained events: the steps are those of the least versions, and none where each frame is judged by itself
 pub record IsExplanation (settings : JudgeSettings) (events : List Event) (e : Explanation) : Type 0 where
   pub explained : IsExplained settings events
   pub counts : AreCounts events e.counts
   pub unordered : settings.unordered ≡ true → e.steps.items ≡ []
-  pub versions : ℕ → ℕ
-  pub least : IsLeastChoice settings.unordered events versions
-  pub steps : settings.unordered ≡ false → AreSteps events versions e.steps.items
+  pub steps : settings.unordered ≡ false → AreLeastSteps settings.unordered events e.steps.items
 
 -- ---- not explained
 

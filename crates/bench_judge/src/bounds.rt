@@ -3,8 +3,8 @@ ghost use Rattle.std.specs.Prelude.{◌≡◌, ◌<◌, Decides, IfOk, is_some, 
 ghost use Rattle.bench_judge.specs.Bounds.{IsFirstOf, IsLastOf, IsLeastLeft, IsMostLeft};
 ghost use Rattle.bench_judge.specs.Frames.{AreWithin, Fits};
 
-use crate::frame::Frame;
-use crate::halving::{Case, greatest_version};
+use crate::frame::{Case, Frame};
+use crate::halving::greatest_version;
 use std::alloc::{AllocError, Global};
 
 /// The number at a place, 0 past the end.

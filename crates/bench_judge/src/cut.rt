@@ -1,9 +1,9 @@
 //! What the events before a place show of frames and of their versions.
 ghost use Rattle.std.specs.Prelude.{◌≡◌, ◌≤◌, IfOk, map, take};
-ghost use Rattle.bench_judge.specs.Cut.{IsLeastOf, IsSomeWalk, until};
+ghost use Rattle.bench_judge.specs.Cut.{IsChosen, IsSomeWalk, until};
 
-use crate::frame::Frame;
-use crate::sweep::sweep;
+use crate::fitting::versions_of;
+use crate::frame::{Case, Frame};
 use crate::walk::Walk;
 use bench_history::Event;
 use std::alloc::{AllocError, Global};
@@ -37,8 +37,9 @@ pub(crate) fn frames_until(
     Ok(cut)
 }
 
-/// The least versions of the frames of the events before a place, by their numbers, or None where these events have no choice.
-pub(crate) fn least_until(
+/// Versions that the frames of the events before a place may have together, by their numbers: the least where order counts, and else some.
+/// None where these events have no choice.
+pub(crate) fn choice_until(
     alloc: Global,
     events: &[Event<'_>],
     walk: &Walk,
@@ -47,8 +48,14 @@ pub(crate) fn least_until(
 ) -> Result<Option<Vec<usize>>, AllocError>
     requires walked { IsSomeWalk events.now walk.now }
     requires within { place ≤ walk.now.walked }
-    ensures { IfOk result (IsLeastOf unordered (take place events.now)) }
+    ensures { IfOk result (IsChosen unordered (take place events.now)) }
 {
     let frames = frames_until(alloc, &walk.frames, place)?;
-    sweep(alloc, events, &walk.requests, &frames, unordered)
+    let case = Case {
+        events,
+        requests: &walk.requests,
+        frames: &frames,
+        unordered,
+    };
+    versions_of(alloc, &case)
 }

@@ -8,11 +8,11 @@ ghost use Rattle.bench_judge.specs.Walk.{AreInOrder, IsWalk};
 
 use crate::bounds::{at_least, at_most};
 use crate::cut::frames_until;
-use crate::halving::Case;
+use crate::fitting::versions_of;
+use crate::frame::Case;
 use crate::judgement::{End, Wrong, WrongFrame, WrongReply};
 use crate::runs::runs;
 use crate::settings::JudgeSettings;
-use crate::sweep::sweep;
 use crate::walk::Walk;
 use bench_history::{Digits, Event};
 use script_lines::MOST_SPELLED;
@@ -83,14 +83,14 @@ pub(crate) fn wrong_frame<'a>(
     let number = ended_by(&events[place]);
     let frame = walk.frames[number];
     let frames = frames_until(alloc, &walk.frames, place)?;
-    let Some(versions) = sweep(alloc, events, &walk.requests, &frames, settings.unordered)? else {
-        unreachable!();
-    };
     let case = Case {
         events,
         requests: &walk.requests,
         frames: &frames,
         unordered: settings.unordered,
+    };
+    let Some(versions) = versions_of(alloc, &case)? else {
+        unreachable!();
     };
     let at_least = at_least(&case, &versions, &frame, number);
     let at_most = at_most(alloc, &case, &versions, &frame, number)?;

@@ -1,4 +1,7 @@
-//! What is kept of a frame that was sent.
+//! What is kept of a frame that was sent, and of all of them.
+
+use bench_history::Event;
+use omci_msg::Request;
 
 /// What is kept of a frame that was sent. The frames of a history stand by their numbers.
 #[derive(Clone, Copy, Debug, PartialEq, Eq)]
@@ -12,4 +15,13 @@ pub(crate) struct Frame {
     pub(crate) least: usize,
     /// The greatest, if it has ended.
     pub(crate) most: usize,
+}
+
+/// Frames, and what decides which versions they may have together.
+#[derive(Drop)]
+pub(crate) struct Case<'e, 'a> {
+    pub(crate) events: &'e [Event<'a>],
+    pub(crate) requests: &'e [Request],
+    pub(crate) frames: &'e [Frame],
+    pub(crate) unordered: bool,
 }

@@ -4,8 +4,8 @@ ghost use Rattle.bench_judge.specs.Cut.{HasChoice, IsGreatestFit, IsSomeWalk, Is
 ghost use Rattle.bench_judge.specs.Frames.{AreWithin, Fits, FitsLeast};
 ghost use Rattle.bench_judge.specs.declared.frame.Frame.{Frame};
 
-use crate::cut::least_until;
-use crate::frame::Frame;
+use crate::cut::choice_until;
+use crate::frame::Case;
 use crate::sweep::sweep;
 use crate::walk::Walk;
 use crate::watch::{Stage, Watch};
@@ -33,7 +33,7 @@ pub(crate) fn turn<W: Watch>(
         watch.reached(Stage::Halving { lines: high - low });
         let back = step.min((high - low) / 2);
         let middle = high - back;
-        if least_until(alloc, events, walk, unordered, middle)?.is_some() {
+        if choice_until(alloc, events, walk, unordered, middle)?.is_some() {
             low = middle;
         } else {
             high = middle;
@@ -41,15 +41,6 @@ pub(crate) fn turn<W: Watch>(
         }
     }
     Ok(low)
-}
-
-/// Frames, and what decides which versions they may have together.
-#[derive(Drop)]
-pub(crate) struct Case<'e, 'a> {
-    pub(crate) events: &'e [Event<'a>],
-    pub(crate) requests: &'e [Request],
-    pub(crate) frames: &'e [Frame],
-    pub(crate) unordered: bool,
 }
 
 /// Whether there are versions that fit, and of which that of a frame isn't under a bound.

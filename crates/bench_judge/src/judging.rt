@@ -4,7 +4,7 @@ ghost use Rattle.bench_judge.specs.Judged.{IsFound, IsJudgement, IsWhyUnjudged};
 ghost use Rattle.bench_judge.specs.Walk.{AreInOrder};
 
 use crate::counts::counts;
-use crate::cut::least_until;
+use crate::cut::choice_until;
 use crate::deviation::{wrong_frame, wrong_reply};
 use crate::fault::JudgeFault;
 use crate::halving::turn;
@@ -31,7 +31,7 @@ fn judge_events<'a, W: Watch>(
         frames: walk.frames.len(),
         requests: walk.requests.len(),
     });
-    let Some(versions) = least_until(alloc, events, &walk, settings.unordered, walk.walked)? else {
+    let Some(versions) = choice_until(alloc, events, &walk, settings.unordered, walk.walked)? else {
         let place = turn(alloc, events, &walk, settings.unordered, watch)?;
         let frame = wrong_frame(alloc, events, &walk, settings, place)?;
         return Ok(Judgement::Deviates(Deviation {
@@ -60,9 +60,12 @@ fn judge_events<'a, W: Watch>(
 /// last reply that a wait above the frame waits for, and no more than those that were sent before the frame was seen to end. The frames
 /// before it at its port have no greater versions, unless each frame is judged by itself.
 ///
-/// Where it isn't explained, the judgement names the first line that isn't with all those before it. It takes time in proportion to the
-/// events, the versions and the ports, once more for each halving of the history where it isn't explained, and memory in proportion to the
-/// text.
+/// Where it isn't explained, the judgement names the first line that isn't with all those before it.
+///
+/// It takes time in proportion to the events, and to the versions times the ports, and memory in proportion to the text. Where the history
+/// isn't explained, it takes that once more for each try of a shorter front: two where the last line deviates, and at most twice as many as
+/// halvings lead to one line. Where each frame is judged by itself, each that may not have the last version of its window takes time in
+/// proportion to the versions.
 ///
 /// [`JudgeFault::BadLine`] comes exactly where a line is bad, with the number of the first; [`JudgeFault::NoMemory`] where a request for
 /// memory is refused.

@@ -20,6 +20,7 @@ mod counts;
 mod cut;
 mod deviation;
 mod fault;
+mod fitting;
 mod frame;
 mod halving;
 mod judgement;

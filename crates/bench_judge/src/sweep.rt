@@ -31,7 +31,7 @@ pub(crate) struct SweepState {
 }
 
 /// Whether a frame may have a version, by the entities of that version.
-fn may_have(
+pub(crate) fn may_have(
     live: &Live,
     events: &[Event<'_>],
     frame: &Frame,

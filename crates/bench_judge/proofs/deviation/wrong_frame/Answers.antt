@@ -1,6 +1,7 @@
-use Rattle.std.proofs.Common.{rules, ◌≡◌, ◌<◌, ◌∙◌, ap, arith, length, map, subst, sym}
+use Rattle.std.proofs.Common.{rules, ◌≡◌, ◌<◌, ◌∙◌, ap, arith, length, map, slice_index, subst, sym}
 use Rattle.bench_history.specs.declared.event.Event.TheVariants.{Entered}
-use Rattle.bench_judge.specs.Cut.{IsSwept, until}
+use Rattle.bench_judge.specs.Cut.{IsFitted, Suits, until}
+use Rattle.bench_judge.specs.Frames.{Fits}
 use Rattle.bench_judge.specs.Judged.{IsEndAs}
 use Rattle.bench_judge.proofs.Endings.{bounded, cut_long, ends, event_is, f, frame_is, most_left, most_within, not_none, number_is, number_within, sent_at, sent_within, wrong_frame_by}
 use Rattle.bench_judge.proofs.Lists.{read_is}
@@ -19,8 +20,8 @@ index-requires c =
     c.ended_by-number.result number in
     omega (arith, under, c.args.walk.now.frames.ok)
 
-pub sweep-requires : goal.sweep-requires
-sweep-requires c =
+pub versions_of-requires : goal.versions_of-requires
+versions_of-requires c =
     bounded c.args.settings.now c.args.events.now c.args.walk.now c.args.place c.requires.order c.requires.walked c.requires.within c.requires.turn
     c.deref-2.result.now c.deref-3.result.now c.deref-2.ensures.value (c.deref-3.ensures.value ∙ c.in_ok-frames.ensures ∙ ap (map (until c.args.place)) c.deref.ensures.value)
 
@@ -28,26 +29,26 @@ pub unreachable-requires : goal.unreachable-requires
 unreachable-requires c =
     not_none c.args.settings.now c.args.events.now c.args.walk.now c.args.place c.requires.order c.requires.walked c.requires.within c.requires.turn
     c.deref-2.result.now c.deref-3.result.now c.deref-2.ensures.value (c.deref-3.ensures.value ∙ c.in_ok-frames.ensures ∙ ap (map (until c.args.place)) c.deref.ensures.value)
-    (subst (IsSwept c.args.settings.now.unordered c.args.events.now c.deref-2.result.now c.deref-3.result.now) c.in_default.is c.in_ok-versions.ensures)
+    (subst (IsFitted c.args.settings.now.unordered c.args.events.now c.deref-2.result.now c.deref-3.result.now) c.in_default.is c.in_ok-versions.ensures)
 
 pub at_least-at_least-requires : goal.at_least-at_least-requires
 at_least-at_least-requires c =
     let number = number_is c.args.settings.now c.args.events.now c.args.walk.now c.args.place c.requires.order c.requires.walked c.requires.within c.requires.turn
     c.index-events-place.result c.ended_by-number.result c.index-events-place.is c.ended_by-number.ensures in
     cut_long c.args.settings.now c.args.events.now c.args.walk.now c.args.place c.requires.order c.requires.walked c.requires.within c.requires.turn
-    c.deref-4.result.now c.deref-5.result.now c.deref-4.ensures.value (c.deref-5.ensures.value ∙ c.in_ok-frames.ensures ∙ ap (map (until c.args.place)) c.deref.ensures.value) c.ended_by-number.result number
+    c.deref-2.result.now c.deref-3.result.now c.deref-2.ensures.value (c.deref-3.ensures.value ∙ c.in_ok-frames.ensures ∙ ap (map (until c.args.place)) c.deref.ensures.value) c.ended_by-number.result number
 
 pub at_most-requires-clause-number : goal.at_most-requires-clause-number
 at_most-requires-clause-number c =
     let number = number_is c.args.settings.now c.args.events.now c.args.walk.now c.args.place c.requires.order c.requires.walked c.requires.within c.requires.turn
     c.index-events-place.result c.ended_by-number.result c.index-events-place.is c.ended_by-number.ensures in
     cut_long c.args.settings.now c.args.events.now c.args.walk.now c.args.place c.requires.order c.requires.walked c.requires.within c.requires.turn
-    c.deref-4.result.now c.deref-5.result.now c.deref-4.ensures.value (c.deref-5.ensures.value ∙ c.in_ok-frames.ensures ∙ ap (map (until c.args.place)) c.deref.ensures.value) c.ended_by-number.result number
+    c.deref-2.result.now c.deref-3.result.now c.deref-2.ensures.value (c.deref-3.ensures.value ∙ c.in_ok-frames.ensures ∙ ap (map (until c.args.place)) c.deref.ensures.value) c.ended_by-number.result number
 
 pub at_most-requires-clause-within : goal.at_most-requires-clause-within
 at_most-requires-clause-within c =
     bounded c.args.settings.now c.args.events.now c.args.walk.now c.args.place c.requires.order c.requires.walked c.requires.within c.requires.turn
-    c.deref-4.result.now c.deref-5.result.now c.deref-4.ensures.value (c.deref-5.ensures.value ∙ c.in_ok-frames.ensures ∙ ap (map (until c.args.place)) c.deref.ensures.value)
+    c.deref-2.result.now c.deref-3.result.now c.deref-2.ensures.value (c.deref-3.ensures.value ∙ c.in_ok-frames.ensures ∙ ap (map (until c.args.place)) c.deref.ensures.value)
 
 pub bounds-events-frame : goal.bounds-events-frame
 bounds-events-frame c =
@@ -79,10 +80,10 @@ runs-requires c =
     let frame = frame_is c.args.settings.now c.args.events.now c.args.walk.now c.args.place c.requires.order c.requires.walked c.requires.within c.requires.turn
     c.ended_by-number.result c.index.result.now _ number c.index.ensures in
     let most = most_within c.args.settings.now c.args.events.now c.args.walk.now c.args.place c.requires.order c.requires.walked c.requires.within c.requires.turn
-    c.deref-4.result.now c.deref-5.result.now c.deref-4.ensures.value (c.deref-5.ensures.value ∙ c.in_ok-frames.ensures ∙ ap (map (until c.args.place)) c.deref.ensures.value) c.index.result.now frame in
-    let left = most_left c.args.settings.now.unordered c.args.events.now c.deref-4.result.now c.deref-5.result.now c.index.result.now.port c.ended_by-number.result c.index.result.now.most
+    c.deref-2.result.now c.deref-3.result.now c.deref-2.ensures.value (c.deref-3.ensures.value ∙ c.in_ok-frames.ensures ∙ ap (map (until c.args.place)) c.deref.ensures.value) c.index.result.now frame in
+    let left = most_left c.args.settings.now.unordered c.args.events.now c.deref-2.result.now c.deref-3.result.now c.index.result.now.port c.ended_by-number.result c.index.result.now.most
     c.in_ok-at_most.at_most c.in_ok-at_most.ensures in
-    let same = ap (λ l. length l) (c.deref-8.ensures.value ∙ sym c.deref-4.ensures.value) in
+    let same = ap (λ l. length l) (c.deref-6.ensures.value ∙ sym c.deref-2.ensures.value) in
     omega (arith, most, left, same)
 
 pub overflow_add-result : goal.overflow_add-result
@@ -118,10 +119,16 @@ returns c =
     let entered = sent_at c.args.settings.now c.args.events.now c.args.walk.now c.args.place c.requires.order c.requires.walked c.requires.within c.requires.turn c.index.result.now frame in
     let read = read_is c.args.events.now c.index.result.now.sent c.index-events-frame.result (Entered its.port its.bytes) c.index-events-frame.is entered in
     wrong_frame_by c.args.settings.now c.args.events.now c.args.walk.now c.args.place c.requires.order c.requires.walked c.requires.within c.requires.turn
-    c.deref-4.result.now c.deref-5.result.now c.deref-4.ensures.value (c.deref-5.ensures.value ∙ c.in_ok-frames.ensures ∙ ap (map (until c.args.place)) c.deref.ensures.value)
+    c.deref-2.result.now c.deref-3.result.now c.deref-2.ensures.value (c.deref-3.ensures.value ∙ c.in_ok-frames.ensures ∙ ap (map (until c.args.place)) c.deref.ensures.value)
     c.ended_by-number.result c.index.result.now c.at_least-at_least.result c.in_ok-at_most.at_most c.sent_by-sent.result c.end_of.result c.in_ok-runs.runs number frame
     c.deref-2.result.now c.deref-3.result.now c.in_ok-versions.field-0 c.in-Some.versions
-    (c.deref-2.ensures.value ∙ sym c.deref-4.ensures.value) (c.deref-3.ensures.value ∙ sym c.deref-5.ensures.value) c.in-Some.is c.in_ok-versions.ensures
-    c.deref-6.result.now c.deref-6.ensures.value c.at_least-at_least.ensures c.in_ok-at_most.ensures
+    (c.deref-2.ensures.value ∙ sym c.deref-2.ensures.value) (c.deref-3.ensures.value ∙ sym c.deref-3.ensures.value) c.in-Some.is c.in_ok-versions.ensures
+    c.deref-4.result.now c.deref-4.ensures.value c.at_least-at_least.ensures c.in_ok-at_most.ensures
     (c.sent_by-sent.ensures its.port its.bytes read) (subst (λ e. IsEndAs e c.end_of.result) seen c.end_of.ensures)
-    c.deref-8.result.now c.read-bytes.result.now (c.deref-8.ensures.value ∙ sym c.deref-4.ensures.value) c.read-bytes.ensures c.in_ok-runs.ensures
+    c.deref-6.result.now c.read-bytes.result.now (c.deref-6.ensures.value ∙ sym c.deref-2.ensures.value) c.read-bytes.ensures c.in_ok-runs.ensures
+
+pub at_most-requires-clause-fits : goal.at_most-requires-clause-fits
+at_most-requires-clause-fits c =
+    let suits : Suits c.args.settings.now.unordered c.args.events.now c.deref-2.result.now c.deref-3.result.now (slice_index c.in-Some.versions.items) =
+    subst (IsFitted c.args.settings.now.unordered c.args.events.now c.deref-2.result.now c.deref-3.result.now) c.in-Some.is c.in_ok-versions.ensures in
+    subst (λ l. Fits c.args.settings.now.unordered c.args.events.now c.deref-2.result.now c.deref-3.result.now (slice_index l)) (sym c.deref-5.ensures.value) suits.0

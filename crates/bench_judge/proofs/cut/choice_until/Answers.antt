@@ -2,11 +2,11 @@ use Rattle.std.proofs.Common.{map, take, sym, ap, subst, ◌∙◌}
 use Rattle.bench_judge.specs.Cut.{until}
 use Rattle.bench_judge.specs.Frames.{AreFrames, AreWithin}
 use Rattle.bench_judge.proofs.Cuts.{cut_within}
-use Rattle.bench_judge.proofs.Swept.{least_of_swept}
-use Rattle.bench_judge.proofs.cut.least_until.Goals as goal
+use Rattle.bench_judge.proofs.Swept.{chosen_of_fitted}
+use Rattle.bench_judge.proofs.cut.choice_until.Goals as goal
 
-pub sweep-requires : goal.sweep-requires
-sweep-requires c =
+pub versions_of-requires : goal.versions_of-requires
+versions_of-requires c =
     let walk = c.args.walk.now in
     let known = c.requires.walked.1 in
     subst (λ requests. AreWithin requests c.deref-3.result.now) (sym c.deref-2.ensures.value)
@@ -16,5 +16,5 @@ sweep-requires c =
 
 pub returns : goal.returns
 returns c =
-    least_of_swept c.args.events.now c.args.walk.now c.args.unordered c.args.place c.requires.walked c.requires.within c.deref-2.result.now c.deref-3.result.now
-    c.deref-2.ensures.value (c.deref-3.ensures.value ∙ c.in_ok-frames.ensures ∙ ap (map (until c.args.place)) c.deref.ensures.value) c.sweep.result c.sweep.ensures
+    chosen_of_fitted c.args.events.now c.args.walk.now c.args.unordered c.args.place c.requires.walked c.requires.within c.deref-2.result.now c.deref-3.result.now
+    c.deref-2.ensures.value (c.deref-3.ensures.value ∙ c.in_ok-frames.ensures ∙ ap (map (until c.args.place)) c.deref.ensures.value) c.versions_of.result c.versions_of.ensures

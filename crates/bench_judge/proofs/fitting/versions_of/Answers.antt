@@ -1,0 +1,18 @@
+use Rattle.std.proofs.Common.{Result, IfOk, Option, Vec, sym, subst}
+use Rattle.std.specs.declared.alloc.AllocError.{AllocError}
+use Rattle.std.specs.declared.alloc.Global.{Global}
+use Rattle.bench_judge.specs.Cut.{IsFitted}
+use Rattle.bench_judge.proofs.Alone.{alone_suits, swept_suits}
+use Rattle.bench_judge.proofs.fitting.versions_of.Goals as goal
+
+pub returns-then-case : goal.returns-then-case
+returns-then-case c =
+    let case = c.args.case.now in
+    subst (λ unordered. IfOk c.versions_alone.result (IsFitted unordered case.events.now case.requests.now case.frames.now)) (sym c.if-case.true)
+    (alone_suits case.events.now case.requests.now case.frames.now c.versions_alone.result c.versions_alone.ensures)
+
+pub returns : goal.returns
+returns c =
+    let case = c.args.case.now in
+    subst (λ unordered. IfOk c.sweep.result (IsFitted unordered case.events.now case.requests.now case.frames.now)) (sym c.if-case.false)
+    (swept_suits case.events.now case.requests.now case.frames.now c.sweep.result c.sweep.ensures)
