@@ -27,15 +27,17 @@ stands (x ∷ xs) (suc n) lt = stands xs n (omega (arith, lt))
 -- a number under one more is under it, or it
 before_or_last : (k n : ℕ) → n < k + 1 → (n < k) ⊎ (n ≡ k)
 before_or_last k n lt = elim (cases_lt n k) [
-    | inl under ↦ inl under
-    | inr over ↦ inr (omega (arith, over, lt))
-  ]
+  | inl under ↦ inl under
+  | inr over ↦ inr (omega (arith, over, lt))
+]
 
 pub join_more : {A B C : Type 0} (join : A → B → C) (one : List A) (other : List B) (joined : List C) (a : A) (b : B)
     → slice_get one (length joined) ≡ Some a → slice_get other (length joined) ≡ Some b
     → AreJoined join one other joined → AreJoined join one other (joined ++ join a b ∷ [])
-join_more {A = A} {B = B} join one other joined a b at_one at_other are = record { each = λ n x y lt at_x at_y.
-    go n x y (before_or_last (length joined) n (omega (arith, lt, length-append joined (join a b ∷ [])))) at_x at_y }
+join_more {A = A} {B = B} join one other joined a b at_one at_other are = record {
+  each = λ n x y lt at_x at_y.
+      go n x y (before_or_last (length joined) n (omega (arith, lt, length-append joined (join a b ∷ [])))) at_x at_y;
+}
   where
     go : (n : ℕ) (x : A) (y : B) → (n < length joined) ⊎ (n ≡ length joined) → slice_get one n ≡ Some x → slice_get other n ≡ Some y
         → slice_get (joined ++ join a b ∷ []) n ≡ Some (join x y)
@@ -97,13 +99,13 @@ module _ (events : List Event) (requests : List Request) (frames left : List Fra
 
   pub fits_left : (versions : ℕ → ℕ) → Fits true events requests frames versions → Fits true events requests left versions
   fits_left versions fits = record {
-        each = λ n here at ended.
-            let its = of_number n here at in
-            let same : here ≡ its.frame = its.is ∙ as_before its.had its.frame (ap (λ (f : Frame). is_some f.ended) (sym its.is) ∙ ended) in
-            subst (λ f. MayHave events requests f (versions n)) (sym same)
-            (fits.each n its.frame its.at (ap (λ (f : Frame). is_some f.ended) (sym same) ∙ ended));
-        ordered = λ bad. absurd (cc bad);
-      }
+    each = λ n here at ended.
+        let its = of_number n here at in
+        let same : here ≡ its.frame = its.is ∙ as_before its.had its.frame (ap (λ (f : Frame). is_some f.ended) (sym its.is) ∙ ended) in
+        subst (λ f. MayHave events requests f (versions n)) (sym same)
+        (fits.each n its.frame its.at (ap (λ (f : Frame). is_some f.ended) (sym same) ∙ ended));
+    ordered = λ bad. absurd (cc bad);
+  }
 
   module _ (others all : List ℕ) (had : AreHad events requests frames found) (joined : AreJoined version_or found others all)
       (all_count : length all ≡ length frames) (others_count : length others ≡ length frames)
@@ -120,15 +122,15 @@ module _ (events : List Event) (requests : List Request) (frames left : List Fra
 
     pub fits_all : Fits true events requests frames (slice_index all)
     fits_all = record {
-          each = λ n frame at ended.
-              let lt = slice_get_within frames n frame at in
-              let o = stands found n (omega (arith, lt, found_count)) in
-              let other = stands others n (omega (arith, lt, others_count)) in
-              let is = joined.each n o.0 other.0 (omega (arith, lt, all_count)) o.1 other.1 in
-              subst (MayHave events requests frame) (sym (index_at all n (version_or o.0 other.0) is))
-              (may_have n frame o.0 other.0 at ended o.1 other.1);
-          ordered = λ bad. absurd (cc bad);
-        }
+      each = λ n frame at ended.
+          let lt = slice_get_within frames n frame at in
+          let o = stands found n (omega (arith, lt, found_count)) in
+          let other = stands others n (omega (arith, lt, others_count)) in
+          let is = joined.each n o.0 other.0 (omega (arith, lt, all_count)) o.1 other.1 in
+          subst (MayHave events requests frame) (sym (index_at all n (version_or o.0 other.0) is))
+          (may_have n frame o.0 other.0 at ended o.1 other.1);
+      ordered = λ bad. absurd (cc bad);
+    }
 
 -- ---- the same, as calls gave it
 
@@ -140,9 +142,9 @@ none_had (suc k) (suc n) v at = none_had k n v at
 pub nothing_had : (events : List Event) (requests : List Request) (frames : List Frame) (found : List (Option ℕ)) → found ≡ replicate (length frames) None
     → (length found ≡ length frames) × AreHad events requests frames found
 nothing_had events requests frames found is = (
-      ap (λ (l : List (Option ℕ)). length l) is ∙ length-replicate {A = Option ℕ} (length frames) None,
-      λ n v frame at_found at. absurd (none_had (length frames) n v (ap (λ (l : List (Option ℕ)). slice_get l n) (sym is) ∙ at_found)),
-    )
+  ap (λ (l : List (Option ℕ)). length l) is ∙ length-replicate {A = Option ℕ} (length frames) None,
+  λ n v frame at_found at. absurd (none_had (length frames) n v (ap (λ (l : List (Option ℕ)). slice_get l n) (sym is) ∙ at_found)),
+)
 
 module _ (events : List Event) (requests : List Request) (frames left given_left : List Frame) (found given : List (Option ℕ))
     (found_count : length found ≡ length frames) (same_found : given ≡ found) (same_left : given_left ≡ left)
