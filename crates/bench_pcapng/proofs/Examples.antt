@@ -8,7 +8,7 @@ use Rattle.bench_pcapng.specs.Packets.{enhanced_of, obsolete_of, simple_of, stor
 use Rattle.bench_pcapng.specs.Reading.{nothing_left, opened, reading_at, reading_of, step_of, stopped}
 use Rattle.bench_pcapng.specs.Sections.{section_of}
 use Rattle.bench_pcapng.specs.Times.{moved_by, nanoseconds_in}
-use Rattle.bench_pcapng.specs.declared.fault.PcapngFault.TheVariants.{Header, Link, Torn, TooLong}
+use Rattle.bench_pcapng.specs.declared.fault.PcapngFault.TheVariants.{Header, Link, Torn}
 
 -- a section header whose lowest bytes come first
 low_section : List ℕ

@@ -1,4 +1,7 @@
 pub mod Examples
+pub mod Fronts
+pub mod Memory
 pub mod OptionWalk
+pub mod PacketPlaces
 pub mod Powers
 pub mod Readings

@@ -30,7 +30,7 @@ some_is true x y is = cc
 some_is false x y is = absurd (cc)
 
 -- what is said of the length of a whole block
-record IsLength (bytes : List ℕ) (total : ℕ) : Type 0 where
+pub record IsLength (bytes : List ℕ) (total : ℕ) : Type 0 where
   pub least : 12 ≤ total
   pub within : total ≤ length bytes
 
@@ -49,7 +49,7 @@ length_is (Some order) bytes total is =
     let within : own ≤ length bytes = ltb-false (length bytes) own last.1 in
     record { least = omega (arith, least, same); within = omega (arith, within, same) }
 
-whole_is : (order : Order) (bytes : List ℕ) (total : ℕ) → whole_length order bytes ≡ Some total → IsLength bytes total
+pub whole_is : (order : Order) (bytes : List ℕ) (total : ℕ) → whole_length order bytes ≡ Some total → IsLength bytes total
 unfolding whole_length
 whole_is order bytes total is = length_is (order_of_block order bytes) bytes total (not_none _ total _ is).1
 

@@ -33,6 +33,16 @@ length_in (Some order) bytes =
 unfoldable pub whole_length : Order → List ℕ → Option ℕ
 whole_length order bytes = if nat_lt (length bytes) 12 then None else length_in (order_of_block order bytes) bytes
 
+-- how many bytes from here on show whether the first block is whole; more of them don't change that
+abbrev pub wanted_in : Option Order → List ℕ → ℕ
+wanted_in None bytes = 12
+wanted_in (Some order) bytes =
+    let total = number_in 4 order (drop 4 bytes) in
+    if total % 4 == 0 then total else 12
+
+unfoldable pub wanted_length : Order → List ℕ → ℕ
+wanted_length order bytes = if nat_lt (length bytes) 12 then 12 else wanted_in (order_of_block order bytes) bytes
+
 -- the type and the body of a first block that has this length
 abbrev pub kind_of : Order → List ℕ → ℕ
 kind_of order bytes = number_in 4 order bytes

@@ -57,3 +57,7 @@ simple_by (Ok interface) order time body =
 unfoldable pub simple_of : Order → List Interface → ℕ → List ℕ → Result Captured BlockFault
 simple_of order interfaces time body =
     if nat_lt (length body) 4 then Err Torn else simple_by (checked_of (slice_get interfaces 0)) order time body
+
+-- how many bytes of a packet block of this type stand before the packet's own: the type, the length, and what the body begins with
+abbrev pub data_start : ℕ → ℕ
+data_start kind = if kind == 3 then 12 else 28

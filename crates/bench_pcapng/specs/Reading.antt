@@ -26,6 +26,23 @@ pub record Place : Type 0 where
   pub number : ℕ
   pub bytes : List ℕ
 
+-- what is known between two blocks, but for the bytes
+pub record Progress : Type 0 where
+  pub order : Order
+  pub interfaces : List Interface
+  pub time : ℕ
+  pub number : ℕ
+
+-- the place from which on there are these bytes
+abbrev pub place_at : Progress → List ℕ → Place
+place_at known bytes = record {
+  order = known.order;
+  interfaces = known.interfaces;
+  time = known.time;
+  number = known.number;
+  bytes = bytes;
+}
+
 -- a block is passed, yields a packet, or has a fault
 pub data Step : Type 0 where
   Passes : (next : Place) → Step

@@ -1,20 +1,14 @@
 -- What the calls of a reader give.
 use Rattle.std.specs.Prelude.{◌≡◌, Option, Some, None, Result, Ok, Err}
 use Rattle.bench_pcapng.specs.Captured.{Captured}
-use Rattle.bench_pcapng.specs.Reading.{Place, Reading, Step, Passes, Yields, Fails, nothing_left, stopped, with_packet}
+use Rattle.bench_pcapng.specs.Reading.{Place, Reading, Step, Passes, Yields, Fails, nothing_left, place_at, stopped, with_packet}
 use Rattle.bench_pcapng.specs.declared.fault.PcapngFault.{PcapngFault}
 use Rattle.bench_pcapng.specs.declared.fault.PcapngFault.TheVariants.{Header, Link, Torn, TooLong, NoMemory}
 use Rattle.bench_pcapng.specs.declared.walk.Walk.{Walk}
 
 -- where a walk stands
 abbrev pub place_of : Walk → Place
-place_of walk = record {
-  order = walk.order;
-  interfaces = walk.interfaces.items;
-  time = walk.time;
-  number = walk.number;
-  bytes = walk.rest.now;
-}
+place_of walk = place_at walk.blocks walk.rest.now
 
 -- what one step of a walk came to, and the place behind it; where memory is wanting, or there is a fault, the place is the same
 abbrev pub IsStepped : Step → Place → Result (Option Captured) PcapngFault → Place → Type 0

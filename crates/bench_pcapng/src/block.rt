@@ -1,6 +1,6 @@
 //! Where a block ends, and in which byte order it is written.
 ghost use Rattle.std.specs.Prelude.{◌≡◌, ◌≤◌, ◌+◌, IfSome, length};
-ghost use Rattle.bench_pcapng.specs.Blocks.{order_by_mark, order_of_block, whole_length};
+ghost use Rattle.bench_pcapng.specs.Blocks.{order_by_mark, order_of_block, wanted_length, whole_length};
 
 use crate::order::Order;
 
@@ -53,4 +53,19 @@ pub(crate) fn block_length(order: Order, bytes: &[u8]) -> Option<usize>
         return None;
     }
     Some(total)
+}
+
+/// How many bytes show whether the first block is whole.
+#[tactic(auto, unfolding(crate::specs::Blocks::wanted_length))]
+pub(crate) fn wanted_length(order: Order, bytes: &[u8]) -> usize
+    ensures { result ≡ wanted_length order bytes.now }
+{
+    if bytes.len() < AROUND_BODY {
+        return AROUND_BODY;
+    }
+    let Some(own) = order_of_block(order, bytes) else {
+        return AROUND_BODY;
+    };
+    let total = own.read_u32(&bytes[4..]) as usize;
+    if total % 4 == 0 { total } else { AROUND_BODY }
 }

@@ -17,7 +17,7 @@ const INTERFACE: u32 = 1;
 const OBSOLETE_PACKET: u32 = 2;
 
 /// The type of a simple packet block.
-const SIMPLE_PACKET: u32 = 3;
+pub(crate) const SIMPLE_PACKET: u32 = 3;
 
 /// The type of an enhanced packet block.
 const ENHANCED_PACKET: u32 = 6;

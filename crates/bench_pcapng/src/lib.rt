@@ -10,10 +10,12 @@
 //! one that stands first there.
 //!
 //! **The way.** [`Pcapng::open`] reads the first block, and each [`Pcapng::next_packet`] goes on to the next packet. A packet's bytes
-//! are a slice of the file. Memory is taken for the interfaces of the section alone.
+//! are a slice of the file. Memory is taken for the interfaces of the section alone. [`Blocks`] is the same without the bytes, for a
+//! file that is held in pieces.
 #![tactic(auto)]
 
 mod block;
+pub mod blocks;
 mod effect;
 pub mod fault;
 mod interface;
@@ -26,6 +28,7 @@ mod section;
 mod time;
 mod walk;
 
+pub use blocks::{Block, Blocks, Located};
 pub use fault::PcapngFault;
 pub use packet::Packet;
 pub use pcapng::{Pcapng, is_pcapng};

@@ -3,11 +3,11 @@ ghost use Rattle.std.specs.Prelude.{◌≡◌, ◌<◌, ◌+◌, ◌^◌, IfSome
 ghost use Rattle.bench_pcapng.specs.Reading.{is_pcapng, opened};
 ghost use Rattle.bench_pcapng.specs.Walks.{place_of};
 
-use crate::block::{SECTION, block_length};
+use crate::block::SECTION;
+use crate::blocks::Blocks;
 use crate::fault::PcapngFault;
 use crate::order::Order;
 use crate::packet::Packet;
-use crate::section::read_section;
 use crate::walk::Walk;
 use std::alloc::Global;
 use std::marker::Model;
@@ -34,24 +34,17 @@ impl<'a> Model for Pcapng<'a> {
 
     ghost view = { λ p. reading_at (place_of p.walk) };
 
-    ghost invariant = { λ p. p.walk.number + length p.walk.rest.now < 2 ^ 64 };
+    ghost invariant = { λ p. p.walk.blocks.number + length p.walk.rest.now < 2 ^ 64 };
 }
 
 /// The walk behind a file's first block, if that begins a section.
-#[tactic(auto, unfolding(crate::specs::Reading::opened))]
 fn open_walk<'a>(alloc: Global, file: &'a [u8]) -> Option<Walk<'a>>
     ensures place { option_map (λ walk. place_of walk) result ≡ opened file.now }
-    ensures few { IfSome result (λ walk. walk.number + length walk.rest.now < 2 ^ 64) }
+    ensures few { IfSome result (λ walk. walk.blocks.number + length walk.rest.now < 2 ^ 64) }
 {
-    if !is_pcapng(file) {
-        return None;
-    }
-    let total = block_length(Order::HighFirst, file)?;
-    let (_, behind_kind) = file.split_at(8);
-    let (body, _) = behind_kind.split_at(total - 12);
-    let (_, behind) = file.split_at(total);
-    let order = read_section(body)?;
-    Some(Walk::behind_first(Vec::new(alloc), order, behind))
+    let (blocks, length) = Blocks::open(alloc, file)?;
+    let (_, rest) = file.split_at(length);
+    Some(Walk { blocks, rest })
 }
 
 impl<'a> Pcapng<'a> {

@@ -1,6 +1,6 @@
 //! Captures in the pcapng format that are made by hand, block by block: each kind of block in either byte order, each resolution of
 //! times, and each fault.
-use bench_pcapng::{Packet, Pcapng, PcapngFault, is_pcapng};
+use bench_pcapng::{Blocks, Packet, Pcapng, PcapngFault, is_pcapng};
 use std::alloc::{AllocError, Global};
 use std::process::Abort;
 use std::test::Fail;
@@ -384,4 +384,35 @@ fn a_file_that_begins_with_no_section_has_a_header_fault(rt: HostRuntime) {
         file[place % 28] = byte;
         same!(rt; Pcapng::open(rt.alloc(), &file).err(), Some(PcapngFault::Header), "{what}");
     }
+}
+
+/// A block by how many bytes it has, and where its packet's bytes stand; or why there is none.
+type Front = Result<(usize, Option<usize>), PcapngFault>;
+
+/// Reads the block at the front of some bytes.
+fn read_front(rt: &impl Abort, blocks: &mut Blocks, bytes: &[u8]) -> Front {
+    assert!(rt; !blocks.is_full(), "one more block can be numbered");
+    match blocks.read(bytes) {
+        Ok(block) => {
+            let length = block.length;
+            Ok((length, block.packet.map(|located| located.start)))
+        }
+        Err(fault) => Err(fault),
+    }
+}
+
+#[test]
+fn blocks_are_read_one_at_a_time(rt: HostRuntime) {
+    same!(rt; Blocks::wanted_to_open(&LOW_SECTION[..11]), 12);
+    same!(rt; Blocks::wanted_to_open(&LOW_SECTION[..12]), 28);
+    let (mut blocks, length) = Blocks::open(rt.alloc(), &LOW_SECTION).expect(&rt, "a section");
+    same!(rt; length, 28);
+    same!(rt; blocks.wanted(&LOW_INTERFACE[..4]), 12);
+    same!(rt; blocks.wanted(&LOW_PACKET[..20]), 52);
+    let cut = read_front(&rt, &mut blocks, &LOW_PACKET[..51]);
+    same!(rt; cut, Err(PcapngFault::Torn(1)));
+    same!(rt; read_front(&rt, &mut blocks, &LOW_INTERFACE), Ok((20, None)));
+    same!(rt; read_front(&rt, &mut blocks, &LOW_PACKET), Ok((52, Some(28))));
+    same!(rt; read_front(&rt, &mut blocks, &LOW_SIMPLE), Ok((20, Some(12))));
+    same!(rt; read_front(&rt, &mut blocks, &LOW_SECOND), Err(PcapngFault::Torn(4)));
 }
