@@ -1,0 +1,9 @@
+pub mod Advancing
+pub mod Classics
+pub mod Examples
+pub mod Holding
+pub mod Law
+pub mod PcapngLaw
+pub mod Taking
+pub mod Turns
+pub mod Wholes

@@ -1,0 +1,45 @@
+-- The bytes of a file that is in memory are all that there is.
+use Rattle.std.proofs.Common.{◌≡◌, ℕ, List, [], length, drop, refl, sym, ap, ◌∙◌, inl, append-nil}
+use Rattle.std.specs.Prelude.{Ok, Err}
+use Rattle.bench_capture.specs.Calls.{IsNext}
+use Rattle.bench_capture.specs.File.{reading_in, reading_of}
+use Rattle.bench_capture.specs.Formats.{IsFaulty, IsTaken, Opens, Takes, reading_at, with_span}
+use Rattle.bench_capture.specs.Reading.{Reading, nothing_left, stopped}
+use Rattle.bench_capture.specs.declared.fault.CaptureFault.{CaptureFault}
+use Rattle.bench_capture.specs.declared.fault.FrameFault.{FrameFault}
+use Rattle.bench_capture.specs.declared.fault.FrameFault.TheVariants.{Capture, NoMemory}
+use Rattle.bench_capture.specs.declared.format.Format.{Format}
+use Rattle.bench_capture.specs.declared.format.Format.TheVariants.{Classic, Pcapng}
+use Rattle.bench_capture.specs.declared.span.Taken.{Taken}
+use Rattle.bench_capture.proofs.Classics.{records_none}
+use Rattle.bench_pcapng.specs.Reading as pcapng
+use Rattle.bench_pcapng.proofs.Readings as blocks
+
+pub whole_opened : (file : List ℕ) (format : Format) (size : ℕ) → Opens file (Ok (format, size)) → reading_at format (drop size file) ≡ reading_of file
+whole_opened file format size opens =
+    ap (λ (left : List ℕ). reading_at format left) (sym (append-nil (drop size file))) ∙ sym (opens.2 []) ∙ ap (λ (all : List ℕ). reading_of all) (append-nil file)
+
+pub whole_faulty : (file : List ℕ) (fault : CaptureFault) → Opens file (Err fault) → reading_of file ≡ stopped fault
+whole_faulty file fault opens = ap (λ (all : List ℕ). reading_of all) (sym (append-nil file)) ∙ opens [] (inl refl)
+
+pub whole_taken : (old new : Format) (bytes : List ℕ) (taken : Taken) → IsTaken old bytes taken new
+    → reading_at old bytes ≡ with_span bytes taken.frame (reading_at new (drop taken.length bytes))
+whole_taken old new bytes taken is =
+    ap (λ (all : List ℕ). reading_at old all) (sym (append-nil bytes)) ∙ is.reads []
+    ∙ ap (λ (left : List ℕ). with_span bytes taken.frame (reading_at new left)) (append-nil (drop taken.length bytes))
+
+pub whole_fails : (old new : Format) (bytes : List ℕ) (fault : CaptureFault) → IsFaulty old bytes fault new → reading_at old bytes ≡ stopped fault
+whole_fails old new bytes fault is = ap (λ (all : List ℕ). reading_at old all) (sym (append-nil bytes)) ∙ is.reads [] (inl refl)
+
+-- where nothing was taken, that is what is next
+pub fault_next : (old new : Format) (bytes : List ℕ) (fault : FrameFault) (all : Reading) → Takes old bytes (Err fault) new → reading_at old bytes ≡ all
+    → IsNext (Err fault) all (reading_at new bytes)
+fault_next old new bytes (Capture fault) all is same =
+    (sym same ∙ whole_fails old new bytes fault is, ap (λ (format : Format). reading_at format bytes) is.same ∙ same)
+fault_next old new bytes NoMemory all is same = ap (λ (format : Format). reading_at format bytes) is ∙ same
+
+-- no bytes, nothing to be read
+pub reading_none : (format : Format) (bytes : List ℕ) → length bytes ≡ 0 → reading_at format bytes ≡ nothing_left
+reading_none (Classic records) bytes none = records_none records.order records.nanoseconds records.number bytes none
+reading_none (Pcapng known) bytes none =
+    ap (λ (all : pcapng.Reading). reading_in all) (blocks.reading_none (pcapng.place_at known bytes) none)

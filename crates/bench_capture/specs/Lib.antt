@@ -1,0 +1,10 @@
+pub mod Calls
+pub mod Classic
+pub mod Faults
+pub mod File
+pub mod Formats
+pub mod Laws
+pub mod Reading
+pub mod Recorded
+pub mod Records
+pub mod Windows

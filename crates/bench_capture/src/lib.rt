@@ -1,0 +1,30 @@
+//! The frames of a capture file with their times, whichever format it has: the classic one of libpcap or pcapng.
+//!
+//! **The definitions** stand in `specs/`: a frame (Recorded), the frames up to the first fault (Reading), the records of a classic
+//! capture with their times (Classic), and what a file of either format holds (File). A file in the pcapng format is told by its
+//! first four bytes, `0a 0d 0d 0a`, and is read as `bench_pcapng` defines it; any other is read as `capture` does.
+//! [`law_of_classic_captures`] and [`law_of_pcapng_captures`] tie the definitions to theirs.
+//!
+//! **From a slice.** [`Frames`] gives one frame after the other, each as a slice of the file.
+//!
+//! **From a reader.** [`FrameReader`] reads a file in pieces, into one buffer that is used again. A frame is a slice of the buffer. The
+//! buffer grows only where a record or a block is longer than it, and then only as bytes come. So memory doesn't depend on how long
+//! the file is, nor on a length that a broken file gives.
+#![tactic(auto)]
+
+mod classic;
+pub mod fault;
+mod format;
+pub mod frames;
+pub mod laws;
+pub mod reader;
+pub mod recorded;
+mod span;
+mod turn;
+mod window;
+
+pub use fault::{CaptureFault, FrameFault, ReadFault};
+pub use frames::Frames;
+pub use laws::{law_of_classic_captures, law_of_pcapng_captures};
+pub use reader::FrameReader;
+pub use recorded::RecordedFrame;

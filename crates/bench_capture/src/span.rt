@@ -1,0 +1,37 @@
+//! Where a frame stands in bytes.
+ghost use Rattle.std.specs.Prelude.{◌≡◌};
+ghost use Rattle.bench_capture.specs.Formats.{IsWithin, recorded_at};
+
+use crate::recorded::RecordedFrame;
+
+/// A frame, by where its bytes stand.
+#[derive(Clone, Copy, Debug)]
+pub(crate) struct Span {
+    /// Its time, in nanoseconds since the epoch.
+    pub(crate) time: u64,
+    /// How many bytes the frame had.
+    pub(crate) original: u32,
+    /// How many bytes stand before its own.
+    pub(crate) start: usize,
+    /// How many bytes of it are stored.
+    pub(crate) length: usize,
+}
+
+/// The front of some bytes: a record or a block.
+#[derive(Clone, Copy, Debug)]
+pub(crate) struct Taken {
+    /// How many bytes it has.
+    pub(crate) length: usize,
+    /// Its frame, if it holds one.
+    pub(crate) frame: Option<Span>,
+}
+
+/// The frame that stands there.
+pub(crate) fn frame_at(bytes: &[u8], span: Span) -> RecordedFrame<'_>
+    requires { IsWithin bytes.now span }
+    ensures { result ≡ recorded_at bytes.now span }
+{
+    let (_, from) = bytes.split_at(span.start);
+    let (stored, _) = from.split_at(span.length);
+    RecordedFrame::of(span.time, span.original, stored)
+}

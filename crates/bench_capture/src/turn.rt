@@ -1,0 +1,62 @@
+//! One turn of reading on: a record or a block is taken from the bytes that are held, or more bytes are wanted.
+ghost use Rattle.std.specs.Prelude.{◌≡◌, [], false, true, List, ℕ, Ok};
+ghost use Rattle.bench_capture.specs.Windows.{IsTurn};
+
+use crate::fault::{FrameFault, ReadFault};
+use crate::format::Format;
+use crate::span::Span;
+use crate::window::Window;
+use std::io::ErrorKind;
+
+/// What a turn came to.
+#[derive(Clone, Copy, Debug)]
+pub(crate) enum Turn {
+    /// A frame, which is a part of the window's buffer.
+    Frame(Span),
+    /// A block without a frame was passed.
+    Passed,
+    /// The end of the file.
+    End,
+    /// More bytes have to be read first.
+    Wants,
+}
+
+/// Takes the record or block at the front of the bytes that are held, which are all that is left where `ended`.
+pub(crate) fn take_turn(
+    format: &mut Format,
+    window: &mut Window,
+    ended: bool,
+) -> Result<Turn, ReadFault>
+    ensures turn { (rest : List ℕ) → (ended ≡ true → rest ≡ [])
+        → IsTurn format.old window.old rest result format.new window.new }
+    ensures wants { result ≡ Ok Turn.Wants → ended ≡ false }
+{
+    let bytes = window.as_slice();
+    if bytes.is_empty() {
+        return Ok(if ended { Turn::End } else { Turn::Wants });
+    }
+    if format.is_full() {
+        return Err(ReadFault::Unreadable(ErrorKind::FileTooLarge));
+    }
+    match format.take(bytes) {
+        Ok(taken) => {
+            let before = window.start;
+            window.take(taken.length);
+            Ok(match taken.frame {
+                Some(span) => Turn::Frame(Span {
+                    start: before + span.start,
+                    ..span
+                }),
+                None => Turn::Passed,
+            })
+        }
+        Err(FrameFault::NoMemory) => Err(ReadFault::NoMemory),
+        Err(FrameFault::Capture(fault)) => {
+            if ended || format.wanted(bytes) <= bytes.len() {
+                Err(ReadFault::Capture(fault))
+            } else {
+                Ok(Turn::Wants)
+            }
+        }
+    }
+}
