@@ -1,0 +1,5 @@
+mod Examples
+pub mod Orders
+pub mod Parts
+pub mod Queues
+pub mod Walks
