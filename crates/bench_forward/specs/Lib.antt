@@ -1,0 +1,15 @@
+pub mod Blocks
+pub mod Dropped
+pub mod Entries
+pub mod EntryNumbers
+pub mod Frames
+pub mod Interfaces
+pub mod Lines
+pub mod OneFrame
+pub mod Outcome
+pub mod Outputs
+pub mod Packets
+pub mod Parts
+pub mod Rows
+pub mod Sizes
+pub mod Totals

@@ -1,0 +1,127 @@
+//! All frames of a capture, forwarded.
+ghost use Rattle.std.specs.Prelude.{◌≡◌, [], IfOk, IfSome, OnErr, OnOk};
+ghost use Rattle.std.specs.Io.KnownBytes.{Appends, Keeps};
+ghost use Rattle.frame_meaning.specs.Meaning.{table_at};
+ghost use Rattle.text_writing.specs.Written.{AppendsPart};
+ghost use Rattle.bench_forward.specs.Blocks.{section_block};
+ghost use Rattle.bench_forward.specs.EntryNumbers.{AreNumbersAt};
+ghost use Rattle.bench_forward.specs.Outcome.{Ends};
+ghost use Rattle.bench_forward.specs.Outputs.{known_in};
+ghost use Rattle.bench_forward.specs.Totals.{AreTotals};
+
+use crate::block::section_block;
+use crate::entries::EntryNumbers;
+use crate::fault::ForwardFault;
+use crate::forwarding::{Setting, State, forward_frame};
+use crate::interfaces::Interfaces;
+use crate::outputs::Outputs;
+use crate::totals::Totals;
+use bench_capture::FrameReader;
+use forward_plan::Live;
+use std::alloc::{AllocError, Global};
+use std::io::{Read, Write};
+use text_writing::{WriteFault, write_whole};
+
+/// What came of the frames of a capture.
+#[derive(Drop)]
+pub struct Forwarded {
+    /// Those of the frames that were forwarded and written.
+    pub totals: Totals,
+    /// Why there weren't more of them, if the capture didn't end.
+    pub ended: Result<(), ForwardFault>,
+}
+
+/// Writes what stands before all frames that leave, if these are asked for.
+fn write_header<W: Write>(packets: &mut Option<W>) -> Result<(), WriteFault>
+    ensures ok { OnOk result
+        (Appends (known_in W.contents packets.old) (known_in W.contents packets.new)
+        section_block) }
+    ensures err { OnErr result
+        (AppendsPart (known_in W.contents packets.old) (known_in W.contents packets.new)
+        section_block) }
+{
+    match packets {
+        Some(writer) => write_whole(writer, &section_block()),
+        None => Ok(()),
+    }
+}
+
+/// Forwards all frames that a reader has left, from nothing on.
+fn forward_all<R: Read, W: Write, V: Write>(
+    setting: &Setting<'_>,
+    state: &mut State,
+    frames: &mut FrameReader<R>,
+    outputs: &mut Outputs<W, V>,
+) -> Result<(), ForwardFault>
+    requires numbered { AreNumbersAt
+        (table_at setting.now.live.now setting.now.port) setting.now.entries }
+    requires gems { state.old.interfaces ≡ [] }
+    requires totals { AreTotals [] 0 state.old.totals }
+    ensures { IfSome frames.old.left (λ all. Ends setting.now.live.now setting.now.port all result
+        (record {
+          packets_before = known_in W.contents outputs.old.packets;
+          packets_after = known_in W.contents outputs.new.packets;
+          lines_before = known_in V.contents outputs.old.verdicts;
+          lines_after = known_in V.contents outputs.new.verdicts;
+        })
+        state.new.totals) }
+{
+    write_header(&mut outputs.packets)?;
+    loop {
+        match frames.advance() {
+            Ok(true) => {}
+            Ok(false) => return Ok(()),
+            Err(fault) => return Err(ForwardFault::Read(fault)),
+        }
+        let frame = frames.frame().unwrap();
+        if let Err(fault) = forward_frame(setting, state, &frame, outputs) {
+            return Err(fault);
+        }
+    }
+}
+
+/// Forwards the frames of a capture that come in at a port, and writes what comes of them. It reads the capture in pieces, and holds
+/// no more memory for a longer one. Frames are numbered from 1.
+///
+/// To `outputs.packets` go the frames that leave, as a capture in the pcapng format: a section header, and for each frame a packet with
+/// the time of its record in nanoseconds, whose interface stands for its GEM port; `gem G`, described ahead of its first packet. To
+/// `outputs.verdicts` goes a line for each frame: `N g GEM`, or `N d R` where it is dropped for reason R, and behind it ` entry K`, the
+/// number of the entry that was used in the order in which entries are tried, where one was.
+///
+/// All that it takes in memory but a longer buffer of the reader is taken before a byte is read or written: Err where it is refused. Each
+/// later fault comes when it is met, and what was written before it stays; [`Forwarded`] has the totals of the frames up to it.
+pub fn forward_frames<R: Read, W: Write, V: Write>(
+    alloc: Global,
+    live: &Live,
+    port: u16,
+    frames: &mut FrameReader<R>,
+    outputs: &mut Outputs<W, V>,
+) -> Result<Forwarded, AllocError>
+    ensures ends { IfOk result (λ forwarded.
+        IfSome frames.old.left (λ all. Ends live.now port all forwarded.ended
+        (record {
+          packets_before = known_in W.contents outputs.old.packets;
+          packets_after = known_in W.contents outputs.new.packets;
+          lines_before = known_in V.contents outputs.old.verdicts;
+          lines_after = known_in V.contents outputs.new.verdicts;
+        })
+        forwarded.totals)) }
+    ensures untouched { OnErr result
+        ((frames.new ≡ frames.old) × (outputs.new ≡ outputs.old)) }
+{
+    let entries = EntryNumbers::at(alloc, live.mib(), port)?;
+    let setting = Setting {
+        live,
+        port,
+        entries,
+    };
+    let mut state = State {
+        interfaces: Interfaces::new(alloc)?,
+        totals: Totals::new(alloc)?,
+    };
+    let ended = forward_all(&setting, &mut state, frames, outputs);
+    Ok(Forwarded {
+        totals: state.totals,
+        ended,
+    })
+}
