@@ -1,0 +1,96 @@
+-- What the messages of a script leave, and what was wrong with them.
+use Rattle.std.specs.Prelude.{◌≡◌, ℕ, ◌+◌, ◌&&◌, ⊤, Bool, true, false, not, List, [], ◌∷◌, ◌++◌, Option, Some, None, Result, Ok, Err, if◌then◌else◌, is_some, nat_lt, take}
+use Rattle.omci_msg.specs.Message.{request_of}
+use Rattle.omci_msg.specs.declared.Request.{Request}
+use Rattle.omci_msg.specs.declared.fault.MsgFault.{MsgFault}
+use Rattle.mib_state.specs.After.{is_accepted, may_change}
+use Rattle.mib_state.specs.Entities.{State, nothing, unlatched}
+use Rattle.mib_state.specs.Step.{step}
+use Rattle.script_lines.specs.Line.{Asked, Message, Frame, Nothing, asked_by}
+use Rattle.script_lines.specs.Text.{lines_of}
+use Rattle.script_trace.specs.declared.apply.Applied.{Applied}
+use Rattle.script_trace.specs.declared.fault.ScriptFault.{ScriptFault}
+use Rattle.script_trace.specs.declared.fault.ScriptFault.TheVariants.{BadLine, NoMemory}
+
+-- the entities so far, the requests that were accepted, and the numbers, from 1, of the lines whose messages have a fault or are refused
+pub record Told : Type 0 where
+  pub state : State
+  pub accepted : List Request
+  pub faulty : List ℕ
+  pub refused : List ℕ
+
+-- what is left when messages were carried out
+abbrev pub told_by : Applied → Told
+told_by applied = record { state = applied.mib; accepted = applied.accepted.items; faulty = applied.faulty.items; refused = applied.refused.items }
+
+-- a request is refused where it is to change the entities and isn't accepted
+abbrev pub is_refused : State → Request → Bool
+is_refused s q = not (is_accepted s.entities q) && may_change q.action
+
+-- ---- line by line
+
+abbrev pub after_request : ℕ → Request → Told → Told
+after_request n q told = record {
+  state = (step told.state q).1;
+  accepted = told.accepted ++ (if is_accepted told.state.entities q then q ∷ [] else []);
+  faulty = told.faulty;
+  refused = told.refused ++ (if is_refused told.state q then n ∷ [] else []);
+}
+
+abbrev pub after_message : ℕ → Result Request MsgFault → Told → Told
+after_message n (Ok q) told = after_request n q told
+after_message n (Err fault) told = record told { faulty = told.faulty ++ n ∷ [] }
+
+abbrev pub after_line : ℕ → Option Asked → Told → Told
+after_line n None told = told
+after_line n (Some (Message bytes)) told = after_message n (request_of bytes) told
+after_line n (Some (Frame port bytes)) told = told
+after_line n (Some Nothing) told = told
+
+-- after lines, the first of which has the number behind this one
+abbrev pub after_lines : ℕ → List (List ℕ) → Told → Told
+after_lines n [] told = told
+after_lines n (line ∷ rest) told = after_lines (n + 1) rest (after_line (n + 1) (asked_by line) told)
+
+-- ---- a script
+
+-- the lines that are read: those up to a number, or all
+abbrev pub read_until : Option ℕ → List (List ℕ) → List (List ℕ)
+read_until None lines = lines
+read_until (Some last) lines = take last lines
+
+-- whether one more is read behind so many
+abbrev pub goes_on : ℕ → Option ℕ → Bool
+goes_on n None = true
+goes_on n (Some last) = nat_lt n last
+
+-- no instance, and nothing wrong
+abbrev pub nothing_told : Told
+nothing_told = record { state = unlatched nothing; accepted = []; faulty = []; refused = [] }
+
+-- what the messages of a script leave, up to a line
+abbrev pub after_script : Option ℕ → List ℕ → Told
+after_script until script = after_lines 0 (read_until until (lines_of script)) nothing_told
+
+-- the number of the first bad line among some, the first of which has the number behind this one
+abbrev pub bad_among : ℕ → List (List ℕ) → Option ℕ
+bad_among n [] = None
+bad_among n (line ∷ rest) = if is_some (asked_by line) then bad_among (n + 1) rest else Some (n + 1)
+
+-- the number, from 1, of the first bad line that is read
+abbrev pub first_bad : Option ℕ → List ℕ → Option ℕ
+first_bad until script = bad_among 0 (read_until until (lines_of script))
+
+-- a line isn't bad
+abbrev pub IsGood : Option Asked → Type 0
+IsGood asked = is_some asked ≡ true
+
+-- why a line isn't carried out: it is bad, or memory is wanting
+abbrev pub IsBadLine : ℕ → Option Asked → ScriptFault → Type 0
+IsBadLine n asked (BadLine m) = (m ≡ n) × (asked ≡ None)
+IsBadLine n asked NoMemory = ⊤
+
+-- why a script isn't carried out: its first bad line, or want of memory
+abbrev pub IsWhyNotApplied : Option ℕ → List ℕ → ScriptFault → Type 0
+IsWhyNotApplied until script (BadLine n) = first_bad until script ≡ Some n
+IsWhyNotApplied until script NoMemory = ⊤
