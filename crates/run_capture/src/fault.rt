@@ -21,7 +21,7 @@ pub enum RunFault {
     /// There is no memory for the run or for its lines.
     #[error("no memory")]
     NoMemory,
-    /// A lane got no place, couldn't enter, or didn't hold at the end what was published.
+    /// A lane got no place, couldn't enter, or didn't hold at the end what was published. Or 2^32 frames or more are listed.
     #[error("refused")]
     Refused,
     /// A sum of the counts passes 64 bits.

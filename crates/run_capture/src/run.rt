@@ -1,15 +1,30 @@
 //! A run: a capture forwarded while a trace is applied, and its lines written.
-ghost use Rattle.std.specs.Prelude.{◌≡◌, None, IfOk, IfErr, OnOk, OnErr, unwrap_or};
+ghost use Rattle.std.specs.Prelude.{◌≡◌, ◌<◌, ◌^◌, None, IfOk, IfErr, OnOk, OnErr, length, map, unwrap_or};
 ghost use Rattle.std.specs.Io.KnownBytes.{Appends};
 ghost use Rattle.capture.specs.Records.{capture_of};
 ghost use Rattle.text_writing.specs.Written.{AppendsPart};
-ghost use Rattle.run_capture.specs.Outcome.{file_fault, input_fault, IsOutput, IsWhyNone, Runs};
+ghost use Rattle.mib_state.specs.After.{accepted};
+ghost use Rattle.run_lanes.specs.Run.{SomeRunPasses};
+ghost use Rattle.run_settings.specs.Settings.{CanRun};
+ghost use Rattle.run_trace.specs.Trace.{requests_of};
+ghost use Rattle.run_capture.specs.Outcome.{
+  file_fault,
+  input_fault,
+  listed_fault,
+  CountsPass,
+  IsOutput,
+  IsOutputOver,
+  IsWhyNone,
+  Runs,
+  RunsFrames,
+};
 ghost use Rattle.run_capture.specs.declared.fault.RunFault.TheVariants.{NoMemory};
 
 use crate::fault::RunFault;
 use crate::lines::lines_of;
 use crate::progress::{Progress, Watched, show};
 use capture::{ListFault, Pcap, list_frames};
+use omci_msg::Request;
 use run_lanes::{LaneFault, RunInput, run_lanes};
 use run_settings::RunSettings;
 use run_trace::{TraceFault, read_requests};
@@ -20,7 +35,46 @@ use std::sync::Wait;
 use std::thread::{Threads, join};
 use text_writing::write_whole;
 
-/// What a run writes, or why it writes nothing.
+/// What a run of frames writes, or why it writes nothing.
+fn output_over<R: Threads + Wait + Sync>(
+    rt: &R,
+    alloc: Global,
+    requests: &[Request],
+    frames: &[&[u8]],
+    settings: &RunSettings,
+    progress: &Progress,
+) -> Result<Vec<u8>, RunFault>
+    requires settings { CanRun settings.now }
+    requires few { length frames.now < 2 ^ 32 }
+    ensures output { IfOk result (λ out. IsOutputOver (accepted requests.now)
+        (map (λ frame. frame.now) frames.now) settings.now out.items) }
+    ensures fault { IfErr result (IsWhyNone None (SomeRunPasses (accepted requests.now) settings.now
+        (map (λ frame. frame.now) frames.now))) }
+{
+    let count = frames.len();
+    progress.begin(count);
+    let gate = Watched {
+        progress,
+        lanes: settings.lanes,
+    };
+    let input = RunInput {
+        requests,
+        frames,
+        settings,
+    };
+    let ran = match run_lanes(rt, alloc, &input, 1, &gate) {
+        Ok(ran) => ran,
+        Err(LaneFault::NoMemory) => return Err(RunFault::NoMemory),
+        Err(LaneFault::Refused) => return Err(RunFault::Refused),
+        Err(LaneFault::CountFull) => return Err(RunFault::CountFull),
+    };
+    let Ok(out) = lines_of(alloc, &ran, settings.batch as usize, count) else {
+        return Err(RunFault::NoMemory);
+    };
+    Ok(out)
+}
+
+/// What a run of a file writes, or why it writes nothing.
 fn output_of<R: Threads + Wait + Sync>(
     rt: &R,
     alloc: Global,
@@ -31,7 +85,8 @@ fn output_of<R: Threads + Wait + Sync>(
 ) -> Result<Vec<u8>, RunFault>
     ensures fits { IfOk result (λ out. input_fault trace.now file.now settings.now ≡ None) }
     ensures output { IfOk result (λ out. IsOutput trace.now file.now settings.now out.items) }
-    ensures fault { IfErr result (IsWhyNone trace.now file.now settings.now) }
+    ensures fault { IfErr result (IsWhyNone (input_fault trace.now file.now settings.now)
+        (CountsPass trace.now file.now settings.now)) }
 {
     if !settings.can_run() {
         return Err(RunFault::Settings);
@@ -46,27 +101,38 @@ fn output_of<R: Threads + Wait + Sync>(
         Err(ListFault::Capture(fault)) => return Err(RunFault::Capture(fault)),
         Err(ListFault::NoMemory) => return Err(RunFault::NoMemory),
     };
-    let count = frames.len();
-    progress.begin(count);
-    let gate = Watched {
-        progress,
-        lanes: settings.lanes,
+    output_over(rt, alloc, &requests, &frames, settings, progress)
+}
+
+/// What a run of listed frames writes, or why it writes nothing.
+fn output_of_frames<R: Threads + Wait + Sync>(
+    rt: &R,
+    alloc: Global,
+    trace: &[u8],
+    frames: &[&[u8]],
+    settings: &RunSettings,
+    progress: &Progress,
+) -> Result<Vec<u8>, RunFault>
+    ensures fits { IfOk result (λ out. listed_fault trace.now settings.now ≡ None) }
+    ensures output { IfOk result (λ out. IsOutputOver (accepted (requests_of trace.now))
+        (map (λ frame. frame.now) frames.now) settings.now out.items) }
+    ensures fault { IfErr result (IsWhyNone (listed_fault trace.now settings.now)
+        (SomeRunPasses (accepted (requests_of trace.now)) settings.now
+        (map (λ frame. frame.now) frames.now))) }
+{
+    if !settings.can_run() {
+        return Err(RunFault::Settings);
+    }
+    let requests = match read_requests(alloc, trace) {
+        Ok(requests) => requests,
+        Err(TraceFault::BadLine(line)) => return Err(RunFault::BadTrace(line)),
+        Err(TraceFault::NoMemory) => return Err(RunFault::NoMemory),
     };
-    let input = RunInput {
-        requests: &requests,
-        frames: &frames,
-        settings,
-    };
-    let ran = match run_lanes(rt, alloc, &input, 1, &gate) {
-        Ok(ran) => ran,
-        Err(LaneFault::NoMemory) => return Err(RunFault::NoMemory),
-        Err(LaneFault::Refused) => return Err(RunFault::Refused),
-        Err(LaneFault::CountFull) => return Err(RunFault::CountFull),
-    };
-    let Ok(out) = lines_of(alloc, &ran, settings.batch as usize, count) else {
-        return Err(RunFault::NoMemory);
-    };
-    Ok(out)
+    // the batches are counted in 32 bits
+    if frames.len() > u32::MAX as usize {
+        return Err(RunFault::Refused);
+    }
+    output_over(rt, alloc, &requests, frames, settings, progress)
 }
 
 /// Why nothing is written where the requests of the trace find no memory: the capture has a fault, or else that.
@@ -90,6 +156,28 @@ fn write_lines<W: Write>(writer: &mut W, out: &[u8]) -> Result<(), RunFault>
         Ok(()) => Ok(()),
         Err(_) => Err(RunFault::Write),
     }
+}
+
+/// What a call makes, while a line on `err` shows how far it is.
+fn make_shown<
+    R: Threads + Clock + Sync,
+    E: Write + Send,
+    F: FnOnce(&Progress) -> Result<Vec<u8>, RunFault>,
+>(rt: &R, settings: &RunSettings, err: &mut E, make: F) -> Result<Vec<u8>, RunFault>
+    requires { F.IsAlwaysCallable make }
+    ensures { (progress : _) × F.post make progress result }
+{
+    let progress = Progress::new();
+    let (_, made) = join(
+        rt,
+        || show(rt, &progress, settings, err),
+        || {
+            let made = make(&progress);
+            progress.end();
+            made
+        },
+    );
+    made
 }
 
 /// Forwards the frames of a capture file, in batches spread over lanes, while the requests of a trace are applied, and writes what
@@ -136,22 +224,78 @@ pub fn run_over_shown<
     ensures { Runs trace.now frames.now settings.now result (W.contents writer.old)
         (W.contents writer.new) }
 {
-    let progress = Progress::new();
-    let (_, made) = join(
+    let made = make_shown(
         rt,
-        || show(rt, &progress, settings, err),
-        || -> Result<Vec<u8>, RunFault>
+        settings,
+        err,
+        |progress: &Progress| -> Result<Vec<u8>, RunFault>
             ensures fits { IfOk result (λ out.
                 input_fault trace.entry.now frames.entry.now settings.entry.now ≡ None) }
             ensures output { IfOk result (λ out.
                 IsOutput trace.entry.now frames.entry.now settings.entry.now out.items) }
-            ensures fault { IfErr result (IsWhyNone trace.entry.now frames.entry.now
-                settings.entry.now) }
-        {
-            let made = output_of(rt, rt.alloc(), trace, frames, settings, &progress);
-            progress.end();
-            made
-        },
+            ensures fault { IfErr result (IsWhyNone
+                (input_fault trace.entry.now frames.entry.now settings.entry.now)
+                (CountsPass trace.entry.now frames.entry.now settings.entry.now)) }
+        { output_of(rt, rt.alloc(), trace, frames, settings, progress) },
+    );
+    let out = match made {
+        Ok(out) => out,
+        Err(fault) => return Err(fault),
+    };
+    write_lines(writer, &out)
+}
+
+/// Runs over frames that are already listed, in place of a capture file, and writes the same lines as [`run_over`]. The faults are the
+/// same but for [`RunFault::Capture`], which doesn't occur. A list of 2^32 frames or more is [`RunFault::Refused`].
+pub fn run_frames<R: Threads + Wait + Sync, W: Write>(
+    rt: &R,
+    alloc: Global,
+    trace: &[u8],
+    frames: &[&[u8]],
+    settings: &RunSettings,
+    writer: &mut W,
+) -> Result<(), RunFault>
+    ensures { RunsFrames trace.now (map (λ frame. frame.now) frames.now) settings.now result
+        (W.contents writer.old) (W.contents writer.new) }
+{
+    let out = match output_of_frames(rt, alloc, trace, frames, settings, &Progress::new()) {
+        Ok(out) => out,
+        Err(fault) => return Err(fault),
+    };
+    write_lines(writer, &out)
+}
+
+/// The same as [`run_frames`], and meanwhile a line on `err`, as by [`run_over_shown`].
+pub fn run_frames_shown<
+    R: Threads + Wait + Clock + Alloc<A = Global> + Sync,
+    W: Write,
+    E: Write + Send,
+>(
+    rt: &R,
+    trace: &[u8],
+    frames: &[&[u8]],
+    settings: &RunSettings,
+    writer: &mut W,
+    err: &mut E,
+) -> Result<(), RunFault>
+    ensures { RunsFrames trace.now (map (λ frame. frame.now) frames.now) settings.now result
+        (W.contents writer.old) (W.contents writer.new) }
+{
+    let made = make_shown(
+        rt,
+        settings,
+        err,
+        |progress: &Progress| -> Result<Vec<u8>, RunFault>
+            ensures fits { IfOk result (λ out.
+                listed_fault trace.entry.now settings.entry.now ≡ None) }
+            ensures output { IfOk result (λ out. IsOutputOver
+                (accepted (requests_of trace.entry.now))
+                (map (λ frame. frame.now) frames.entry.now) settings.entry.now out.items) }
+            ensures fault { IfErr result (IsWhyNone
+                (listed_fault trace.entry.now settings.entry.now)
+                (SomeRunPasses (accepted (requests_of trace.entry.now)) settings.entry.now
+                (map (λ frame. frame.now) frames.entry.now))) }
+        { output_of_frames(rt, rt.alloc(), trace, frames, settings, progress) },
     );
     let out = match made {
         Ok(out) => out,
