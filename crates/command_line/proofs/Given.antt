@@ -1,18 +1,22 @@
 -- What the values of options are, and that words which are not read ask for nothing in its range.
 use Rattle.std.proofs.Common.{◌≡◌, ◌∙◌, ◌<◌, ◌^◌, ◌≤◌, ℕ, List, Option, Some, None, Result, refl, sym, subst, arith, codes}
-use Rattle.std.specs.Prelude.{IfNone}
+use Rattle.std.specs.Prelude.{IfNone, true, false, is_some, option_map}
 use Rattle.std.specs.Str.Parse.{ParsesUnsigned, ExplainsUnsignedError, HasUnsignedDigitsIfOk, digits_value, without_leading_plus}
 use Rattle.std.specs.declared.num.ParseIntError.{ParseIntError}
 use Rattle.clap.specs.Words.{ReadsOne, Row, Text, first_of, first_value, one_text, rows_of}
 use Rattle.clap.specs.declared.parser.matches.Found.{Found}
 use Rattle.clap.proofs.WalkLemmas.{first_value-rows, one_text-rows}
-use Rattle.command_line.specs.Asked.{IsExplain, IsMib, IsNumber, IsRules, IsRun}
-use Rattle.command_line.specs.Range.{AreInRange}
+use Rattle.command_line.specs.Asked.{IsExplain, IsForward, IsFrame, IsMib, IsNumber, IsOptionalNumber, IsRules, IsRun, IsTrace}
+use Rattle.command_line.specs.Range.{AreInRange, IsFrameInRange, IsLine}
 use Rattle.run_settings.specs.Settings.{AreInLimits}
 use Rattle.command_line.specs.declared.words.RunWords.{RunWords}
 use Rattle.command_line.specs.declared.words.MibWords.{MibWords}
 use Rattle.command_line.specs.declared.words.RulesWords.{RulesWords}
 use Rattle.command_line.specs.declared.words.ExplainWords.{ExplainWords}
+use Rattle.command_line.specs.declared.words.FrameWords.{FrameWords}
+use Rattle.command_line.specs.declared.words.FrameWords.TheVariants.{Bytes, Captured}
+use Rattle.command_line.specs.declared.words.TraceWords.{TraceWords}
+use Rattle.command_line.specs.declared.words.ForwardWords.{ForwardWords}
 
 -- how a whole number of so many bits is read
 abbrev pub Reads : ℕ → Text → Result ℕ ParseIntError → Type 0
@@ -33,6 +37,15 @@ number_read bits f name n none value = go (one_text f name) refl
 pub if_none : {A : Type 0} {X : Type 0} (o : Option A) → X → IfNone o X
 if_none None x = x
 if_none (Some a) x = tt
+
+-- nothing is read where nothing is there, and something where something is
+pub nothing_read : {A B : Type 0} (f : A → B) (o : Option A) → is_some o ≡ false → option_map f o ≡ None
+nothing_read f None is = refl
+nothing_read f (Some a) is = absurd (cc)
+
+pub something_read : {A B : Type 0} (f : A → B) (o : Option A) → is_some o ≡ true → (b : B) × (option_map f o ≡ Some b)
+something_read f None is = absurd (cc)
+something_read f (Some a) is = (f a, refl)
 
 -- a number that was not read is none of so many bits
 number_unread : (bits : ℕ) (f : Found) (name : Text) (n : ℕ) → ((text : Text) → one_text f name ≡ Some text → ReadsOne (Reads bits) text None)
@@ -90,12 +103,53 @@ module _ (f : Found) where
       → (words : RulesWords) → IsRules (rows_of f) words → words.port ≤ 65535 → ⊥
   rules_unread value words is fits = number_unread 16 f (codes "port") words.port value is.port (omega (arith, fits))
 
-  pub explain_missing : first_value f (codes "trace") ≡ None → (words : ExplainWords) → IsExplain (rows_of f) words → words.port ≤ 65535 → ⊥
-  explain_missing none words is fits = missing f (codes "trace") words.trace.now none is.trace
+  pub explain_missing : first_value f (codes "trace") ≡ None
+      → (words : ExplainWords) → IsExplain (rows_of f) words → words.port ≤ 65535 → IsFrameInRange words.frame → ⊥
+  explain_missing none words is fits frame = missing f (codes "trace") words.trace.now none is.trace
 
   pub explain_unread : ((text : Text) → one_text f (codes "port") ≡ Some text → ReadsOne (Reads 16) text None)
-      → (words : ExplainWords) → IsExplain (rows_of f) words → words.port ≤ 65535 → ⊥
-  explain_unread value words is fits = number_unread 16 f (codes "port") words.port value is.port (omega (arith, fits))
+      → (words : ExplainWords) → IsExplain (rows_of f) words → words.port ≤ 65535 → IsFrameInRange words.frame → ⊥
+  explain_unread value words is fits frame = number_unread 16 f (codes "port") words.port value is.port (omega (arith, fits))
 
-  pub frame_missing : first_value f (codes "frame") ≡ None → (words : ExplainWords) → IsExplain (rows_of f) words → words.port ≤ 65535 → ⊥
-  frame_missing none words is fits = missing f (codes "frame") words.frame.now none is.frame
+  -- a frame given by bytes and by a capture, or by neither
+  pub captured_unread : ((text : Text) → one_text f (codes "frame") ≡ Some text → ReadsOne (Reads 32) text None)
+      → first_value f (codes "bytes") ≡ None → (words : FrameWords) → IsFrame (rows_of f) words → IsFrameInRange words → ⊥
+  captured_unread value none (Bytes digits) is fits = missing f (codes "bytes") digits.now none is.0
+  captured_unread value none (Captured file number) is fits = number_unread 32 f (codes "frame") number value is.2 (omega (arith, fits))
+
+  pub captured_missing : first_value f (codes "frames") ≡ None → first_value f (codes "bytes") ≡ None
+      → (words : FrameWords) → IsFrame (rows_of f) words → IsFrameInRange words → ⊥
+  captured_missing none no_bytes (Bytes digits) is fits = missing f (codes "bytes") digits.now no_bytes is.0
+  captured_missing none no_bytes (Captured file number) is fits = missing f (codes "frames") file.now none is.1
+
+  -- a value that is there isn't left out
+  given : (name : Text) (value : Text) → first_value f name ≡ Some value → first_of name (rows_of f) ≡ None → ⊥
+  given name value some is = let bad : None ≡ Some value = sym is ∙ sym (first_value-rows f name) ∙ some in absurd (cc)
+
+  pub too_many : (digits more : Text) → first_value f (codes "bytes") ≡ Some digits
+      → first_value f (codes "frames") ≡ Some more → (words : FrameWords) → IsFrame (rows_of f) words → IsFrameInRange words → ⊥
+  too_many digits more some others (Bytes other) is fits = given (codes "frames") more others is.1
+  too_many digits more some others (Captured file number) is fits = given (codes "bytes") digits some is.0
+
+  pub too_many_numbers : (digits more : Text) → first_value f (codes "bytes") ≡ Some digits
+      → first_value f (codes "frame") ≡ Some more → (words : FrameWords) → IsFrame (rows_of f) words → IsFrameInRange words → ⊥
+  too_many_numbers digits more some others (Bytes other) is fits = given (codes "frame") more others is.2
+  too_many_numbers digits more some others (Captured file number) is fits = given (codes "bytes") digits some is.0
+
+  -- the number of an option that may be left out
+  pub optional_unread : (name : Text) (text : Text) → first_value f name ≡ Some text
+      → ((text : Text) → one_text f name ≡ Some text → ReadsOne (Reads 32) text None)
+      → (n : Option ℕ) → IsOptionalNumber name (rows_of f) n → IsLine n → ⊥
+  optional_unread name text some value None is fits = given name text some is
+  optional_unread name text some value (Some n) is fits = number_unread 32 f name n value is (omega (arith, fits))
+
+  pub trace_file_missing : first_value f (codes "trace") ≡ None → (words : TraceWords) → IsTrace (rows_of f) words → IsLine words.until → ⊥
+  trace_file_missing none words is fits = missing f (codes "trace") words.file.now none is.file
+
+  pub forward_missing : first_value f (codes "frames") ≡ None
+      → (words : ForwardWords) → IsForward (rows_of f) words → words.port ≤ 65535 → IsLine words.trace.until → ⊥
+  forward_missing none words is fits line = missing f (codes "frames") words.frames.now none is.frames
+
+  pub forward_unread : ((text : Text) → one_text f (codes "port") ≡ Some text → ReadsOne (Reads 16) text None)
+      → (words : ForwardWords) → IsForward (rows_of f) words → words.port ≤ 65535 → IsLine words.trace.until → ⊥
+  forward_unread value words is fits line = number_unread 16 f (codes "port") words.port value is.port (omega (arith, fits))

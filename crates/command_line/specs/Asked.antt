@@ -1,14 +1,20 @@
 -- What the words ask for.
-use Rattle.std.specs.Prelude.{◌≡◌, ℕ, Bool, true, false, List, Option, Some, None, codes, option_map}
+use Rattle.std.specs.Prelude.{◌≡◌, ℕ, Bool, true, false, List, [], Option, Some, None, codes, map, option_map}
+use Rattle.std.specs.Borrow.{Bor}
 use Rattle.std.specs.Str.Parse.{IsNumeral, digits_value, without_leading_plus}
-use Rattle.clap.specs.Words.{Row, Text, first_of, one_of}
+use Rattle.clap.specs.Words.{Row, Text, all_of, first_of, one_of}
 use Rattle.command_line.specs.declared.words.RunWords.{RunWords}
 use Rattle.command_line.specs.declared.words.MibWords.{MibWords}
 use Rattle.command_line.specs.declared.words.RulesWords.{RulesWords}
 use Rattle.command_line.specs.declared.words.ExplainWords.{ExplainWords}
 use Rattle.command_line.specs.declared.words.JudgeWords.{JudgeWords}
+use Rattle.command_line.specs.declared.words.FrameWords.{FrameWords}
+use Rattle.command_line.specs.declared.words.FrameWords.TheVariants.{Bytes, Captured}
+use Rattle.command_line.specs.declared.words.TraceWords.{TraceWords}
+use Rattle.command_line.specs.declared.words.ForwardWords.{ForwardWords}
+use Rattle.command_line.specs.declared.words.RecordWords.{RecordWords}
 use Rattle.command_line.specs.declared.words.Words.{Words}
-use Rattle.command_line.specs.declared.words.Words.TheVariants.{Replay, Run, Decode, Mib, Rules, Explain, Judge}
+use Rattle.command_line.specs.declared.words.Words.TheVariants.{Replay, Run, Decode, Mib, Rules, Explain, Judge, Forward, Record}
 
 -- the value of an option is a number in decimal digits
 pub record IsNumber (name : Text) (rows : List Row) (n : ℕ) : Type 0 where
@@ -16,6 +22,11 @@ pub record IsNumber (name : Text) (rows : List Row) (n : ℕ) : Type 0 where
   pub value : one_of name rows ≡ Some text
   pub numeral : IsNumeral 10 (without_leading_plus text)
   pub number : n ≡ digits_value 10 (without_leading_plus text)
+
+-- the same of an option that may be left out
+abbrev pub IsOptionalNumber : Text → List Row → Option ℕ → Type 0
+IsOptionalNumber name rows None = first_of name rows ≡ None
+IsOptionalNumber name rows (Some n) = IsNumber name rows n
 
 -- whether an option without a value is given
 pub record IsFlag (name : Text) (rows : List Row) (given : Bool) : Type 0 where
@@ -42,12 +53,23 @@ pub record IsRules (rows : List Row) (words : RulesWords) : Type 0 where
   pub port : IsNumber (codes "port") rows words.port
   pub json : IsFlag (codes "json") rows words.json
 
+-- the frame is given by its bytes alone, or by a capture and its number there
+abbrev pub IsFrame : List Row → FrameWords → Type 0
+IsFrame rows (Bytes digits) =
+    (first_of (codes "bytes") rows ≡ Some digits.now)
+    × (first_of (codes "frames") rows ≡ None)
+    × (first_of (codes "frame") rows ≡ None)
+IsFrame rows (Captured file number) =
+    (first_of (codes "bytes") rows ≡ None)
+    × (first_of (codes "frames") rows ≡ Some file.now)
+    × IsNumber (codes "frame") rows number
+
 -- those behind `explain`
 pub record IsExplain (rows : List Row) (words : ExplainWords) : Type 0 where
   pub trace : first_of (codes "trace") rows ≡ Some words.trace.now
   pub port : IsNumber (codes "port") rows words.port
   pub json : IsFlag (codes "json") rows words.json
-  pub frame : first_of (codes "frame") rows ≡ Some words.frame.now
+  pub frame : IsFrame rows words.frame
 
 -- those behind `judge`
 pub record IsJudge (rows : List Row) (words : JudgeWords) : Type 0 where
@@ -55,6 +77,38 @@ pub record IsJudge (rows : List Row) (words : JudgeWords) : Type 0 where
   pub modelled : IsFlag (codes "modelled") rows words.modelled
   pub unordered : IsFlag (codes "unordered") rows words.unordered
   pub json : IsFlag (codes "json") rows words.json
+
+-- which messages are applied
+pub record IsTrace (rows : List Row) (words : TraceWords) : Type 0 where
+  pub file : first_of (codes "trace") rows ≡ Some words.file.now
+  pub until : IsOptionalNumber (codes "until") rows words.until
+  pub strict : IsFlag (codes "strict") rows words.strict
+
+-- those behind `forward`
+pub record IsForward (rows : List Row) (words : ForwardWords) : Type 0 where
+  pub trace : IsTrace rows words.trace
+  pub frames : first_of (codes "frames") rows ≡ Some words.frames.now
+  pub port : IsNumber (codes "port") rows words.port
+  pub out : first_of (codes "out") rows ≡ option_map (λ (name : _). name.now) words.out
+  pub verdicts : first_of (codes "verdicts") rows ≡ option_map (λ (name : _). name.now) words.verdicts
+  pub json : IsFlag (codes "json") rows words.json
+
+-- the texts of an option that may be given several times, in order
+abbrev pub texts_given : Option (List Text) → List Text
+texts_given None = []
+texts_given (Some texts) = texts
+
+abbrev pub AreTexts : Text → List Row → List (Bor Text) → Type 0
+AreTexts name rows texts = map (λ (text : Bor Text). text.now) texts ≡ texts_given (all_of name rows)
+
+-- those behind `record`
+pub record IsRecord (rows : List Row) (words : RecordWords) : Type 0 where
+  pub omci : AreTexts (codes "omci") rows words.omci.items
+  pub into : AreTexts (codes "into") rows words.into.items
+  pub out_of : AreTexts (codes "out-of") rows words.out_of.items
+  pub tpids : AreTexts (codes "tpid") rows words.tpids.items
+  pub wait : IsOptionalNumber (codes "wait") rows words.wait
+  pub lost : IsOptionalNumber (codes "lost") rows words.lost
 
 -- what a subcommand asks for, by its name and the values of its options
 abbrev pub IsAskedBy : Option (Text × List Row) → Words → Type 0
@@ -66,3 +120,17 @@ IsAskedBy (Some (name, rows)) (Mib words) = (name ≡ codes "mib") × IsMib rows
 IsAskedBy (Some (name, rows)) (Rules words) = (name ≡ codes "rules") × IsRules rows words
 IsAskedBy (Some (name, rows)) (Explain words) = (name ≡ codes "explain") × IsExplain rows words
 IsAskedBy (Some (name, rows)) (Judge words) = (name ≡ codes "judge") × IsJudge rows words
+IsAskedBy (Some (name, rows)) (Forward words) = (name ≡ codes "forward") × IsForward rows words
+IsAskedBy (Some (name, rows)) (Record words) = (name ≡ codes "record") × IsRecord rows words
+
+-- all but `record`
+abbrev pub IsNoRecord : Words → Type 0
+IsNoRecord Replay = Unit {0}
+IsNoRecord (Run words) = Unit {0}
+IsNoRecord Decode = Unit {0}
+IsNoRecord (Mib words) = Unit {0}
+IsNoRecord (Rules words) = Unit {0}
+IsNoRecord (Explain words) = Unit {0}
+IsNoRecord (Judge words) = Unit {0}
+IsNoRecord (Forward words) = Unit {0}
+IsNoRecord (Record words) = ⊥

@@ -5,7 +5,7 @@ use Rattle.std.specs.declared.alloc.AllocError.{AllocError}
 use Rattle.clap.specs.Words.{App, Rule, Text, app_of, new_app, new_rule, with_rule, with_subcommand}
 use Rattle.clap.specs.declared.builder.command.Command.{Command}
 use Rattle.clap.specs.declared.builder.command.Command.TheViews.{out-Command as fields_of}
-use Rattle.clap.specs.declared.builder.action.ArgAction.TheVariants.{Set, SetTrue}
+use Rattle.clap.specs.declared.builder.action.ArgAction.TheVariants.{Append, Set, SetTrue}
 use Rattle.clap.specs.declared.builder.value_parser.ValueParser.{ValueParser}
 use Rattle.clap.specs.declared.builder.value_parser.ValueParser.TheVariants.{NonEmptyString, Signed, String as AnyString}
 use Rattle.run_settings.specs.Settings.{batch_limit, lane_limit}
@@ -50,13 +50,51 @@ after = flag (codes "after")
 abbrev pub json : Rule
 json = flag (codes "json")
 
--- a frame, which no option's name stands before
-abbrev pub frame : Rule
-frame = record (new_rule (codes "frame")) {
+-- an option with a value that may be left out
+abbrev pub optional : Text → ValueParser → Rule
+optional name parser = record (new_rule name) {
+  long = Some name;
+  action = Some Set;
+  value_names = 1;
+  parser = Some parser;
+}
+
+-- a file that is written, or standard output
+abbrev pub out : Rule
+out = optional (codes "out") NonEmptyString
+
+abbrev pub verdicts : Rule
+verdicts = optional (codes "verdicts") NonEmptyString
+
+-- the number of a line, or of a frame
+abbrev pub numbered : Text → Rule
+numbered name = optional name (Signed (pos 1) (pos 4294967295))
+
+abbrev pub until : Rule
+until = numbered (codes "until")
+
+abbrev pub strict : Rule
+strict = flag (codes "strict")
+
+-- an option with a value that may be given several times
+abbrev pub several : Text → Rule
+several name = record (new_rule name) {
+  long = Some name;
+  action = Some Append;
+  value_names = 1;
+  parser = Some NonEmptyString;
+}
+
+-- a number of milliseconds
+abbrev pub milliseconds : Text → Rule
+milliseconds name = optional name (Signed (pos 0) (pos 4294967295))
+
+-- the bytes of a frame, which no option's name stands before, and which may be left out
+abbrev pub bytes : Rule
+bytes = record (new_rule (codes "bytes")) {
   action = Some Set;
   value_names = 1;
   parser = Some AnyString;
-  required = true;
 }
 
 abbrev pub modelled : Rule
@@ -76,12 +114,19 @@ history = record (new_rule (codes "history")) {
 abbrev pub replay : App
 replay = new_app (codes "replay")
 
--- what names the two files
-abbrev pub over_files : App
-over_files = with_rule (with_rule (new_app (codes "run")) trace) (file (codes "frames"))
+-- what names the two files and a port
+abbrev pub over_files : Text → App
+over_files name = with_rule (with_rule (with_rule (new_app name) trace) (file (codes "frames"))) port
 
 abbrev pub run : App
-run = with_rule (with_rule (with_rule (with_rule over_files port) lanes) batch) after
+run = with_rule (with_rule (with_rule (over_files (codes "run")) lanes) batch) after
+
+-- what names the files that are written
+abbrev pub to_files : App
+to_files = with_rule (with_rule (over_files (codes "forward")) out) verdicts
+
+abbrev pub forward : App
+forward = with_rule (with_rule (with_rule to_files until) strict) json
 
 abbrev pub decode : App
 decode = new_app (codes "decode")
@@ -97,10 +142,18 @@ abbrev pub rules : App
 rules = at_port (codes "rules")
 
 abbrev pub explain : App
-explain = with_rule (at_port (codes "explain")) frame
+explain = with_rule (with_rule (with_rule (at_port (codes "explain")) bytes) (optional (codes "frames") NonEmptyString)) (numbered (codes "frame"))
 
 abbrev pub judge : App
 judge = with_rule (with_rule (with_rule (with_rule (new_app (codes "judge")) modelled) unordered) json) history
+
+-- what names captures
+abbrev pub of_captures : App
+of_captures =
+    with_rule (with_rule (with_rule (new_app (codes "record")) (several (codes "omci"))) (several (codes "into"))) (several (codes "out-of"))
+
+abbrev pub recording : App
+recording = with_rule (with_rule (with_rule of_captures (several (codes "tpid"))) (milliseconds (codes "wait"))) (milliseconds (codes "lost"))
 
 -- the program alone, which shows its help where no word follows
 abbrev pub alone : App
@@ -117,4 +170,4 @@ abbrev pub with_looking : App → App
 with_looking app = with_subcommand (with_subcommand (with_subcommand (with_subcommand app decode.top) mib.top) rules.top) explain.top
 
 abbrev pub onuctl : App
-onuctl = with_subcommand (with_looking (with_doing alone)) judge.top
+onuctl = with_subcommand (with_subcommand (with_subcommand (with_looking (with_doing alone)) judge.top) forward.top) recording.top

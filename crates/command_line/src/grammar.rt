@@ -4,7 +4,7 @@ ghost use Rattle.std.specs.Prelude.{◌≡◌, IfOk, Ok, Some, false, codes};
 ghost use Rattle.clap.specs.Words.{App, Rule, Text, app_of, new_app, rule_of, with_rule, with_subcommand};
 ghost use Rattle.clap.specs.declared.builder.command.Command.TheViews.{out-Command as fields_of};
 ghost use Rattle.clap.specs.declared.builder.value_parser.ValueParser.TheVariants.{NonEmptyString};
-ghost use Rattle.command_line.specs.Grammar.{IsCommand, after, at_port, batch, decode, explain, frame, history, json, judge, lanes, mib, modelled, onuctl, port, replay, rules, run, trace, unordered, valued};
+ghost use Rattle.command_line.specs.Grammar.{IsCommand, after, at_port, batch, bytes, decode, explain, forward, history, json, judge, lanes, mib, milliseconds, modelled, numbered, of_captures, onuctl, optional, out, over_files, port, recording, replay, rules, run, several, strict, trace, until, unordered, valued, verdicts};
 
 use clap::builder::ValueParser;
 use clap::{Arg, ArgAction, Command, value_parser};
@@ -66,6 +66,34 @@ fn file<'a>(alloc: Global, name: &'a str, help: &'a str) -> Arg<'a>
     ensures local { result.global ≡ false }
 {
     valued(alloc, name, "FILE", help, ValueParser::NonEmptyString)
+}
+
+/// An option with a value, by its name, which is its id too. It may be left out.
+fn optional<'a>(
+    alloc: Global,
+    name: &'a str,
+    value: &'a str,
+    help: &'a str,
+    parser: ValueParser<'a>,
+) -> Arg<'a>
+    ensures rule { rule_of result ≡ optional name.entry.now parser.entry }
+    ensures local { result.global ≡ false }
+{
+    Arg::new(alloc, name)
+        .long(name)
+        .value_name(value)
+        .action(ArgAction::Set)
+        .value_parser(parser)
+        .help(help)
+}
+
+/// An option with the number of a line or of a frame, from 1. It may be left out.
+fn numbered<'a>(alloc: Global, name: &'a str, value: &'a str, help: &'a str) -> Arg<'a>
+    ensures rule { rule_of result ≡ numbered name.entry.now }
+    ensures local { result.global ≡ false }
+{
+    let parser = value_parser!(u32).range(1..=i64::from(u32::MAX));
+    optional(alloc, name, value, help, parser)
 }
 
 /// The script whose messages are applied.
@@ -139,6 +167,21 @@ fn replay<'a>(alloc: Global) -> Result<Command<'a>, AllocError>
     )
 }
 
+/// The command that names a trace, a capture and a port.
+fn over_files<'a>(alloc: Global, command: Command<'a>) -> Result<Command<'a>, AllocError>
+    ensures { (name : Text) → IsCommand (Ok command.entry) (new_app name)
+        → IsCommand result (over_files name) }
+{
+    let frames = file(
+        alloc,
+        "frames",
+        "Capture of the frames, a file in libpcap's classic format or in pcapng [example: up.pcap]",
+    );
+    let over_trace = with_arg(Ok(command), trace(alloc));
+    let over_files = with_arg(over_trace, frames);
+    with_arg(over_files, port(alloc))
+}
+
 fn run<'a>(alloc: Global) -> Result<Command<'a>, AllocError>
     ensures { IsCommand result run }
 {
@@ -147,15 +190,7 @@ fn run<'a>(alloc: Global) -> Result<Command<'a>, AllocError>
         .after_help(
             "Example: onuctl run --trace up.script --frames up.pcap --port 257 --lanes 4 --batch 1024",
         );
-    let frames = file(
-        alloc,
-        "frames",
-        "Capture of the frames, a file in the classic format of libpcap [example: up.pcap]",
-    );
-    let over_trace = with_arg(Ok(alone), trace(alloc));
-    let over_files = with_arg(over_trace, frames);
-    let at_port = with_arg(over_files, port(alloc));
-    let on_lanes = with_arg(at_port, lanes(alloc));
+    let on_lanes = with_arg(over_files(alloc, alone), lanes(alloc));
     let in_batches = with_arg(on_lanes, batch(alloc));
     with_arg(in_batches, after(alloc))
 }
@@ -172,13 +207,12 @@ fn json<'a>(alloc: Global) -> Arg<'a>
 }
 
 /// The bytes of a frame.
-fn frame<'a>(alloc: Global) -> Arg<'a>
-    ensures rule { rule_of result ≡ frame }
+fn bytes<'a>(alloc: Global) -> Arg<'a>
+    ensures rule { rule_of result ≡ bytes }
     ensures local { result.global ≡ false }
 {
-    Arg::new(alloc, "frame")
+    Arg::new(alloc, "bytes")
         .value_name("HEX")
-        .required(true)
         .action(ArgAction::Set)
         .value_parser(ValueParser::String)
         .help("Bytes of the frame, from the destination address on, in hexadecimal digits")
@@ -229,9 +263,171 @@ fn explain<'a>(alloc: Global) -> Result<Command<'a>, AllocError>
     let alone = Command::new(alloc, "explain")
         .about("Say step by step what becomes of one frame after a trace")
         .after_help(
-            "Example: onuctl explain --trace up.script --port 257 0200000000010200000000028100a0640800",
+            "The frame is given by its bytes, or by a capture and its number there.\nExample: onuctl explain --trace up.script --port 257 0200000000010200000000028100a0640800\nExample: onuctl explain --trace up.script --port 257 --frames up.pcap --frame 7",
         );
-    with_arg(at_port(alloc, alone), frame(alloc))
+    let frames = optional(
+        alloc,
+        "frames",
+        "FILE",
+        "Capture with the frame, a file in libpcap's classic format or in pcapng [example: up.pcap]",
+        ValueParser::NonEmptyString,
+    );
+    let frame = numbered(
+        alloc,
+        "frame",
+        "NUMBER",
+        "Number of the frame in the capture, from 1 [example: 7]",
+    );
+    let of_bytes = with_arg(at_port(alloc, alone), bytes(alloc));
+    let of_capture = with_arg(of_bytes, frames);
+    with_arg(of_capture, frame)
+}
+
+/// The capture of what leaves.
+fn out<'a>(alloc: Global) -> Arg<'a>
+    ensures rule { rule_of result ≡ out }
+    ensures local { result.global ≡ false }
+{
+    optional(
+        alloc,
+        "out",
+        "FILE",
+        "Write the frames that leave to this file, as pcapng; - is standard output [example: left.pcapng]",
+        ValueParser::NonEmptyString,
+    )
+}
+
+/// The lines of verdicts.
+fn verdicts<'a>(alloc: Global) -> Arg<'a>
+    ensures rule { rule_of result ≡ verdicts }
+    ensures local { result.global ≡ false }
+{
+    optional(
+        alloc,
+        "verdicts",
+        "FILE",
+        "Write a line for each frame to this file: its GEM port or why it is dropped [example: up.verdicts]",
+        ValueParser::NonEmptyString,
+    )
+}
+
+/// The last line of the trace.
+fn until<'a>(alloc: Global) -> Arg<'a>
+    ensures rule { rule_of result ≡ until }
+    ensures local { result.global ≡ false }
+{
+    numbered(
+        alloc,
+        "until",
+        "LINE",
+        "Stop behind this line of the trace, from 1 [example: 20]",
+    )
+}
+
+/// Whether each message of the trace has to be carried out.
+fn strict<'a>(alloc: Global) -> Arg<'a>
+    ensures rule { rule_of result ≡ strict }
+    ensures local { result.global ≡ false }
+{
+    Arg::new(alloc, "strict")
+        .long("strict")
+        .action(ArgAction::SetTrue)
+        .help(
+            "Stop where a message of the trace has a fault or is refused; has no value [example: --strict]",
+        )
+}
+
+/// An option that may be given several times, with a text that isn't empty.
+fn several<'a>(alloc: Global, name: &'a str, value: &'a str, help: &'a str) -> Arg<'a>
+    ensures rule { rule_of result ≡ several name.entry.now }
+    ensures local { result.global ≡ false }
+{
+    Arg::new(alloc, name)
+        .long(name)
+        .value_name(value)
+        .action(ArgAction::Append)
+        .value_parser(ValueParser::NonEmptyString)
+        .help(help)
+}
+
+/// An option with a number of milliseconds, which may be left out.
+fn milliseconds<'a>(alloc: Global, name: &'a str, help: &'a str) -> Arg<'a>
+    ensures rule { rule_of result ≡ milliseconds name.entry.now }
+    ensures local { result.global ≡ false }
+{
+    let parser = value_parser!(u32).range(0..=i64::from(u32::MAX));
+    optional(alloc, name, "MS", help, parser)
+}
+
+/// The command that names captures.
+fn of_captures<'a>(alloc: Global) -> Result<Command<'a>, AllocError>
+    ensures { IsCommand result of_captures }
+{
+    let alone = Command::new(alloc, "record")
+        .about("Write the history that captures of one clock show, for judge")
+        .after_help(
+            "Captures are files in libpcap's classic format or in pcapng. Each of --omci, --into, --out-of and --tpid may be given several times.\nExample: onuctl record --omci omci.pcap --into 257=up.pcap --out-of 1024=gem.pcap | onuctl judge",
+        );
+    let omci = several(
+        alloc,
+        "omci",
+        "FILE",
+        "Capture of OMCI frames, in one direction or both [example: omci.pcap]",
+    );
+    let into = several(
+        alloc,
+        "into",
+        "PORT=FILE",
+        "Capture of the frames sent into a port [example: 257=up.pcap]",
+    );
+    let out_of = several(
+        alloc,
+        "out-of",
+        "GEM=FILE",
+        "Capture of the frames that left by a GEM port [example: 1024=gem.pcap]",
+    );
+    let with_omci = with_arg(Ok(alone), omci);
+    let with_into = with_arg(with_omci, into);
+    with_arg(with_into, out_of)
+}
+
+fn recording<'a>(alloc: Global) -> Result<Command<'a>, AllocError>
+    ensures { IsCommand result recording }
+{
+    let tpid = several(
+        alloc,
+        "tpid",
+        "TPID",
+        "Type of tags beside 8100 and 88a8, in hexadecimal digits [example: 9100]",
+    );
+    let wait = milliseconds(
+        alloc,
+        "wait",
+        "A reply is in force for frames this long after it, in milliseconds [example: 100]",
+    );
+    let lost = milliseconds(
+        alloc,
+        "lost",
+        "A frame that isn't seen to leave in this time was dropped, in milliseconds [example: 1000]",
+    );
+    let with_tpid = with_arg(of_captures(alloc), tpid);
+    let with_wait = with_arg(with_tpid, wait);
+    with_arg(with_wait, lost)
+}
+
+fn forward<'a>(alloc: Global) -> Result<Command<'a>, AllocError>
+    ensures { IsCommand result forward }
+{
+    let alone = Command::new(alloc, "forward")
+        .about("Forward the frames of a capture after a trace, and say what becomes of each")
+        .after_help(
+            "Example: onuctl forward --trace up.script --frames up.pcap --port 257 --out left.pcapng",
+        );
+    let to_capture = with_arg(over_files(alloc, alone), out(alloc));
+    let to_files = with_arg(to_capture, verdicts(alloc));
+    let up_to = with_arg(to_files, until(alloc));
+    let strictly = with_arg(up_to, strict(alloc));
+    with_arg(strictly, json(alloc))
 }
 
 /// Whether the contents of replies are looked at only where the model has the class.
@@ -301,5 +497,7 @@ pub fn onuctl<'a>(alloc: Global) -> Result<Command<'a>, AllocError>
     let showing = with_sub(decoding, mib(alloc));
     let listing = with_sub(showing, rules(alloc));
     let explaining = with_sub(listing, explain(alloc));
-    with_sub(explaining, judge(alloc))
+    let judging = with_sub(explaining, judge(alloc));
+    let capturing = with_sub(judging, forward(alloc));
+    with_sub(capturing, recording(alloc))
 }

@@ -2,10 +2,15 @@
 #![tactic(auto)]
 
 mod grammar;
+mod numbered;
 mod reading;
 mod report;
 mod words;
 
+pub use numbered::{NumberedFile, read_numbered, read_tpid};
 pub use reading::read_words;
 pub use report::report_words;
-pub use words::{ExplainWords, JudgeWords, MibWords, RulesWords, RunWords, Words};
+pub use words::{
+    ExplainWords, ForwardWords, FrameWords, JudgeWords, MibWords, RecordWords, RulesWords,
+    RunWords, TraceWords, Words,
+};

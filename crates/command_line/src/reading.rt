@@ -1,23 +1,30 @@
 //! What the words ask for.
-ghost use Rattle.std.specs.Prelude.{◌≡◌, ◌≤◌, IfErr, IfNone, IfOk, IfSome};
+ghost use Rattle.std.specs.Prelude.{◌≡◌, ◌≤◌, ℕ, Option, IfErr, IfNone, IfOk, IfSome};
 ghost use Rattle.clap.specs.Words.{app_of, found_of, rows_of, subcommand_of, subcommand_rows_of};
 ghost use Rattle.clap.specs.Walk.{texts};
-ghost use Rattle.command_line.specs.Asked.{IsAskedBy, IsExplain, IsJudge, IsMib, IsRules, IsRun};
+ghost use Rattle.command_line.specs.Asked.{AreTexts, IsAskedBy, IsExplain, IsForward, IsFrame, IsJudge, IsMib, IsNoRecord, IsOptionalNumber, IsRecord, IsRules, IsRun, IsTrace};
 ghost use Rattle.command_line.specs.Refused.{IsRightlyRefused};
 ghost use Rattle.command_line.specs.declared.words.Words.{Words};
+ghost use Rattle.command_line.specs.declared.words.RecordWords.{RecordWords};
 ghost use Rattle.command_line.specs.declared.words.RunWords.{RunWords};
 ghost use Rattle.command_line.specs.declared.words.MibWords.{MibWords};
 ghost use Rattle.command_line.specs.declared.words.RulesWords.{RulesWords};
 ghost use Rattle.command_line.specs.declared.words.ExplainWords.{ExplainWords};
+ghost use Rattle.command_line.specs.declared.words.ForwardWords.{ForwardWords};
+ghost use Rattle.command_line.specs.declared.words.FrameWords.{FrameWords};
+ghost use Rattle.command_line.specs.declared.words.TraceWords.{TraceWords};
 ghost use Rattle.command_line.specs.Grammar.{onuctl};
-ghost use Rattle.command_line.specs.Range.{AreInRange, IsInRange};
+ghost use Rattle.command_line.specs.Range.{AreInRange, IsFrameInRange, IsInRange, IsLine};
 
 use crate::grammar::onuctl;
-use crate::words::{ExplainWords, JudgeWords, MibWords, RulesWords, RunWords, Words};
+use crate::words::{
+    ExplainWords, ForwardWords, FrameWords, JudgeWords, MibWords, RecordWords, RulesWords,
+    RunWords, TraceWords, Words,
+};
 use clap::error::ErrorKind;
 use clap::{ArgMatches, Command, Error};
 use run_settings::RunSettings;
-use std::alloc::Global;
+use std::alloc::{AllocError, Global};
 
 /// What the options behind `run` ask for; None where one is missing, or no number in its range.
 fn read_run<'a>(given: &ArgMatches<'a>) -> Option<RunWords<'a>>
@@ -63,17 +70,82 @@ fn read_rules<'a>(given: &ArgMatches<'a>) -> Option<RulesWords<'a>>
     })
 }
 
-/// What the words behind `explain` ask for; None where one is missing, or the port has over 16 bits.
+/// The number of an option that may be left out; None where it is given, and no number of 32 bits.
+fn read_optional(given: &ArgMatches<'_>, name: &str) -> Option<Option<u32>>
+    ensures asked { IfSome result (IsOptionalNumber name.now (rows_of (found_of given.now))) }
+    ensures range { IfSome result IsLine }
+    ensures none { IfNone result ((n : Option ℕ)
+        → IsOptionalNumber name.now (rows_of (found_of given.now)) n → IsLine n → ⊥) }
+{
+    if given.get_str(name).is_none() {
+        return Some(None);
+    }
+    Some(Some(given.get_one(name)?))
+}
+
+/// The frame that `explain` is to explain; None where it is given neither by its bytes alone nor by a capture and its number there.
+fn read_frame<'a>(given: &ArgMatches<'a>) -> Option<FrameWords<'a>>
+    ensures asked { IfSome result (IsFrame (rows_of (found_of given.now))) }
+    ensures range { IfSome result IsFrameInRange }
+    ensures none { IfNone result ((words : FrameWords)
+        → IsFrame (rows_of (found_of given.now)) words → IsFrameInRange words → ⊥) }
+{
+    if let Some(digits) = given.get_str("bytes") {
+        if given.get_str("frames").is_some() || given.get_str("frame").is_some() {
+            return None;
+        }
+        return Some(FrameWords::Bytes(digits));
+    }
+    Some(FrameWords::Captured {
+        file: given.get_str("frames")?,
+        number: given.get_one("frame")?,
+    })
+}
+
+/// What the words behind `explain` ask for; None where one is missing or too much, or the port has over 16 bits.
 fn read_explain<'a>(given: &ArgMatches<'a>) -> Option<ExplainWords<'a>>
     ensures asked { IfSome result (IsExplain (rows_of (found_of given.now))) }
-    ensures range { IfSome result (λ words. words.port ≤ 65535) }
+    ensures range { IfSome result (λ words. (words.port ≤ 65535) × IsFrameInRange words.frame) }
     ensures none { IfNone result ((words : ExplainWords)
-        → IsExplain (rows_of (found_of given.now)) words → words.port ≤ 65535 → ⊥) }
+        → IsExplain (rows_of (found_of given.now)) words
+        → words.port ≤ 65535 → IsFrameInRange words.frame → ⊥) }
 {
     Some(ExplainWords {
         trace: given.get_str("trace")?,
         port: given.get_one("port")?,
-        frame: given.get_str("frame")?,
+        frame: read_frame(given)?,
+        json: given.get_flag("json"),
+    })
+}
+
+/// Which messages are to be applied; None where the file is missing, or the line's number has over 32 bits.
+fn read_trace<'a>(given: &ArgMatches<'a>) -> Option<TraceWords<'a>>
+    ensures asked { IfSome result (IsTrace (rows_of (found_of given.now))) }
+    ensures range { IfSome result (λ words. IsLine words.until) }
+    ensures none { IfNone result ((words : TraceWords)
+        → IsTrace (rows_of (found_of given.now)) words → IsLine words.until → ⊥) }
+{
+    Some(TraceWords {
+        file: given.get_str("trace")?,
+        until: read_optional(given, "until")?,
+        strict: given.get_flag("strict"),
+    })
+}
+
+/// What the options behind `forward` ask for; None where one is missing, or no number in its range.
+fn read_forward<'a>(given: &ArgMatches<'a>) -> Option<ForwardWords<'a>>
+    ensures asked { IfSome result (IsForward (rows_of (found_of given.now))) }
+    ensures range { IfSome result (λ words. (words.port ≤ 65535) × IsLine words.trace.until) }
+    ensures none { IfNone result ((words : ForwardWords)
+        → IsForward (rows_of (found_of given.now)) words
+        → words.port ≤ 65535 → IsLine words.trace.until → ⊥) }
+{
+    Some(ForwardWords {
+        trace: read_trace(given)?,
+        frames: given.get_str("frames")?,
+        port: given.get_one("port")?,
+        out: given.get_str("out"),
+        verdicts: given.get_str("verdicts"),
         json: given.get_flag("json"),
     })
 }
@@ -90,12 +162,54 @@ fn read_judge<'a>(given: &ArgMatches<'a>) -> JudgeWords<'a>
     }
 }
 
-/// What a parse asks for; None where a value is missing, or no number in its range.
-fn read_matches<'a>(matches: &ArgMatches<'a>) -> Option<Words<'a>>
+/// The texts of an option that may be given several times, in order.
+fn texts_of<'a>(
+    alloc: Global,
+    given: &ArgMatches<'a>,
+    name: &str,
+) -> Result<Vec<&'a str>, AllocError>
+    ensures { IfOk result (λ texts. AreTexts name.now (rows_of (found_of given.now)) texts.items) }
+{
+    match given.get_strs(name) {
+        Some(texts) => texts.to_vec(alloc),
+        None => Ok(Vec::new(alloc)),
+    }
+}
+
+/// What the options behind `record` ask for; None where a time is no number of 32 bits.
+fn read_record<'a>(
+    alloc: Global,
+    given: &ArgMatches<'a>,
+) -> Result<Option<RecordWords<'a>>, AllocError>
+    ensures asked { IfOk result (λ read. IfSome read (IsRecord (rows_of (found_of given.now)))) }
+    ensures range { IfOk result (λ read. IfSome read (λ words.
+        IsLine words.wait × IsLine words.lost)) }
+    ensures none { IfOk result (λ read. IfNone read ((words : RecordWords)
+        → IsRecord (rows_of (found_of given.now)) words
+        → IsLine words.wait → IsLine words.lost → ⊥)) }
+{
+    let Some(wait) = read_optional(given, "wait") else {
+        return Ok(None);
+    };
+    let Some(lost) = read_optional(given, "lost") else {
+        return Ok(None);
+    };
+    Ok(Some(RecordWords {
+        omci: texts_of(alloc, given, "omci")?,
+        into: texts_of(alloc, given, "into")?,
+        out_of: texts_of(alloc, given, "out-of")?,
+        tpids: texts_of(alloc, given, "tpid")?,
+        wait,
+        lost,
+    }))
+}
+
+/// What a parse asks for, but for `record`; None where it is that, a value is missing, or no number in its range.
+fn read_others<'a>(matches: &ArgMatches<'a>) -> Option<Words<'a>>
     ensures asked { IfSome result (IsAskedBy (subcommand_rows_of matches.now)) }
     ensures range { IfSome result IsInRange }
     ensures none { IfNone result ((words : Words) → IsAskedBy (subcommand_rows_of matches.now) words
-        → IsInRange words → ⊥) }
+        → IsInRange words → IsNoRecord words → ⊥) }
 {
     if matches.subcommand_matches("replay").is_some() {
         return Some(Words::Replay);
@@ -115,24 +229,55 @@ fn read_matches<'a>(matches: &ArgMatches<'a>) -> Option<Words<'a>>
     if let Some(given) = matches.subcommand_matches("explain") {
         return Some(Words::Explain(read_explain(given)?));
     }
-    let given = matches.subcommand_matches("judge")?;
-    Some(Words::Judge(read_judge(given)))
+    if let Some(given) = matches.subcommand_matches("judge") {
+        return Some(Words::Judge(read_judge(given)));
+    }
+    let given = matches.subcommand_matches("forward")?;
+    Some(Words::Forward(read_forward(given)?))
+}
+
+/// What a parse asks for; None where a value is missing, or no number in its range.
+fn read_matches<'a>(
+    alloc: Global,
+    matches: &ArgMatches<'a>,
+) -> Result<Option<Words<'a>>, AllocError>
+    ensures asked { IfOk result (λ read. IfSome read (IsAskedBy (subcommand_rows_of matches.now))) }
+    ensures range { IfOk result (λ read. IfSome read IsInRange) }
+    ensures none { IfOk result (λ read. IfNone read ((words : Words)
+        → IsAskedBy (subcommand_rows_of matches.now) words → IsInRange words → ⊥)) }
+{
+    let Some(given) = matches.subcommand_matches("record") else {
+        return Ok(read_others(matches));
+    };
+    match read_record(alloc, given)? {
+        Some(words) => Ok(Some(Words::Record(words))),
+        None => Ok(None),
+    }
+}
+
+/// What is said where clap takes words that ask for nothing.
+fn complaint(matches: &ArgMatches<'_>) -> &'static str {
+    if matches.subcommand_matches("explain").is_some() {
+        return "give the frame by its bytes alone, or by --frames and --frame";
+    }
+    "a value is missing or out of its range"
 }
 
 /// What these words ask for, as a command takes them apart that has the program's grammar.
-fn read_by<'a>(command: &mut Command<'a>, words: &'a [&'a str]) -> Result<Words<'a>, Error>
+fn read_by<'a>(
+    alloc: Global,
+    command: &mut Command<'a>,
+    words: &'a [&'a str],
+) -> Result<Words<'a>, Error>
     requires { app_of command.old ≡ onuctl }
     ensures asked { IfOk result (IsAskedBy (subcommand_of onuctl (texts words.entry.now))) }
     ensures range { IfOk result IsInRange }
     ensures refused { IfErr result (IsRightlyRefused (texts words.entry.now)) }
 {
     let matches = command.try_get_matches_from_mut(words)?;
-    match read_matches(&matches) {
+    match read_matches(alloc, &matches)? {
         Some(asked) => Ok(asked),
-        None => Err(command.error(
-            ErrorKind::ValueValidation,
-            "a value is missing or out of its range",
-        )?),
+        None => Err(command.error(ErrorKind::ValueValidation, complaint(&matches))?),
     }
 }
 
@@ -145,5 +290,5 @@ pub fn read_words<'a>(alloc: Global, words: &'a [&'a str]) -> Result<Words<'a>, 
     ensures refused { IfErr result (IsRightlyRefused (texts words.entry.now)) }
 {
     let mut command = onuctl(alloc)?;
-    read_by(&mut command, words)
+    read_by(alloc, &mut command, words)
 }

@@ -2,7 +2,7 @@
 use run_settings::RunSettings;
 
 /// What the words of the command line ask for. The names of files lie in the words.
-#[derive(Clone, Copy, Debug, PartialEq, Eq)]
+#[derive(Debug, Drop, PartialEq, Eq)]
 pub enum Words<'a> {
     /// A replay of the script on standard input.
     Replay,
@@ -18,6 +18,10 @@ pub enum Words<'a> {
     Explain(ExplainWords<'a>),
     /// Whether a right unit may have done what a history says.
     Judge(JudgeWords<'a>),
+    /// What becomes of the frames of a capture after a trace.
+    Forward(ForwardWords<'a>),
+    /// The history that captures show.
+    Record(RecordWords<'a>),
 }
 
 /// What `run` is to do.
@@ -51,6 +55,20 @@ pub struct RulesWords<'a> {
     pub json: bool,
 }
 
+/// The frame that is explained.
+#[derive(Clone, Copy, Debug, PartialEq, Eq)]
+pub enum FrameWords<'a> {
+    /// That of these bytes, in hexadecimal digits if it is one.
+    Bytes(&'a str),
+    /// That of a capture.
+    Captured {
+        /// The file with the capture.
+        file: &'a str,
+        /// Which of its frames, from 1.
+        number: u32,
+    },
+}
+
 /// What `explain` is to explain.
 #[derive(Clone, Copy, Debug, PartialEq, Eq)]
 pub struct ExplainWords<'a> {
@@ -58,8 +76,8 @@ pub struct ExplainWords<'a> {
     pub trace: &'a str,
     /// The port at which the frame comes in.
     pub port: u16,
-    /// The bytes of the frame, in hexadecimal digits if it is one.
-    pub frame: &'a str,
+    /// The frame.
+    pub frame: FrameWords<'a>,
     /// Whether it is shown as JSON.
     pub json: bool,
 }
@@ -75,4 +93,50 @@ pub struct JudgeWords<'a> {
     pub unordered: bool,
     /// Whether it is shown as JSON.
     pub json: bool,
+}
+
+/// The messages that are applied before anything is done.
+#[derive(Clone, Copy, Debug, PartialEq, Eq)]
+pub struct TraceWords<'a> {
+    /// The file with them, a script.
+    pub file: &'a str,
+    /// The last line that is read, from 1, or None for all.
+    pub until: Option<u32>,
+    /// Whether a message that is refused, or has a fault, is an error.
+    pub strict: bool,
+}
+
+/// What `forward` is to forward, and what it writes.
+#[derive(Clone, Copy, Debug, PartialEq, Eq)]
+pub struct ForwardWords<'a> {
+    /// The messages that are applied.
+    pub trace: TraceWords<'a>,
+    /// The file with the capture.
+    pub frames: &'a str,
+    /// The port at which the frames come in.
+    pub port: u16,
+    /// The file for the frames that leave, `-` for standard output, or None where they aren't wanted.
+    pub out: Option<&'a str>,
+    /// The file for a line a frame, or None where none is wanted.
+    pub verdicts: Option<&'a str>,
+    /// Whether the totals are shown as JSON.
+    pub json: bool,
+}
+
+/// The captures that `record` makes a history of, and how. A capture of one port stands as the number of the port, `=`, and the file;
+/// [`read_numbered`](crate::read_numbered) takes such a text apart.
+#[derive(Debug, Drop, PartialEq, Eq)]
+pub struct RecordWords<'a> {
+    /// The files with OMCI frames.
+    pub omci: Vec<&'a str>,
+    /// The numbers of ports, each with the file of the frames that were sent into it.
+    pub into: Vec<&'a str>,
+    /// The numbers of GEM ports, each with the file of the frames that left by it.
+    pub out_of: Vec<&'a str>,
+    /// The types of tags beside those of IEEE 802.1Q, each in hexadecimal digits.
+    pub tpids: Vec<&'a str>,
+    /// How many milliseconds behind a reply a wait for it stands, or None for no waits.
+    pub wait: Option<u32>,
+    /// After how many milliseconds a frame that wasn't seen to leave was dropped, or None where none is said to be.
+    pub lost: Option<u32>,
 }

@@ -15,12 +15,30 @@ pub fn read_whole<R: Files + Alloc<A = Global>>(rt: &R, path: &str) -> io::Resul
     Ok(bytes)
 }
 
-/// Says why a file can't be had: there is no memory for it, or else these words.
-pub fn report_unread<E: Write>(error: &io::Error, words: &[u8], err: &mut E) -> u8 {
-    let words = match error.kind() {
-        ErrorKind::OutOfMemory => b"no memory\n",
-        _ => words,
+/// Why a file can't be had, in words.
+fn reason(kind: ErrorKind) -> &'static str {
+    match kind {
+        ErrorKind::NotFound => "no such file",
+        ErrorKind::PermissionDenied => "permission denied",
+        ErrorKind::IsADirectory => "it is a folder",
+        ErrorKind::NotADirectory => "a part of its path is no folder",
+        _ => "the system refuses it",
+    }
+}
+
+/// Says that a file can't be had, and gives the status: there is no memory for it, or it can't be opened, read or written.
+pub fn report_file<E: Write>(kind: ErrorKind, wanted: &str, path: &str, err: &mut E) -> u8 {
+    let _ = match kind {
+        ErrorKind::OutOfMemory => err.write_all(b"no memory\n"),
+        _ => writeln!(err, "cannot {wanted} {path}: {}", reason(kind)),
     };
-    let _ = err.write_all(words);
     1
+}
+
+/// Says why a file can't be read, first in these words, and gives the status. Where there is no memory for it, it says that alone.
+pub fn report_unread<E: Write>(error: &io::Error, words: &[u8], path: &str, err: &mut E) -> u8 {
+    if !matches!(error.kind(), ErrorKind::OutOfMemory) {
+        let _ = err.write_all(words);
+    }
+    report_file(error.kind(), "read", path, err)
 }

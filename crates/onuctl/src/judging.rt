@@ -40,7 +40,7 @@ fn history_of<R: Files + Alloc<A = Global>, I: Read, E: Write>(
     match file {
         Some(path) => match read_whole(rt, path) {
             Ok(history) => Ok(history),
-            Err(error) => Err(report_unread(&error, b"cannot read history\n", err)),
+            Err(error) => Err(report_unread(&error, b"cannot read history\n", path, err)),
         },
         None => match read_input(rt.alloc(), input) {
             Ok(history) => Ok(history),

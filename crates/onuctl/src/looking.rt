@@ -1,6 +1,7 @@
 //! What looks inside: the managed entities after a trace, a table, and what becomes of one frame.
+use crate::captures::{next_frame, open_frames, report_cut};
 use crate::files::{read_whole, report_unread};
-use command_line::{ExplainWords, MibWords, RulesWords};
+use command_line::{ExplainWords, FrameWords, MibWords, RulesWords};
 use mib_state::Mib;
 use run_trace::{TraceFault, apply_requests, read_requests};
 use std::alloc::Global;
@@ -40,12 +41,12 @@ fn mib_after(alloc: Global, trace: &[u8]) -> Result<Mib, LookFault> {
 /// The managed entities after the trace in a file, or the status where there are none; why is written to `err`.
 fn entities_after<R: Files + Alloc<A = Global>, E: Write>(
     rt: &R,
-    trace: &str,
+    path: &str,
     err: &mut E,
 ) -> Result<Mib, u8> {
-    let trace = match read_whole(rt, trace) {
+    let trace = match read_whole(rt, path) {
         Ok(trace) => trace,
-        Err(error) => return Err(report_unread(&error, b"cannot read trace\n", err)),
+        Err(error) => return Err(report_unread(&error, b"cannot read trace\n", path, err)),
     };
     match mib_after(rt.alloc(), &trace) {
         Ok(mib) => Ok(mib),
@@ -134,6 +135,47 @@ fn frame_of<E: Write>(alloc: Global, digits: &str, err: &mut E) -> Result<Vec<u8
     }
 }
 
+/// The frame of a number, from 1, of a capture in a file, or the status where it can't be had; why is written to `err`.
+fn captured_frame<R: Files + Alloc<A = Global>, E: Write>(
+    rt: &R,
+    path: &str,
+    number: u32,
+    err: &mut E,
+) -> Result<Vec<u8>, u8> {
+    let file = match read_whole(rt, path) {
+        Ok(file) => file,
+        Err(error) => return Err(report_unread(&error, b"cannot read frames\n", path, err)),
+    };
+    let mut frames = open_frames(rt.alloc(), &file, path, err)?;
+    let mut found = None;
+    for _ in 0..number {
+        found = next_frame(&mut frames, path, err)?;
+    }
+    let Some(frame) = found else {
+        let _ = writeln!(err, "error: {path} has fewer than {number} frames");
+        return Err(1);
+    };
+    if frame.is_cut() {
+        report_cut(1, err);
+    }
+    match frame.bytes().to_vec(rt.alloc()) {
+        Ok(bytes) => Ok(bytes),
+        Err(_) => Err(report_look(&Err(LookFault::NoMemory), err)),
+    }
+}
+
+/// The bytes of the frame that words ask for, or the status where they can't be had; why is written to `err`.
+fn frame_asked<R: Files + Alloc<A = Global>, E: Write>(
+    rt: &R,
+    words: &FrameWords,
+    err: &mut E,
+) -> Result<Vec<u8>, u8> {
+    match *words {
+        FrameWords::Bytes(digits) => frame_of(rt.alloc(), digits, err),
+        FrameWords::Captured { file, number } => captured_frame(rt, file, number, err),
+    }
+}
+
 /// Writes what becomes of a frame, as text or as JSON.
 fn write_steps<O: Write>(
     alloc: Global,
@@ -157,7 +199,7 @@ pub fn explain_frame<R: Files + Alloc<A = Global>, O: Write, E: Write>(
     err: &mut E,
 ) -> u8 {
     let alloc = rt.alloc();
-    let frame = match frame_of(alloc, words.frame, err) {
+    let frame = match frame_asked(rt, &words.frame, err) {
         Ok(frame) => frame,
         Err(status) => return status,
     };

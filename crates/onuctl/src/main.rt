@@ -1,15 +1,20 @@
 //! onuctl answers OMCI messages, and forwards Ethernet frames upstream, as an optical network unit does.
 #![tactic(auto)]
 
+mod captures;
 mod files;
+mod forwarding;
 mod judge_progress;
 mod judging;
 mod looking;
+mod recording;
 mod running;
 
 use command_line::{Words, read_words, report_words};
+use forwarding::forward;
 use judging::judge_history;
 use looking::{decode_lines, explain_frame, show_mib, show_rules};
+use recording::record;
 use running::run;
 use script_replay::{replay, report_replay};
 use std::alloc::{AllocError, Global};
@@ -67,6 +72,8 @@ fn answer<
         Ok(Words::Rules(words)) => show_rules(rt, &words, out, err),
         Ok(Words::Explain(words)) => explain_frame(rt, &words, out, err),
         Ok(Words::Judge(words)) => judge_history(rt, &words, input, out, err),
+        Ok(Words::Forward(words)) => forward(rt, &words, out, err),
+        Ok(Words::Record(words)) => record(rt, &words, out, err),
         Err(error) => report_words(&error, out, err),
     }
 }

@@ -1,15 +1,89 @@
 //! A run over two files.
+use crate::captures::{Naming, cut_frames, explain_fault, packets_of, report_capture, report_cut};
 use crate::files::{read_whole, report_unread};
+use bench_capture::{CaptureFault, FrameFault};
+use bench_pcapng::is_pcapng;
 use command_line::RunWords;
-use run_capture::{report_run, run_over, run_over_shown};
+use run_capture::{RunFault, report_run, run_frames, run_frames_shown, run_over, run_over_shown};
+use run_trace::{TraceFault, read_requests};
 use std::alloc::Global;
 use std::io::{IsTerminal, Write};
 use std::rt::{Clock, Files};
 use std::sync::Wait;
 use std::thread::Threads;
 
+/// A fault of a capture in the classic format, as one of either format.
+fn fault_of(fault: capture::CaptureFault) -> CaptureFault {
+    match fault {
+        capture::CaptureFault::Magic => CaptureFault::Magic,
+        capture::CaptureFault::Header => CaptureFault::Header,
+        capture::CaptureFault::Link(link) => CaptureFault::Link(link),
+        capture::CaptureFault::Torn(record) => CaptureFault::Torn(u64::from(record)),
+        capture::CaptureFault::TooLong(record) => CaptureFault::TooLong(u64::from(record)),
+    }
+}
+
+/// Says how a run ended, if it didn't end well, and gives the status.
+fn report<E: Write>(outcome: &Result<(), RunFault>, path: &str, err: &mut E) -> u8 {
+    let status = report_run(outcome, err);
+    if let Err(RunFault::Capture(fault)) = outcome {
+        explain_fault(fault_of(*fault), path, err);
+    }
+    status
+}
+
+/// Says why the packets of a capture aren't run over: a bad line of the trace comes first. It gives the status.
+fn report_packets<E: Write>(
+    alloc: Global,
+    trace: &[u8],
+    fault: FrameFault,
+    path: &str,
+    err: &mut E,
+) -> u8 {
+    if let Err(TraceFault::BadLine(line)) = read_requests(alloc, trace) {
+        return report_run(&Err(RunFault::BadTrace(line)), err);
+    }
+    match fault {
+        FrameFault::Capture(fault) => report_capture(fault, path, Naming::Behind, err),
+        FrameFault::NoMemory => report_run(&Err(RunFault::NoMemory), err),
+    }
+}
+
+/// Forwards the frames of a capture in the pcapng format.
+fn run_packets<
+    R: Files + Alloc<A = Global> + Threads + Wait + Clock + Sync,
+    O: Write,
+    E: Write + IsTerminal + Send,
+>(rt: &R, words: &RunWords, trace: &[u8], file: &[u8], out: &mut O, err: &mut E) -> u8 {
+    let packets = match packets_of(rt.alloc(), file) {
+        Ok(packets) => packets,
+        Err(fault) => return report_packets(rt.alloc(), trace, fault, words.frames, err),
+    };
+    let outcome = if err.is_terminal() {
+        run_frames_shown(rt, trace, &packets, &words.settings, out, err)
+    } else {
+        run_frames(rt, rt.alloc(), trace, &packets, &words.settings, out)
+    };
+    report(&outcome, words.frames, err)
+}
+
+/// Forwards the frames of a capture in the classic format.
+fn run_classic<
+    R: Files + Alloc<A = Global> + Threads + Wait + Clock + Sync,
+    O: Write,
+    E: Write + IsTerminal + Send,
+>(rt: &R, words: &RunWords, trace: &[u8], file: &[u8], out: &mut O, err: &mut E) -> u8 {
+    let outcome = if err.is_terminal() {
+        run_over_shown(rt, trace, file, &words.settings, out, err)
+    } else {
+        run_over(rt, rt.alloc(), trace, file, &words.settings, out)
+    };
+    report(&outcome, words.frames, err)
+}
+
 /// Reads the trace and then the capture whole, and forwards the frames of the capture while the trace is applied. What comes of it
-/// is written to `out`, and why nothing does to `err`, which shows how far the run is where it is a terminal. It gives the status.
+/// is written to `out`, and why nothing does to `err`, which shows how far the run is where it is a terminal, and how many frames were cut.
+/// It gives the status.
 pub fn run<
     R: Files + Alloc<A = Global> + Threads + Wait + Clock + Sync,
     O: Write,
@@ -17,16 +91,23 @@ pub fn run<
 >(rt: &R, words: &RunWords, out: &mut O, err: &mut E) -> u8 {
     let trace = match read_whole(rt, words.trace) {
         Ok(trace) => trace,
-        Err(error) => return report_unread(&error, b"cannot read trace\n", err),
+        Err(error) => {
+            return report_unread(&error, b"cannot read trace\n", words.trace, err);
+        }
     };
-    let frames = match read_whole(rt, words.frames) {
-        Ok(frames) => frames,
-        Err(error) => return report_unread(&error, b"cannot read frames\n", err),
+    let file = match read_whole(rt, words.frames) {
+        Ok(file) => file,
+        Err(error) => {
+            return report_unread(&error, b"cannot read frames\n", words.frames, err);
+        }
     };
-    let outcome = if err.is_terminal() {
-        run_over_shown(rt, &trace, &frames, &words.settings, out, err)
+    let status = if is_pcapng(&file) {
+        run_packets(rt, words, &trace, &file, out, err)
     } else {
-        run_over(rt, rt.alloc(), &trace, &frames, &words.settings, out)
+        run_classic(rt, words, &trace, &file, out, err)
     };
-    report_run(&outcome, err)
+    if status == 0 && err.is_terminal() {
+        report_cut(cut_frames(rt.alloc(), &file), err);
+    }
+    status
 }

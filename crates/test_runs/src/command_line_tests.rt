@@ -2,7 +2,8 @@
 
 use clap::Error;
 use command_line::{
-    ExplainWords, JudgeWords, MibWords, RulesWords, RunWords, Words, read_words, report_words,
+    ExplainWords, ForwardWords, FrameWords, JudgeWords, MibWords, NumberedFile, RecordWords,
+    RulesWords, RunWords, TraceWords, Words, read_numbered, read_tpid, read_words, report_words,
 };
 use run_settings::RunSettings;
 use std::alloc::AllocError;
@@ -22,6 +23,8 @@ Commands:
   rules    Show the VLAN tagging table in force at a port after a trace
   explain  Say step by step what becomes of one frame after a trace
   judge    Say whether a right unit may have done what a history says
+  forward  Forward the frames of a capture after a trace, and say what becomes of each
+  record   Write the history that captures of one clock show, for judge
   help     Print this message or the help of the given subcommand(s)
 
 Options:
@@ -120,7 +123,7 @@ fn words_ask_to_look_inside(rt: HostRuntime) -> Result<(), Fail> {
             Words::Explain(ExplainWords {
                 trace: "t",
                 port: 257,
-                frame: "0800",
+                frame: FrameWords::Bytes("0800"),
                 json: false,
             }),
         ),
@@ -129,8 +132,27 @@ fn words_ask_to_look_inside(rt: HostRuntime) -> Result<(), Fail> {
             Words::Explain(ExplainWords {
                 trace: "t",
                 port: 0,
-                frame: "f",
+                frame: FrameWords::Bytes("f"),
                 json: true,
+            }),
+        ),
+        (
+            &[
+                "onuctl",
+                "explain",
+                "--trace=t",
+                "--port=1",
+                "--frames=f",
+                "--frame=7",
+            ][..],
+            Words::Explain(ExplainWords {
+                trace: "t",
+                port: 1,
+                frame: FrameWords::Captured {
+                    file: "f",
+                    number: 7,
+                },
+                json: false,
             }),
         ),
     ] {
@@ -176,6 +198,101 @@ fn words_ask_for_a_judgement(rt: HostRuntime) -> Result<(), Fail> {
         same!(rt; read_words(rt.alloc(), words)?, Words::Judge(asked), "{words:?}");
     }
     Ok(())
+}
+
+#[test]
+fn words_ask_to_forward(rt: HostRuntime) -> Result<(), Fail> {
+    let plain = ForwardWords {
+        trace: TraceWords {
+            file: "t",
+            until: None,
+            strict: false,
+        },
+        frames: "f",
+        port: 257,
+        out: None,
+        verdicts: None,
+        json: false,
+    };
+    let words = ["onuctl", "forward", "--trace=t", "--frames=f", "--port=257"];
+    same!(rt; read_words(rt.alloc(), &words)?, Words::Forward(plain));
+    let words = [
+        "onuctl",
+        "forward",
+        "--trace=t",
+        "--until=20",
+        "--strict",
+        "--frames=f",
+        "--port=257",
+        "--out",
+        "-",
+        "--verdicts",
+        "v",
+        "--json",
+    ];
+    let all = ForwardWords {
+        trace: TraceWords {
+            file: "t",
+            until: Some(20),
+            strict: true,
+        },
+        out: Some("-"),
+        verdicts: Some("v"),
+        json: true,
+        ..plain
+    };
+    same!(rt; read_words(rt.alloc(), &words)?, Words::Forward(all));
+    Ok(())
+}
+
+#[test]
+fn words_ask_to_record(rt: HostRuntime) -> Result<(), Fail> {
+    let words = [
+        "onuctl",
+        "record",
+        "--omci",
+        "o",
+        "--into=257=a",
+        "--into=258=b",
+        "--out-of",
+        "1024=g",
+        "--tpid=9100",
+        "--wait=0",
+        "--lost",
+        "1000",
+    ];
+    let asked = RecordWords {
+        omci: vec![in rt.alloc(); "o"]?,
+        into: vec![in rt.alloc(); "257=a", "258=b"]?,
+        out_of: vec![in rt.alloc(); "1024=g"]?,
+        tpids: vec![in rt.alloc(); "9100"]?,
+        wait: Some(0),
+        lost: Some(1000),
+    };
+    same!(rt; read_words(rt.alloc(), &words)?, Words::Record(asked));
+    Ok(())
+}
+
+#[test]
+fn a_number_and_a_file_stand_in_one_word(rt: HostRuntime) {
+    let up = Some(NumberedFile {
+        number: 257,
+        file: "up.pcap",
+    });
+    same!(rt; read_numbered("257=up.pcap"), up);
+    let odd = Some(NumberedFile {
+        number: 0,
+        file: "=",
+    });
+    same!(rt; read_numbered("0=="), odd);
+    for text in ["", "257", "=f", "257=", "65536=f", "0x1=f", " 1=f"] {
+        same!(rt; read_numbered(text), None, "{text}");
+    }
+    same!(rt; read_tpid("9100"), Some(0x9100));
+    same!(rt; read_tpid("0x88a8"), Some(0x88a8));
+    for text in ["", "0x", "12345", "91 0", "-1"] {
+        same!(rt; read_tpid(text), None, "{text}");
+    }
 }
 
 /// What is written to the output and to the errors, and the status, where words ask for nothing that can be done.

@@ -1,7 +1,7 @@
 //! What a run writes.
 use crate::run_capture_tests::{HEADER, applied_first, port_257};
 use crate::run_lanes_tests::{CUT, UNTAGGED};
-use run_capture::{RunFault, run_over};
+use run_capture::{RunFault, run_frames, run_frames_shown, run_over};
 use std::alloc::{AllocError, Global};
 use std::test::Fail;
 use test_fixtures::{Sink, push_message, same};
@@ -88,6 +88,74 @@ fn a_writer_that_fails_at_any_byte_has_a_front_of_the_lines(rt: HostRuntime) -> 
             );
             same!(rt; sink.bytes.as_slice(), &LINES.as_bytes()[..room]);
         }
+    }
+    Ok(())
+}
+
+#[test]
+fn listed_frames_have_the_lines_of_a_capture_of_them(rt: HostRuntime) -> Result<(), Fail> {
+    let alloc = rt.alloc();
+    let trace = tagging(alloc)?;
+    let frames = [&UNTAGGED[..], &UNTAGGED[..], &CUT[..]];
+    for lanes in [1, 8] {
+        let settings = applied_first(lanes, 2);
+        let mut written = Vec::new(alloc);
+        run_frames(
+            &rt,
+            alloc,
+            trace.as_bytes(),
+            &frames,
+            &settings,
+            &mut written,
+        )?;
+        same!(rt; written.as_slice(), LINES.as_bytes(), "{lanes} lanes");
+        let mut captured = Vec::new(alloc);
+        let file = three_frames(alloc)?;
+        run_over(
+            &rt,
+            alloc,
+            trace.as_bytes(),
+            &file,
+            &settings,
+            &mut captured,
+        )?;
+        same!(rt; captured.as_slice(), written.as_slice(), "{lanes} lanes");
+        let mut shown = Vec::new(alloc);
+        let mut err = Vec::new(alloc);
+        run_frames_shown(
+            &rt,
+            trace.as_bytes(),
+            &frames,
+            &settings,
+            &mut shown,
+            &mut err,
+        )?;
+        same!(rt; shown.as_slice(), written.as_slice(), "{lanes} lanes");
+    }
+    Ok(())
+}
+
+#[test]
+fn listed_frames_are_not_run_by_wrong_settings_or_a_bad_trace(rt: HostRuntime) -> Result<(), Fail> {
+    for (lanes, trace, fault) in [
+        (17, "f 1 00\n", RunFault::Settings),
+        (1, "# a\nf 1 00\n", RunFault::BadTrace(2)),
+    ] {
+        let mut written = Vec::new(rt.alloc());
+        let settings = applied_first(lanes, 2);
+        same!(rt;
+            run_frames(
+                &rt,
+                rt.alloc(),
+                trace.as_bytes(),
+                &[&UNTAGGED[..]],
+                &settings,
+                &mut written
+            ),
+            Err(fault),
+            "{trace}"
+        );
+        same!(rt; written.len(), 0);
     }
     Ok(())
 }

@@ -10,4 +10,6 @@ returns c =
     let showing = c.with_sub-showing.ensures _ _ decoding c.mib.ensures in
     let listing = c.with_sub-listing.ensures _ _ showing c.rules.ensures in
     let explaining = c.with_sub-explaining.ensures _ _ listing c.explain.ensures in
-    c.with_sub.ensures _ _ explaining c.judge.ensures
+    let judging = c.with_sub-judging.ensures _ _ explaining c.judge.ensures in
+    let capturing = c.with_sub-capturing.ensures _ _ judging c.forward.ensures in
+    c.with_sub.ensures _ _ capturing c.recording.ensures

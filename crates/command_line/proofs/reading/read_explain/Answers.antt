@@ -1,7 +1,7 @@
 use Rattle.std.proofs.Common.{◌∙◌, codes, sym}
 use Rattle.clap.specs.Words.{found_of}
 use Rattle.clap.proofs.WalkLemmas.{first_value-rows, one_text-rows}
-use Rattle.command_line.proofs.Given.{explain_missing, explain_unread, frame_missing, if_none, number_read}
+use Rattle.command_line.proofs.Given.{explain_missing, explain_unread, if_none, number_read}
 use Rattle.command_line.proofs.reading.read_explain.Goals as goal
 
 pub returns-clause-asked : goal.returns-clause-asked
@@ -14,7 +14,7 @@ returns-clause-asked c =
         with = λ e. c.get_flag.ensures.value (one_text-rows found (codes "json") ∙ e);
         without = λ e. c.get_flag.ensures.other (one_text-rows found (codes "json") ∙ e);
       };
-      frame = sym (first_value-rows found (codes "frame")) ∙ sym c.in_ok-get_str-2.ensures;
+      frame = c.in_ok-read_frame.ensures.asked;
     }
 
 pub returns-in_err-get_str-clause-none : goal.returns-in_err-get_str-clause-none
@@ -23,5 +23,5 @@ returns-in_err-get_str-clause-none c = if_none c.from_residual.result (explain_m
 pub returns-in_err-get_one-clause-none : goal.returns-in_err-get_one-clause-none
 returns-in_err-get_one-clause-none c = if_none c.from_residual-in_err-get_one.result (explain_unread (found_of c.args.given.now) c.in_err-get_one.ensures.value)
 
-pub returns-in_err-get_str-2-clause-none : goal.returns-in_err-get_str-2-clause-none
-returns-in_err-get_str-2-clause-none c = if_none c.from_residual-in_err-get_str-2.result (frame_missing (found_of c.args.given.now) (sym c.in_err-get_str-2.ensures))
+pub returns-in_err-read_frame-clause-none : goal.returns-in_err-read_frame-clause-none
+returns-in_err-read_frame-clause-none c = if_none c.from_residual-in_err-read_frame.result (λ words is port fits. c.in_err-read_frame.ensures.none words.frame is.frame fits)

@@ -1,0 +1,257 @@
+//! The frames of a capture, forwarded after a trace.
+use crate::captures::{Naming, report_capture, report_cut};
+use crate::files::{read_whole, report_file, report_unread};
+use bench_capture::{FrameReader, ReadFault};
+use bench_forward::{ForwardFault, Forwarded, Outputs, Totals, forward_frames};
+use command_line::{ForwardWords, TraceWords};
+use forward_plan::Live;
+use omci_msg::Request;
+use script_trace::{Applied, ScriptFault, apply_script};
+use std::alloc::{AllocError, Global};
+use std::fs;
+use std::fs::File;
+use std::io::{BufWriter, ErrorKind, Read, Write};
+use std::rt::Files;
+use text_forwarding::{write_totals, write_totals_json};
+use text_writing::{LookFault, TextFault, report_look};
+
+/// The status where messages of a trace aren't carried out that have to be.
+const REFUSED: u8 = 2;
+
+/// How many lines are named at most.
+const NAMED: usize = 10;
+
+/// Says that there is no memory, and gives the status.
+fn without_memory<E: Write>(err: &mut E) -> u8 {
+    report_look(&Err(LookFault::NoMemory), err)
+}
+
+/// Says how many messages weren't carried out, and in which lines they stand; nothing where each was.
+fn report_lines<E: Write>(lines: &[u64], what: &str, err: &mut E) {
+    if lines.is_empty() {
+        return;
+    }
+    let _ = write!(err, "{} {what}: lines", lines.len());
+    for (place, line) in lines.iter().take(NAMED).enumerate() {
+        let comma = if place == 0 { "" } else { "," };
+        let _ = write!(err, "{comma} {line}");
+    }
+    let more = if lines.len() > NAMED { ", .." } else { "" };
+    let _ = writeln!(err, "{more}");
+}
+
+/// Carries out the messages of a trace, and says which weren't; or gives the status where a line is bad, or one wasn't carried out that
+/// has to be.
+fn apply_trace<R: Files + Alloc<A = Global>, E: Write>(
+    rt: &R,
+    words: &TraceWords<'_>,
+    err: &mut E,
+) -> Result<Applied, u8> {
+    let script = match read_whole(rt, words.file) {
+        Ok(script) => script,
+        Err(error) => return Err(report_unread(&error, b"cannot read trace\n", words.file, err)),
+    };
+    let applied = match apply_script(rt.alloc(), &script, words.until.map(u64::from)) {
+        Ok(applied) => applied,
+        Err(ScriptFault::BadLine(line)) => {
+            return Err(report_look(&Err(LookFault::BadTrace(line)), err));
+        }
+        Err(ScriptFault::NoMemory) => return Err(without_memory(err)),
+    };
+    report_lines(&applied.faulty, "messages have a fault", err);
+    report_lines(&applied.refused, "messages were refused", err);
+    let all = applied.faulty.is_empty() && applied.refused.is_empty();
+    if words.strict && !all {
+        return Err(REFUSED);
+    }
+    Ok(applied)
+}
+
+/// The entities after requests, with what is compiled of them.
+fn compile(alloc: Global, requests: &[Request]) -> Result<Live, AllocError> {
+    let mut live = Live::new(alloc)?;
+    for request in requests {
+        live.apply(request);
+    }
+    Ok(live)
+}
+
+/// A file that is written, if one is named, or the status where it can't be.
+fn create<R: Files + Alloc<A = Global>, E: Write>(
+    rt: &R,
+    path: Option<&str>,
+    err: &mut E,
+) -> Result<Option<BufWriter<R::File>>, u8> {
+    let Some(path) = path else {
+        return Ok(None);
+    };
+    let file = match fs::create(rt, path) {
+        Ok(file) => file,
+        Err(error) => return Err(report_file(error.kind(), "write", path, err)),
+    };
+    match BufWriter::new(rt.alloc(), file) {
+        Ok(writer) => Ok(Some(writer)),
+        Err(_) => Err(without_memory(err)),
+    }
+}
+
+/// Says why not all frames of a capture were forwarded, and how many were, and gives the status.
+fn report_forward<E: Write>(fault: ForwardFault, totals: &Totals, path: &str, err: &mut E) -> u8 {
+    let status = match fault {
+        ForwardFault::Read(ReadFault::Capture(fault)) => {
+            report_capture(fault, path, Naming::Behind, err)
+        }
+        ForwardFault::Read(ReadFault::Unreadable(kind)) => {
+            let _ = err.write_all(b"cannot read frames\n");
+            report_file(kind, "read", path, err)
+        }
+        ForwardFault::Read(ReadFault::NoMemory) => without_memory(err),
+        ForwardFault::CountFull => {
+            let _ = err.write_all(b"counters are full\n");
+            1
+        }
+        ForwardFault::Write => report_look(&Err(LookFault::Write), err),
+    };
+    let _ = writeln!(err, "{path}: it came after {} frames", totals.frames());
+    status
+}
+
+/// Sends on what is gathered for a file, if there is one.
+fn flush<W: Write>(writer: &mut Option<W>) -> Result<(), ForwardFault> {
+    let Some(writer) = writer else {
+        return Ok(());
+    };
+    match writer.flush() {
+        Ok(()) => Ok(()),
+        Err(_) => Err(ForwardFault::Write),
+    }
+}
+
+/// Forwards the frames of a file, and gives what came of them, or the status where there is no memory or the file can't be opened.
+fn forward_file<R: Files + Alloc<A = Global>, W: Write, V: Write, E: Write>(
+    rt: &R,
+    words: &ForwardWords<'_>,
+    live: &Live,
+    outputs: &mut Outputs<W, V>,
+    err: &mut E,
+) -> Result<Totals, u8> {
+    let path = words.frames;
+    let file = match File::open(rt, path) {
+        Ok(file) => file,
+        Err(error) => return Err(report_unread(&error, b"cannot read frames\n", path, err)),
+    };
+    let mut frames = match FrameReader::open(rt.alloc(), file) {
+        Ok(frames) => frames,
+        Err(fault) => return Err(report_begun(fault, path, err)),
+    };
+    let Ok(forwarded) = forward_frames(rt.alloc(), live, words.port, &mut frames, outputs) else {
+        return Err(without_memory(err));
+    };
+    let Forwarded { totals, ended } = forwarded;
+    let written = flush(&mut outputs.packets).and(flush(&mut outputs.verdicts));
+    match ended.and(written) {
+        Ok(()) => Ok(totals),
+        Err(fault) => Err(report_forward(fault, &totals, path, err)),
+    }
+}
+
+/// Says why a capture can't be begun with, and gives the status.
+fn report_begun<E: Write>(fault: ReadFault, path: &str, err: &mut E) -> u8 {
+    match fault {
+        ReadFault::Capture(fault) => report_capture(fault, path, Naming::Behind, err),
+        ReadFault::Unreadable(kind) => {
+            let _ = err.write_all(b"cannot read frames\n");
+            report_file(kind, "read", path, err)
+        }
+        ReadFault::NoMemory => without_memory(err),
+    }
+}
+
+/// Writes totals, as text or as JSON, and how many frames were cut to `err`. It gives the status.
+fn report_totals<O: Write, E: Write>(
+    alloc: Global,
+    totals: &Totals,
+    json: bool,
+    out: &mut O,
+    err: &mut E,
+) -> u8 {
+    let outcome = if json {
+        write_totals_json(alloc, totals, out)
+    } else {
+        write_totals(alloc, totals, out)
+    };
+    report_cut(totals.cut(), err);
+    report_look(&outcome.map_err(LookFault::from), err)
+}
+
+/// Writes totals to `err`, where the frames go to the output. It gives the status.
+fn report_beside<E: Write>(alloc: Global, totals: &Totals, json: bool, err: &mut E) -> u8 {
+    let _ = if json {
+        write_totals_json(alloc, totals, err)
+    } else {
+        write_totals(alloc, totals, err)
+    };
+    report_cut(totals.cut(), err);
+    0
+}
+
+/// Forwards frames that are written to `out`, and writes the totals to `err`.
+fn forward_to_output<R: Files + Alloc<A = Global>, O: Write, E: Write>(
+    rt: &R,
+    words: &ForwardWords<'_>,
+    live: &Live,
+    out: &mut O,
+    err: &mut E,
+) -> Result<u8, u8> {
+    let verdicts = create(rt, words.verdicts, err)?;
+    let Ok(writer) = BufWriter::new(rt.alloc(), out) else {
+        return Err(without_memory(err));
+    };
+    let mut outputs = Outputs {
+        packets: Some(writer),
+        verdicts,
+    };
+    let totals = forward_file(rt, words, live, &mut outputs, err)?;
+    Ok(report_beside(rt.alloc(), &totals, words.json, err))
+}
+
+/// Forwards frames that are written to files, if at all, and writes the totals to `out`.
+fn forward_to_files<R: Files + Alloc<A = Global>, O: Write, E: Write>(
+    rt: &R,
+    words: &ForwardWords<'_>,
+    live: &Live,
+    out: &mut O,
+    err: &mut E,
+) -> Result<u8, u8> {
+    let mut outputs = Outputs {
+        packets: create(rt, words.out, err)?,
+        verdicts: create(rt, words.verdicts, err)?,
+    };
+    let totals = forward_file(rt, words, live, &mut outputs, err)?;
+    Ok(report_totals(rt.alloc(), &totals, words.json, out, err))
+}
+
+/// Forwards the frames of a capture after a trace, and writes what comes of them to the files that the words name, and the totals to `out`.
+/// Where `out` gets the frames, the totals go to `err`, and so does why there are none, or not all. It gives the status.
+pub fn forward<R: Files + Alloc<A = Global>, O: Write, E: Write>(
+    rt: &R,
+    words: &ForwardWords<'_>,
+    out: &mut O,
+    err: &mut E,
+) -> u8 {
+    let applied = match apply_trace(rt, &words.trace, err) {
+        Ok(applied) => applied,
+        Err(status) => return status,
+    };
+    let Ok(live) = compile(rt.alloc(), &applied.accepted) else {
+        return without_memory(err);
+    };
+    let status = match words.out {
+        Some("-") => forward_to_output(rt, words, &live, out, err),
+        _ => forward_to_files(rt, words, &live, out, err),
+    };
+    match status {
+        Ok(status) => status,
+        Err(status) => status,
+    }
+}
