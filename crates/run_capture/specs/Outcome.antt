@@ -44,7 +44,7 @@ pub record IsOutputOver (requests : List Request) (frames : List (List ℕ)) (s 
   pub admissible : AreAdmissible (length requests) s.lanes s.after versions
   pub lines : out ≡ run_lines requests s frames versions
 
--- this is written by a run of the file's frames, with the requests accepted that the trace leaves
+-- this is written by a run of the file's frames, with the trace's accepted requests
 pub record IsOutput (trace file : List ℕ) (s : RunSettings) (out : List ℕ) : Type 0 where
   pub frames : List (List ℕ)
   pub captured : capture_of file ≡ Ok frames
