@@ -135,7 +135,11 @@ pub fn packets_of<'a>(alloc: Global, file: &'a [u8]) -> Result<Vec<&'a [u8]>, Fr
         Err(fault) => return Err(FrameFault::Capture(fault)),
     };
     let mut list = Vec::new(alloc);
-    while let Some(frame) = frames.next_frame()? {
+    // No frame is without bytes of the file.
+    for _ in 0..file.len() {
+        let Some(frame) = frames.next_frame()? else {
+            break;
+        };
         if list.push(frame.bytes()).is_err() {
             return Err(FrameFault::NoMemory);
         }
@@ -149,7 +153,10 @@ pub fn cut_frames(alloc: Global, file: &[u8]) -> u64 {
         return 0;
     };
     let mut cut = 0u64;
-    while let Ok(Some(frame)) = frames.next_frame() {
+    for _ in 0..file.len() {
+        let Ok(Some(frame)) = frames.next_frame() else {
+            break;
+        };
         if frame.is_cut() {
             cut = cut.saturating_add(1);
         }

@@ -195,6 +195,19 @@ fn report_beside<E: Write>(alloc: Global, totals: &Totals, json: bool, err: &mut
     0
 }
 
+/// Forwards frames, which are written where `packets` says, and gives the totals, or the status where not all are forwarded.
+fn forward_into<R: Files + Alloc<A = Global>, W: Write + Drop, E: Write>(
+    rt: &R,
+    words: &ForwardWords<'_>,
+    live: &Live,
+    packets: Option<W>,
+    err: &mut E,
+) -> Result<Totals, u8> {
+    let verdicts = create(rt, words.verdicts, err)?;
+    let mut outputs = Outputs { packets, verdicts };
+    forward_file(rt, words, live, &mut outputs, err)
+}
+
 /// Forwards frames that are written to `out`, and writes the totals to `err`.
 fn forward_to_output<R: Files + Alloc<A = Global>, O: Write, E: Write>(
     rt: &R,
@@ -203,15 +216,10 @@ fn forward_to_output<R: Files + Alloc<A = Global>, O: Write, E: Write>(
     out: &mut O,
     err: &mut E,
 ) -> Result<u8, u8> {
-    let verdicts = create(rt, words.verdicts, err)?;
-    let Ok(writer) = BufWriter::new(rt.alloc(), out) else {
+    let Ok(writer) = BufWriter::new(rt.alloc(), &mut *out) else {
         return Err(without_memory(err));
     };
-    let mut outputs = Outputs {
-        packets: Some(writer),
-        verdicts,
-    };
-    let totals = forward_file(rt, words, live, &mut outputs, err)?;
+    let totals = forward_into(rt, words, live, Some(writer), err)?;
     Ok(report_beside(rt.alloc(), &totals, words.json, err))
 }
 
@@ -223,11 +231,8 @@ fn forward_to_files<R: Files + Alloc<A = Global>, O: Write, E: Write>(
     out: &mut O,
     err: &mut E,
 ) -> Result<u8, u8> {
-    let mut outputs = Outputs {
-        packets: create(rt, words.out, err)?,
-        verdicts: create(rt, words.verdicts, err)?,
-    };
-    let totals = forward_file(rt, words, live, &mut outputs, err)?;
+    let packets = create(rt, words.out, err)?;
+    let totals = forward_into(rt, words, live, packets, err)?;
     Ok(report_totals(rt.alloc(), &totals, words.json, out, err))
 }
 

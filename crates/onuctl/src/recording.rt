@@ -158,7 +158,11 @@ fn see_all<'f>(
         Ok(frames) => frames,
         Err(fault) => return Err(FrameFault::Capture(fault)),
     };
-    while let Some(frame) = frames.next_frame()? {
+    // No frame is without bytes of the file.
+    for _ in 0..capture.file.len() {
+        let Some(frame) = frames.next_frame()? else {
+            break;
+        };
         if frame.is_cut() {
             seen.cut = seen.cut.saturating_add(1);
         }

@@ -1,5 +1,5 @@
 //! Tests of runs on lanes, of the lines of a run, of a replay of the same frames, and of the words that ask for one: run_lanes,
-//! run_capture, script_replay, command_line, run_settings and writing.
+//! run_capture, script_replay, script_trace, command_line, run_settings and writing.
 //! They stand apart so that each of these is proved once, and not a second time with its tests.
 #![tactic(auto)]
 
@@ -15,5 +15,7 @@ mod run_lanes_tests;
 mod run_settings_tests;
 #[cfg(test)]
 mod run_tests;
+#[cfg(test)]
+mod script_trace_tests;
 #[cfg(test)]
 mod writing_tests;
