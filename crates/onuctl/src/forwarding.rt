@@ -21,6 +21,9 @@ const REFUSED: u8 = 2;
 /// How many lines are named at most.
 const NAMED: usize = 10;
 
+/// How many bytes are gathered before a file gets them.
+const GATHERED: usize = 1 << 18;
+
 /// Says that there is no memory, and gives the status.
 fn without_memory<E: Write>(err: &mut E) -> u8 {
     report_look(&Err(LookFault::NoMemory), err)
@@ -89,7 +92,7 @@ fn create<R: Files + Alloc<A = Global>, E: Write>(
         Ok(file) => file,
         Err(error) => return Err(report_file(error.kind(), "write", path, err)),
     };
-    match BufWriter::new(rt.alloc(), file) {
+    match BufWriter::with_capacity(rt.alloc(), GATHERED, file) {
         Ok(writer) => Ok(Some(writer)),
         Err(_) => Err(without_memory(err)),
     }
@@ -216,7 +219,7 @@ fn forward_to_output<R: Files + Alloc<A = Global>, O: Write, E: Write>(
     out: &mut O,
     err: &mut E,
 ) -> Result<u8, u8> {
-    let Ok(writer) = BufWriter::new(rt.alloc(), &mut *out) else {
+    let Ok(writer) = BufWriter::with_capacity(rt.alloc(), GATHERED, &mut *out) else {
         return Err(without_memory(err));
     };
     let totals = forward_into(rt, words, live, Some(writer), err)?;
