@@ -187,15 +187,18 @@ fn report_totals<O: Write, E: Write>(
     report_look(&outcome.map_err(LookFault::from), err)
 }
 
-/// Writes totals to `err`, where the frames go to the output. It gives the status.
+/// Writes totals to `err`, where the frames go to the output. It gives the status; a write that fails is passed over.
 fn report_beside<E: Write>(alloc: Global, totals: &Totals, json: bool, err: &mut E) -> u8 {
-    let _ = if json {
+    let outcome = if json {
         write_totals_json(alloc, totals, err)
     } else {
         write_totals(alloc, totals, err)
     };
     report_cut(totals.cut(), err);
-    0
+    match outcome {
+        Err(TextFault::NoMemory) => without_memory(err),
+        _ => 0,
+    }
 }
 
 /// Forwards frames, which are written where `packets` says, and gives the totals, or the status where not all are forwarded.
