@@ -2,7 +2,7 @@
 use script_trace::{Applied, ScriptFault, apply_script};
 use std::alloc::{AllocError, Global};
 use std::test::Fail;
-use test_fixtures::{holds, push_message, same};
+use test_fixtures::{push_message, same};
 
 /// Two Creates of one GEM port around a frame, a message of another device identifier, a remark, a Create of an interworking point, and
 /// a bad line.
@@ -19,19 +19,33 @@ fn script(alloc: Global) -> Result<String, AllocError> {
 }
 
 /// How many requests of a script were accepted, and the lines of those that have a fault and of those that were refused.
-fn told(applied: &Applied) -> (usize, &[u64], &[u64]) {
-    (applied.accepted.len(), &applied.faulty, &applied.refused)
+fn told(
+    alloc: Global,
+    script: &[u8],
+    until: Option<u64>,
+) -> Result<(usize, Vec<u64>, Vec<u64>), ScriptFault> {
+    let Applied {
+        mib: _,
+        accepted,
+        faulty,
+        refused,
+    } = apply_script(alloc, script, until)?;
+    Ok((accepted.len(), faulty, refused))
 }
 
 #[test]
 fn a_script_is_carried_out_up_to_a_line(rt: HostRuntime) -> Result<(), Fail> {
     let script = script(rt.alloc())?;
-    let applied = apply_script(rt.alloc(), script.as_bytes(), Some(6))?;
-    same!(rt; told(&applied), (2, &[4][..], &[3][..]));
-    let applied = apply_script(rt.alloc(), script.as_bytes(), Some(2))?;
-    same!(rt; told(&applied), (1, &[][..], &[][..]));
-    let applied = apply_script(rt.alloc(), b"", None)?;
-    same!(rt; told(&applied), (0, &[][..], &[][..]));
+    for (until, accepted, faulty, refused) in [
+        (Some(6), 2, &[4][..], &[3][..]),
+        (Some(2), 1, &[][..], &[][..]),
+        (Some(0), 0, &[][..], &[][..]),
+    ] {
+        let (count, faults, refusals) = told(rt.alloc(), script.as_bytes(), until)?;
+        same!(rt; count, accepted, "{until:?}");
+        same!(rt; faults.as_slice(), faulty, "{until:?}");
+        same!(rt; refusals.as_slice(), refused, "{until:?}");
+    }
     Ok(())
 }
 
@@ -39,8 +53,10 @@ fn a_script_is_carried_out_up_to_a_line(rt: HostRuntime) -> Result<(), Fail> {
 fn a_script_is_refused_by_its_first_bad_line(rt: HostRuntime) -> Result<(), Fail> {
     let script = script(rt.alloc())?;
     for until in [None, Some(7)] {
-        let fault = apply_script(rt.alloc(), script.as_bytes(), until).err();
-        holds!(rt; matches!(fault, Some(ScriptFault::BadLine(7))), "{until:?}");
+        match told(rt.alloc(), script.as_bytes(), until) {
+            Ok(_) => return Err(Fail::from("it is carried out")),
+            Err(fault) => same!(rt; fault, ScriptFault::BadLine(7), "{until:?}"),
+        }
     }
     Ok(())
 }
