@@ -2,8 +2,8 @@
 
 use clap::Error;
 use command_line::{
-    ExplainWords, ForwardWords, FrameWords, JudgeWords, MibWords, NumberedFile, RecordWords,
-    RulesWords, RunWords, TraceWords, Words, read_numbered, read_tpid, read_words, report_words,
+    ExplainWords, ForwardWords, FrameWords, JudgeWords, MibWords, NumberedFile, RulesWords,
+    RunWords, TraceWords, Words, read_numbered, read_tpid, read_words, report_words,
 };
 use run_settings::RunSettings;
 use std::alloc::AllocError;
@@ -40,8 +40,8 @@ fn run_words<'w>(port: &'w str, lanes: &'w str, batch: &'w str) -> [&'w str; 12]
     ]
 }
 
-fn run(port: u16, lanes: u16, batch: u32, after: bool) -> Words<'static> {
-    Words::Run(RunWords {
+fn run(port: u16, lanes: u16, batch: u32, after: bool) -> RunWords<'static> {
+    RunWords {
         trace: "t",
         frames: "f",
         settings: RunSettings {
@@ -50,13 +50,13 @@ fn run(port: u16, lanes: u16, batch: u32, after: bool) -> Words<'static> {
             batch,
             after,
         },
-    })
+    }
 }
 
 #[test]
 fn words_ask_for_a_replay_or_a_run(rt: HostRuntime) -> Result<(), Fail> {
+    same!(rt; read_words(rt.alloc(), &["onuctl", "replay"])?, Words::Replay);
     for (what, words, asked) in [
-        ("a replay", &["onuctl", "replay"][..], Words::Replay),
         (
             "a run",
             &run_words("257", "2", "4")[..],
@@ -87,7 +87,10 @@ fn words_ask_for_a_replay_or_a_run(rt: HostRuntime) -> Result<(), Fail> {
             run(257, 2, 4, true),
         ),
     ] {
-        same!(rt; read_words(rt.alloc(), words)?, asked, "{what}");
+        match read_words(rt.alloc(), words)? {
+            Words::Run(read) => same!(rt; read, asked, "{what}"),
+            _ => return Err(Fail::from("they ask for no run")),
+        }
     }
     Ok(())
 }
@@ -261,16 +264,17 @@ fn words_ask_to_record(rt: HostRuntime) -> Result<(), Fail> {
         "--lost",
         "1000",
     ];
-    let asked = RecordWords {
-        omci: vec![in rt.alloc(); "o"]?,
-        into: vec![in rt.alloc(); "257=a", "258=b"]?,
-        out_of: vec![in rt.alloc(); "1024=g"]?,
-        tpids: vec![in rt.alloc(); "9100"]?,
-        wait: Some(0),
-        lost: Some(1000),
-    };
-    same!(rt; read_words(rt.alloc(), &words)?, Words::Record(asked));
-    Ok(())
+    match read_words(rt.alloc(), &words)? {
+        Words::Record(read) => {
+            same!(rt; read.omci.as_slice(), &["o"][..]);
+            same!(rt; read.into.as_slice(), &["257=a", "258=b"][..]);
+            same!(rt; read.out_of.as_slice(), &["1024=g"][..]);
+            same!(rt; read.tpids.as_slice(), &["9100"][..]);
+            same!(rt; (read.wait, read.lost), (Some(0), Some(1000)));
+            Ok(())
+        }
+        _ => Err(Fail::from("they ask for no recording")),
+    }
 }
 
 #[test]
