@@ -4,4 +4,5 @@ pub mod Edit
 pub mod Entry
 pub mod Meaning
 pub mod Rule
+pub mod Spelling
 pub mod Table

@@ -1,6 +1,6 @@
 //! The 16 bytes of an entry, and the values of its fields.
 ghost use Rattle.std.specs.Prelude.{◌≡◌, ◌≤◌, ◌<◌, ◌+◌, ◌-◌, ◌*◌, ◌/◌, ◌%◌, ◌^◌, length};
-ghost use Rattle.vlan_rule.specs.Entry.{codes_of, key_of, kind_of, number_of, value_of, IsTagLayout, IsField};
+ghost use Rattle.vlan_rule.specs.Entry.{codes_of, entry_of, key_of, kind_of, number_of, value_of, IsTagLayout, IsField};
 ghost use Rattle.vlan_rule.specs.Table.{is_deletion, is_predefined};
 
 use crate::kind::Kind;
@@ -33,6 +33,16 @@ impl Entry {
     {
         let (_, rest) = self.0.split_at(8);
         BigEndian::read_u64(rest) == u64::MAX
+    }
+
+    /// The entry of these first and last eight bytes, each as a number.
+    pub(crate) fn of(key: u64, rest: u64) -> Self
+        ensures { result.0 ≡ entry_of key rest }
+    {
+        let mut bytes = [0; 16];
+        bytes[..8].copy_from_slice(&key.to_be_bytes());
+        bytes[8..].copy_from_slice(&rest.to_be_bytes());
+        Entry(bytes)
     }
 
     /// Whether its key is one of the three predefined ones.

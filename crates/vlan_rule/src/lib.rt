@@ -15,6 +15,7 @@ pub mod rank;
 mod refusal;
 pub mod rule;
 pub mod settings;
+mod spelling;
 pub mod table;
 pub mod treatment;
 mod walk;

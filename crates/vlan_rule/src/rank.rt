@@ -18,6 +18,7 @@ pub enum Rank {
 
 impl Rank {
     ghost use Rattle.vlan_rule.specs.Meaning.{rank_by, rank_number};
+    ghost use Rattle.vlan_rule.specs.Spelling.{any_vid_code};
 
     /// Of an entry of this kind, whose key is a predefined one or isn't.
     pub(crate) fn of(is_predefined: bool, kind: Kind) -> Self
@@ -40,6 +41,16 @@ impl Rank {
             Rank::Ordinary => 0,
             Rank::Default => 1,
             Rank::Predefined => 2,
+        }
+    }
+
+    /// The code of a VID filter that isn't asked for, in an entry of this rank.
+    pub(crate) fn any_vid(self) -> u16
+        ensures { result ≡ any_vid_code self }
+    {
+        match self {
+            Rank::Ordinary | Rank::Default => 4096,
+            Rank::Predefined => 0,
         }
     }
 }
