@@ -151,10 +151,6 @@ pub record Means (entry : List ℕ) (filters : Filter) (type : EthertypeFilter) 
   pub treatment : treats ≡ treatment_of entry
   pub rank : ranks ≡ rank_of entry
 
--- the parts are those of some entry
-abbrev pub IsKnown : Filter → EthertypeFilter → Treatment → Rank → Type 0
-IsKnown filters type treats ranks = (entry : List ℕ) × Means entry filters type treats ranks
-
 -- a fixed priority is under 8
 abbrev pub priority_fits : PrioritySource → Bool
 priority_fits (from_priority.Fixed priority) = nat_lt priority 8

@@ -1,6 +1,6 @@
 -- How a rule is spelled as an entry (ITU-T G.988, 9.3.13): the codes of its parts, and the entry that
 -- has them. Padding is zero.
-use Rattle.std.specs.Prelude.{◌<◌, ℕ, ◌+◌, ◌*◌, Bool, true, false, ◌&&◌, List, Option, Some, None, nat_lt, nat_le}
+use Rattle.std.specs.Prelude.{◌<◌, ℕ, ◌+◌, ◌*◌, Bool, true, false, ◌&&◌, ◌==◌, List, Option, Some, None, nat_lt, nat_le}
 use Rattle.vlan_rule.specs.declared.filter.PriorityFilter.{PriorityFilter}
 use Rattle.vlan_rule.specs.declared.filter.PriorityFilter.TheVariants as priority
 use Rattle.vlan_rule.specs.declared.filter.VidFilter.{VidFilter}
@@ -27,6 +27,7 @@ use Rattle.vlan_rule.specs.declared.treatment.AddedTag.{AddedTag}
 use Rattle.vlan_rule.specs.declared.treatment.Treatment.{Treatment}
 use Rattle.vlan_rule.specs.declared.treatment.Treatment.TheVariants as treatment
 use Rattle.vlan_rule.specs.Entry.{entry_of}
+use Rattle.vlan_rule.specs.Meaning.{rank_number}
 
 -- ---- filters
 
@@ -159,7 +160,7 @@ tpid_source_code from_tpid.Standard e = 4
 
 abbrev pub added_tag_is_codable : AddedTag → Bool
 added_tag_is_codable tag =
-    priority_source_is_codable tag.priority && vid_source_is_codable tag.vid && tpid_source_is_codable tag.tpid tag.eligible
+    priority_source_is_codable tag.priority && (vid_source_is_codable tag.vid && tpid_source_is_codable tag.tpid tag.eligible)
 
 abbrev pub addition_is_codable : Option AddedTag → Bool
 addition_is_codable None = true
@@ -172,7 +173,7 @@ addition_codes (Some tag) = record { priority = priority_source_code tag.priorit
 
 abbrev pub treatment_is_codable : Treatment → Bool
 treatment_is_codable treatment.Discard = true
-treatment_is_codable (treatment.Retag retag) = nat_le retag.remove 2 && addition_is_codable retag.outer && addition_is_codable retag.inner
+treatment_is_codable (treatment.Retag retag) = nat_le retag.remove 2 && (addition_is_codable retag.outer && addition_is_codable retag.inner)
 
 -- the code of how many tags go
 abbrev pub removal_code : Treatment → ℕ
@@ -192,6 +193,24 @@ inner_addition_codes (treatment.Retag retag) = addition_codes retag.inner
 -- whether some entry has these parts
 abbrev pub are_codable : Filter → Treatment → Bool
 are_codable f t = filter_is_codable f && treatment_is_codable t
+
+-- whether the predefined key of a filter's kind is there, and has such a filter
+abbrev pub is_of_predefined : Filter → Bool
+is_of_predefined filter.NoTag = true
+is_of_predefined filter.OneTagDefault = true
+is_of_predefined (filter.OneTag inner) = false
+is_of_predefined filter.TwoTagDefault = true
+is_of_predefined (filter.TwoTag outer inner) = false
+
+-- whether some entry with these filters has this rank; the predefined keys ask for no Ethertype
+abbrev pub rank_is_codable : Filter → EthertypeFilter → Rank → Bool
+rank_is_codable f type Ordinary = rank_number (filter_rank f) == 0
+rank_is_codable f type Default = rank_number (filter_rank f) == 1
+rank_is_codable f type Predefined = is_of_predefined f && ethertype_code type == 0
+
+-- whether some entry means this
+abbrev pub is_spellable : Filter → EthertypeFilter → Treatment → Rank → Bool
+is_spellable f type treats rank = are_codable f treats && rank_is_codable f type rank
 
 -- each code fits its field
 pub record IsTagCodes (codes : TagCodes) : Type 0 where

@@ -1,5 +1,5 @@
 //! The 16 bytes of an entry, and the values of its fields.
-ghost use Rattle.std.specs.Prelude.{◌≡◌, ◌≤◌, ◌<◌, ◌+◌, ◌-◌, ◌*◌, ◌/◌, ◌%◌, ◌^◌, length};
+ghost use Rattle.std.specs.Prelude.{◌≡◌, ◌≤◌, ◌<◌, ◌+◌, ◌-◌, ◌*◌, ◌/◌, ◌%◌, ◌^◌, length, slice_index, EachIndex};
 ghost use Rattle.vlan_rule.specs.Entry.{codes_of, entry_of, key_of, kind_of, number_of, value_of, IsTagLayout, IsField};
 ghost use Rattle.vlan_rule.specs.Table.{is_deletion, is_predefined};
 
@@ -24,7 +24,7 @@ impl Entry {
     pub fn key(&self) -> u64
         ensures { result ≡ key_of self.now.0 }
     {
-        BigEndian::read_u64(&self.0)
+        key_of(&self.0)
     }
 
     /// Whether it deletes the entry of its key: its last eight bytes are all 0xFF.
@@ -47,9 +47,10 @@ impl Entry {
 
     /// Whether its key is one of the three predefined ones.
     pub(crate) fn is_predefined(&self) -> bool
-        ensures { result ≡ is_predefined (key_of self.now.0) }
+        ensures value { result ≡ is_predefined (key_of self.now.0) }
+        ensures bytes { EachIndex self.now.0 (λ k. slice_index self.now.0 k < 256) }
     {
-        PREDEFINED_KEYS.contains(&self.key())
+        PREDEFINED_KEYS.contains(&key_of(&self.0))
     }
 
     /// Its kind.
@@ -84,6 +85,15 @@ impl Entry {
             tpid: self.value(at.tpid) as u8,
         }
     }
+}
+
+/// The number of the first eight bytes.
+fn key_of(entry: &[u8]) -> u64
+    requires { length entry.now ≡ 16 }
+    ensures value { result ≡ key_of entry.now }
+    ensures bytes { EachIndex entry.now (λ k. slice_index entry.now k < 256) }
+{
+    BigEndian::read_u64(entry)
 }
 
 /// One of the four words, counted from 1.

@@ -1,8 +1,8 @@
 //! A rule: what an entry means.
 ghost use Rattle.std.specs.Prelude.{◌≡◌, IsTrue, Some, MatchOption, MatchResult, true, false};
 ghost use Rattle.vlan_rule.specs.Entry.{refusal_of};
-ghost use Rattle.vlan_rule.specs.Meaning.{IsKnown, treatment_fits};
-ghost use Rattle.vlan_rule.specs.Spelling.{are_codable, spelled, spelled_key_of, spelled_rest_of};
+ghost use Rattle.vlan_rule.specs.Meaning.{treatment_fits};
+ghost use Rattle.vlan_rule.specs.Spelling.{are_codable, is_spellable, spelled, spelled_key_of, spelled_rest_of};
 
 use crate::entry::Entry;
 use crate::fault::RuleFault;
@@ -20,7 +20,7 @@ pub struct Rule {
     pub ethertype: EthertypeFilter,
     pub treatment: Treatment,
     pub rank: Rank,
-    pub ghost known: { ∥ IsKnown filter ethertype treatment rank ∥₁ },
+    pub ghost codable: { IsTrue (is_spellable filter ethertype treatment rank) },
     pub ghost fits: { IsTrue (treatment_fits treatment) },
 }
 

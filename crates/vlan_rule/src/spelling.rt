@@ -1,5 +1,5 @@
 //! The codes by which an entry says a rule.
-ghost use Rattle.std.specs.Prelude.{◌≡◌};
+ghost use Rattle.std.specs.Prelude.{◌≡◌, ◌<◌};
 ghost use Rattle.vlan_rule.specs.Spelling.{added_tag_is_codable, addition_codes, ethertype_code, filter_is_codable, filter_rank, inner_addition_codes, inner_filter_codes, outer_addition_codes, outer_filter_codes, priority_filter_code, priority_filter_is_codable, priority_source_code, priority_source_is_codable, removal_code, tag_filter_codes, tag_filter_is_codable, tag_number, tpid_filter_code, tpid_source_code, tpid_source_is_codable, treatment_is_codable, unsaid_codes, vid_filter_code, vid_filter_is_codable, vid_source_code, vid_source_is_codable, IsTagCodes};
 
 use crate::filter::{EthertypeFilter, Filter, PriorityFilter, TagFilter, TpidFilter, VidFilter};
@@ -292,7 +292,8 @@ impl TagCodes {
     /// The three fields as one number of 20 bits, as they stand side by side.
     pub(crate) fn number(self) -> u64
         requires { IsTagCodes self }
-        ensures { result ≡ tag_number self }
+        ensures value { result ≡ tag_number self }
+        ensures bound { result < 0x100000 }
     {
         (u64::from(self.priority) * 8192 + u64::from(self.vid)) * 8 + u64::from(self.tpid)
     }
