@@ -1,6 +1,6 @@
 -- The attributes of each class of managed entities (ITU-T G.988, clause 9), as data. Attribute n of a class stands at
 -- place n - 1 of the list.
-use Rattle.std.specs.Prelude.{ℕ, suc, zero, Bool, true, false, ◌&&◌, List, [], ◌∷◌, Option, Some, None, is_some, unwrap_or, if◌then◌else◌, ◌==◌}
+use Rattle.std.specs.Prelude.{ℕ, suc, zero, Bool, true, false, ◌&&◌, List, [], ◌∷◌, Option, Some, None, is_some, unwrap_or, if◌then◌else◌, ◌==◌, codes}
 use Rattle.byteorder.specs.Endian.{big_bytes}
 use Rattle.tag_view.specs.Tag.{customer_tpid}
 use Rattle.vlan_rule.specs.Table.{predefined, table_max_size}
@@ -150,6 +150,14 @@ class_number Mapper = 130
 class_number Vlan = 171
 class_number Interwork = 266
 class_number GemPort = 268
+
+-- the short word of a class
+abbrev pub class_word : Class → List ℕ
+class_word OnuData = codes "onu-data"
+class_word Mapper = codes "mapper"
+class_word Vlan = codes "vlan"
+class_word Interwork = codes "interwork"
+class_word GemPort = codes "gem-port"
 
 abbrev pub mapper_class : ℕ
 mapper_class = class_number Mapper

@@ -35,8 +35,9 @@ pub enum Class {
 }
 
 impl Class {
-    ghost use Rattle.std.specs.Prelude.{◌≡◌, IfSome, Some, is_some, length};
-    ghost use Rattle.managed_entity.specs.Class.{attributes_of, class_number, class_of, is_known};
+    ghost use Rattle.std.specs.Prelude.{◌≡◌, IfSome, MatchOption, Some, is_some, length};
+    ghost use Rattle.managed_entity.specs.Class.{attributes_of, class_number, class_of, class_word, is_known};
+    ghost use Rattle.managed_entity.specs.declared.class.Class.{Class};
 
     /// All classes, by ascending number.
     pub const ALL: [Class; 5] = [
@@ -85,6 +86,35 @@ impl Class {
             Class::Vlan => "Extended VLAN tagging operation configuration data",
             Class::Interwork => "GEM interworking termination point",
             Class::GemPort => "GEM port network CTP",
+        }
+    }
+
+    /// Its short word, in lower case with dashes.
+    pub fn word(self) -> &'static str
+        ensures { result.now ≡ class_word self }
+    {
+        match self {
+            Class::OnuData => "onu-data",
+            Class::Mapper => "mapper",
+            Class::Vlan => "vlan",
+            Class::Interwork => "interwork",
+            Class::GemPort => "gem-port",
+        }
+    }
+
+    /// The class of a short word.
+    pub fn of_word(word: &[u8]) -> Option<Self>
+        ensures { MatchOption result
+            ((class : Class) → ¬ (word.now ≡ class_word class))
+            (λ class. word.now ≡ class_word class) }
+    {
+        match word {
+            b"onu-data" => Some(Class::OnuData),
+            b"mapper" => Some(Class::Mapper),
+            b"vlan" => Some(Class::Vlan),
+            b"interwork" => Some(Class::Interwork),
+            b"gem-port" => Some(Class::GemPort),
+            _ => None,
         }
     }
 

@@ -4,7 +4,7 @@ ghost use Rattle.std.proofs.Common.{rules};
 
 use crate::attribute::Attribute;
 use crate::bytes::{Bytes, byte, number, one, two};
-use crate::description::{AttributeKind, Description};
+use crate::description::{AttributeKind, Description, NamedValue};
 use crate::entity::ManagedEntity;
 use crate::refusal::Refusal;
 use pmapper::GemPort;
@@ -27,43 +27,93 @@ pub(crate) static LAYOUT: [Attribute; 10] = [
 pub(crate) static DESCRIPTIONS: [Description; 10] = [
     Description {
         name: "Port-ID",
+        word: "port-id",
         kind: AttributeKind::Number,
+        values: &[],
     },
     Description {
         name: "T-CONT pointer",
+        word: "tcont",
         kind: AttributeKind::Pointer,
+        values: &[],
     },
     Description {
         name: "Direction",
+        word: "direction",
         kind: AttributeKind::Number,
+        values: &[
+            NamedValue {
+                word: "upstream",
+                value: 1,
+            },
+            NamedValue {
+                word: "downstream",
+                value: 2,
+            },
+            NamedValue {
+                word: "both",
+                value: 3,
+            },
+        ],
     },
     Description {
         name: "Traffic management pointer for upstream",
+        word: "traffic-management",
         kind: AttributeKind::Pointer,
+        values: &[],
     },
     Description {
         name: "Traffic descriptor profile pointer for upstream",
+        word: "upstream-descriptor",
         kind: AttributeKind::Pointer,
+        values: &[],
     },
     Description {
         name: "UNI counter",
+        word: "uni-counter",
         kind: AttributeKind::Number,
+        values: &[],
     },
     Description {
         name: "Priority queue pointer for downstream",
+        word: "priority-queue",
         kind: AttributeKind::Pointer,
+        values: &[],
     },
     Description {
         name: "Encryption state",
+        word: "encryption-state",
         kind: AttributeKind::Number,
+        values: &[],
     },
     Description {
         name: "Traffic descriptor profile pointer for downstream",
+        word: "downstream-descriptor",
         kind: AttributeKind::Pointer,
+        values: &[],
     },
     Description {
         name: "Encryption key ring",
+        word: "key-ring",
         kind: AttributeKind::Number,
+        values: &[
+            NamedValue {
+                word: "none",
+                value: 0,
+            },
+            NamedValue {
+                word: "unicast",
+                value: 1,
+            },
+            NamedValue {
+                word: "broadcast",
+                value: 2,
+            },
+            NamedValue {
+                word: "unicast-downstream",
+                value: 3,
+            },
+        ],
     },
 ];
 

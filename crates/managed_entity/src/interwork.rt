@@ -4,7 +4,7 @@ ghost use Rattle.std.proofs.Common.{rules};
 
 use crate::attribute::Attribute;
 use crate::bytes::{Bytes, byte, number, one, two};
-use crate::description::{AttributeKind, Description};
+use crate::description::{AttributeKind, Description, NamedValue};
 use crate::entity::ManagedEntity;
 use crate::refusal::Refusal;
 use pmapper::Interwork;
@@ -25,35 +25,94 @@ pub(crate) static LAYOUT: [Attribute; 8] = [
 pub(crate) static DESCRIPTIONS: [Description; 8] = [
     Description {
         name: "GEM port network CTP connectivity pointer",
+        word: "gem-port",
         kind: AttributeKind::Pointer,
+        values: &[],
     },
     Description {
         name: "Interworking option",
+        word: "option",
         kind: AttributeKind::Number,
+        values: &[
+            NamedValue {
+                word: "tdm",
+                value: 0,
+            },
+            NamedValue {
+                word: "bridge",
+                value: 1,
+            },
+            NamedValue {
+                word: "video",
+                value: 4,
+            },
+            NamedValue {
+                word: "mapper",
+                value: 5,
+            },
+            NamedValue {
+                word: "broadcast",
+                value: 6,
+            },
+            NamedValue {
+                word: "mpls",
+                value: 7,
+            },
+        ],
     },
     Description {
         name: "Service profile pointer",
+        word: "service-profile",
         kind: AttributeKind::Pointer,
+        values: &[],
     },
     Description {
         name: "Interworking termination point pointer",
+        word: "tp",
         kind: AttributeKind::Pointer,
+        values: &[],
     },
     Description {
         name: "PPTP counter",
+        word: "pptp-counter",
         kind: AttributeKind::Number,
+        values: &[],
     },
     Description {
         name: "Operational state",
+        word: "operational-state",
         kind: AttributeKind::Number,
+        values: &[
+            NamedValue {
+                word: "enabled",
+                value: 0,
+            },
+            NamedValue {
+                word: "disabled",
+                value: 1,
+            },
+        ],
     },
     Description {
         name: "GAL profile pointer",
+        word: "gal-profile",
         kind: AttributeKind::Pointer,
+        values: &[],
     },
     Description {
         name: "GAL loopback configuration",
+        word: "gal-loopback",
         kind: AttributeKind::Number,
+        values: &[
+            NamedValue {
+                word: "off",
+                value: 0,
+            },
+            NamedValue {
+                word: "on",
+                value: 1,
+            },
+        ],
     },
 ];
 

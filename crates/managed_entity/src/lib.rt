@@ -30,7 +30,7 @@ mod write;
 pub use attribute::{Access, Attribute};
 pub use bytes::{Bytes, byte, one};
 pub use class::Class;
-pub use description::{AttributeKind, Description};
+pub use description::{AttributeKind, Description, NamedValue};
 pub use entity::ManagedEntity;
 pub use get::get_contents;
 pub use known::{class_name, descriptions_of, layout_of};

@@ -4,7 +4,7 @@ ghost use Rattle.std.proofs.Common.{rules};
 
 use crate::attribute::Attribute;
 use crate::bytes::{Bytes, byte, dscp_map, number, one, two, whole};
-use crate::description::{AttributeKind, Description};
+use crate::description::{AttributeKind, Description, NamedValue};
 use crate::entity::ManagedEntity;
 use crate::refusal::Refusal;
 use pmapper::Mapper;
@@ -41,55 +41,143 @@ pub(crate) static LAYOUT: [Attribute; 13] = [
 pub(crate) static DESCRIPTIONS: [Description; 13] = [
     Description {
         name: "TP pointer",
+        word: "tp",
         kind: AttributeKind::Pointer,
+        values: &[],
     },
     Description {
         name: "Interwork TP pointer for P-bit priority 0",
+        word: "p0",
         kind: AttributeKind::Pointer,
+        values: &[NamedValue {
+            word: "none",
+            value: 0xffff,
+        }],
     },
     Description {
         name: "Interwork TP pointer for P-bit priority 1",
+        word: "p1",
         kind: AttributeKind::Pointer,
+        values: &[NamedValue {
+            word: "none",
+            value: 0xffff,
+        }],
     },
     Description {
         name: "Interwork TP pointer for P-bit priority 2",
+        word: "p2",
         kind: AttributeKind::Pointer,
+        values: &[NamedValue {
+            word: "none",
+            value: 0xffff,
+        }],
     },
     Description {
         name: "Interwork TP pointer for P-bit priority 3",
+        word: "p3",
         kind: AttributeKind::Pointer,
+        values: &[NamedValue {
+            word: "none",
+            value: 0xffff,
+        }],
     },
     Description {
         name: "Interwork TP pointer for P-bit priority 4",
+        word: "p4",
         kind: AttributeKind::Pointer,
+        values: &[NamedValue {
+            word: "none",
+            value: 0xffff,
+        }],
     },
     Description {
         name: "Interwork TP pointer for P-bit priority 5",
+        word: "p5",
         kind: AttributeKind::Pointer,
+        values: &[NamedValue {
+            word: "none",
+            value: 0xffff,
+        }],
     },
     Description {
         name: "Interwork TP pointer for P-bit priority 6",
+        word: "p6",
         kind: AttributeKind::Pointer,
+        values: &[NamedValue {
+            word: "none",
+            value: 0xffff,
+        }],
     },
     Description {
         name: "Interwork TP pointer for P-bit priority 7",
+        word: "p7",
         kind: AttributeKind::Pointer,
+        values: &[NamedValue {
+            word: "none",
+            value: 0xffff,
+        }],
     },
     Description {
         name: "Unmarked frame option",
+        word: "unmarked",
         kind: AttributeKind::Number,
+        values: &[
+            NamedValue {
+                word: "dscp",
+                value: 0,
+            },
+            NamedValue {
+                word: "default",
+                value: 1,
+            },
+        ],
     },
     Description {
         name: "DSCP to P-bit mapping",
+        word: "dscp",
         kind: AttributeKind::DscpMapping,
+        values: &[],
     },
     Description {
         name: "Default P-bit assumption",
+        word: "default",
         kind: AttributeKind::Number,
+        values: &[],
     },
     Description {
         name: "TP type",
+        word: "tp-type",
         kind: AttributeKind::Number,
+        values: &[
+            NamedValue {
+                word: "bridge",
+                value: 0,
+            },
+            NamedValue {
+                word: "pptp",
+                value: 1,
+            },
+            NamedValue {
+                word: "ip-host",
+                value: 2,
+            },
+            NamedValue {
+                word: "ethernet-flow",
+                value: 3,
+            },
+            NamedValue {
+                word: "xdsl",
+                value: 4,
+            },
+            NamedValue {
+                word: "moca",
+                value: 6,
+            },
+            NamedValue {
+                word: "veip",
+                value: 7,
+            },
+        ],
     },
 ];
 

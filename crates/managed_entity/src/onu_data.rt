@@ -9,5 +9,7 @@ pub(crate) static LAYOUT: [Attribute; 1] = [
 /// What its attributes are called, in the order of the layout.
 pub(crate) static DESCRIPTIONS: [Description; 1] = [Description {
     name: "MIB data sync",
+    word: "sync",
     kind: AttributeKind::Number,
+    values: &[],
 }];

@@ -4,7 +4,7 @@ ghost use Rattle.std.proofs.Common.{rules};
 
 use crate::attribute::{Access, Attribute};
 use crate::bytes::{Bytes, byte, dscp_map, four, number, one, two, whole};
-use crate::description::{AttributeKind, Description};
+use crate::description::{AttributeKind, Description, NamedValue};
 use crate::entity::ManagedEntity;
 use crate::refusal::Refusal;
 use std::alloc::{AllocError, Global};
@@ -65,35 +65,113 @@ pub(crate) static LAYOUT: [Attribute; 8] = [
 pub(crate) static DESCRIPTIONS: [Description; 8] = [
     Description {
         name: "Association type",
+        word: "association",
         kind: AttributeKind::Number,
+        values: &[
+            NamedValue {
+                word: "bridge-port",
+                value: 0,
+            },
+            NamedValue {
+                word: "mapper",
+                value: 1,
+            },
+            NamedValue {
+                word: "pptp",
+                value: 2,
+            },
+            NamedValue {
+                word: "ip-host",
+                value: 3,
+            },
+            NamedValue {
+                word: "xdsl",
+                value: 4,
+            },
+            NamedValue {
+                word: "interwork",
+                value: 5,
+            },
+            NamedValue {
+                word: "multicast",
+                value: 6,
+            },
+            NamedValue {
+                word: "moca",
+                value: 7,
+            },
+            NamedValue {
+                word: "ethernet-flow",
+                value: 9,
+            },
+            NamedValue {
+                word: "veip",
+                value: 10,
+            },
+            NamedValue {
+                word: "mpls",
+                value: 11,
+            },
+            NamedValue {
+                word: "efm-bonding",
+                value: 12,
+            },
+        ],
     },
     Description {
         name: "Received frame VLAN tagging operation table max size",
+        word: "table-max-size",
         kind: AttributeKind::Number,
+        values: &[],
     },
     Description {
         name: "Input TPID",
+        word: "input-tpid",
         kind: AttributeKind::Tpid,
+        values: &[],
     },
     Description {
         name: "Output TPID",
+        word: "output-tpid",
         kind: AttributeKind::Tpid,
+        values: &[],
     },
     Description {
         name: "Downstream mode",
+        word: "downstream",
         kind: AttributeKind::Number,
+        values: &[
+            NamedValue {
+                word: "inverse",
+                value: 0,
+            },
+            NamedValue {
+                word: "unchanged",
+                value: 1,
+            },
+            NamedValue {
+                word: "discard",
+                value: 8,
+            },
+        ],
     },
     Description {
         name: "Received frame VLAN tagging operation table",
+        word: "table",
         kind: AttributeKind::Table,
+        values: &[],
     },
     Description {
         name: "Associated ME pointer",
+        word: "pointer",
         kind: AttributeKind::Pointer,
+        values: &[],
     },
     Description {
         name: "DSCP to P-bit mapping",
+        word: "dscp",
         kind: AttributeKind::DscpMapping,
+        values: &[],
     },
 ];
 
