@@ -10,7 +10,7 @@ use std::rt::Files;
 use text_entities::{write_mib, write_mib_json};
 use text_explanations::{write_explanation, write_explanation_json, write_rules, write_rules_json};
 use text_messages::decode;
-use text_writing::{LookFault, TextFault, report_look};
+use text_writing::{DecodeFault, LookFault, TextFault, report_look};
 
 /// Why a trace isn't read.
 fn trace_fault(fault: TraceFault) -> LookFault {
@@ -62,7 +62,11 @@ pub fn decode_lines<I: Read, O: Write, E: Write>(
     err: &mut E,
 ) -> u8 {
     let outcome = decode(alloc, reader, out);
-    report_look(&outcome.map_err(LookFault::from), err)
+    let status = report_look(&outcome.map_err(LookFault::from), err);
+    if let Err(DecodeFault::BadLine(_, mistake)) = outcome {
+        let _ = writeln!(err, "{mistake}");
+    }
+    status
 }
 
 /// Writes managed entities, as text or as JSON.

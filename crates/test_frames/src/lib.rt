@@ -12,6 +12,8 @@ mod pmapper_tests;
 #[cfg(test)]
 mod rule_index_tests;
 #[cfg(test)]
+mod spelling_tests;
+#[cfg(test)]
 mod tag_view_tests;
 #[cfg(test)]
 mod treatment_tests;

@@ -1,7 +1,10 @@
 use std::alloc::AllocError;
 use std::test::Fail;
 use test_fixtures::{Sink, compare, same};
-use text_writing::{DecodeFault, LookFault, TextFault, WriteFault, report_look, write_whole};
+use text_writing::{
+    DecodeFault, Expected, Found, LookFault, Mistake, TextFault, WriteFault, report_look,
+    write_whole,
+};
 
 #[test]
 fn bytes_are_written_whole_or_to_where_a_write_fails(rt: HostRuntime) -> Result<(), Fail> {
@@ -37,10 +40,52 @@ fn what_differs_is_said_with_both(rt: HostRuntime) -> Result<(), Fail> {
     Ok(())
 }
 
+/// A letter among hexadecimal digits.
+const LETTER: Mistake = Mistake {
+    column: 14,
+    found: Found::Byte(b'O'),
+    expected: Expected::HexDigit,
+};
+
+#[test]
+fn a_mistake_is_said_with_its_column(rt: HostRuntime) -> Result<(), AllocError> {
+    for (mistake, words) in [
+        (LETTER, "column 14: found 'O', expected a hexadecimal digit"),
+        (
+            Mistake {
+                column: 2,
+                found: Found::Byte(b' '),
+                expected: Expected::End,
+            },
+            "column 2: found a space, expected the line's end",
+        ),
+        (
+            Mistake {
+                column: 3,
+                found: Found::Byte(9),
+                expected: Expected::Digit,
+            },
+            "column 3: found the byte 0x09, expected a decimal digit",
+        ),
+        (
+            Mistake {
+                column: 4,
+                found: Found::End,
+                expected: Expected::Space,
+            },
+            "column 4: found the line's end, expected a space",
+        ),
+    ] {
+        let text = mistake.to_string(rt.alloc())?;
+        same!(rt; text.as_str(), words);
+    }
+    Ok(())
+}
+
 #[test]
 fn a_fault_of_a_decoding_has_words(rt: HostRuntime) -> Result<(), AllocError> {
     for (fault, words) in [
-        (DecodeFault::BadLine(7), "line 7 is bad"),
+        (DecodeFault::BadLine(7, LETTER), "line 7 is bad"),
         (DecodeFault::Read, "read failed"),
         (DecodeFault::Write, "write failed"),
         (DecodeFault::NoMemory, "no memory"),

@@ -14,6 +14,8 @@ mod device_tests;
 #[cfg(test)]
 mod devices;
 #[cfg(test)]
+mod line_tests;
+#[cfg(test)]
 mod replay_tests;
 #[cfg(test)]
 mod script_digits_tests;

@@ -83,17 +83,17 @@ impl Read for Failing {
     }
 }
 
+/// What a line that says that no answer was wanted is decoded to.
+const NO_ANSWER: &str = "no answer wanted\n";
+
 #[test]
-fn a_reader_that_fails_ends_the_decoding_before_it_begins(rt: HostRuntime) {
+fn a_reader_that_fails_ends_the_decoding_behind_what_it_gave(rt: HostRuntime) {
     let mut written = Vec::new(rt.alloc());
     let mut failing = Failing { has_given: false };
     let outcome = decode(rt.alloc(), &mut failing, &mut written);
     same!(rt; outcome, Err(DecodeFault::Read));
-    holds!(rt; written.is_empty());
+    same!(rt; written.as_slice(), NO_ANSWER.as_bytes());
 }
-
-/// What a line that says that no answer was wanted is decoded to.
-const NO_ANSWER: &str = "no answer wanted\n";
 
 /// Decodes the line for a writer that has room for a front of the text.
 fn decode_front(rt: &impl Abort, alloc: Global, front: &[u8]) {

@@ -8,6 +8,7 @@
 #![tactic(auto)]
 
 mod bytes;
+mod class_names;
 mod dscp;
 mod entity;
 mod entry;
@@ -23,6 +24,7 @@ mod treatment;
 mod value;
 
 pub use bytes::HexWords;
+pub use class_names::standard_class_name;
 pub use dscp::DscpMapWords;
 pub use entity::EntityWords;
 pub use entry::EntryWords;

@@ -13,7 +13,7 @@ pub(crate) enum TableValue {
 }
 
 /// The number of bytes of the attribute at a place of a class, or None where the class hasn't so many.
-fn width_at(class: u16, place: usize, table: TableValue) -> Option<usize> {
+pub(crate) fn width_at(class: u16, place: usize, table: TableValue) -> Option<usize> {
     let attribute = layout_of(class).get(place)?;
     if attribute.access.is_table() && matches!(table, TableValue::Size) {
         return Some(4);
@@ -90,7 +90,8 @@ pub(crate) fn put_values<'a>(
     Ok(rest)
 }
 
-/// Puts a line with the names of the attributes that a mask names, if it names any.
+/// Puts a line with the names of the attributes that a mask names, if it names any; their numbers where the class has no
+/// attributes that are known.
 pub(crate) fn put_names(
     text: &mut String,
     front: &str,
@@ -101,23 +102,44 @@ pub(crate) fn put_names(
         return Ok(());
     }
     write!(text, "  {front}: ")?;
+    let is_known = !descriptions_of(class).is_empty();
     let mut separator = "";
     for place in 0..16 {
         if names(mask, place) {
             text.push_str(separator)?;
-            put_name(text, class, place)?;
+            put_name(text, class, place, is_known)?;
             separator = ", ";
         }
     }
     text.push_str("\n")
 }
 
-/// Puts the name of the attribute at a place, or its number where the class hasn't so many.
-fn put_name(text: &mut String, class: u16, place: usize) -> Result<(), AllocError> {
+/// Puts the name of the attribute at a place, or its number where the class hasn't so many, or its attributes aren't known.
+fn put_name(text: &mut String, class: u16, place: usize, is_known: bool) -> Result<(), AllocError> {
+    let number = place.wrapping_add(1);
     match descriptions_of(class).get(place) {
         Some(description) => text.push_str(description.name),
-        None => write!(text, "attribute {}", place.wrapping_add(1)),
+        None if is_known => write!(text, "attribute {number}"),
+        None => write!(text, "{number}"),
     }
+}
+
+/// Puts a line for an entry of a table, by its place.
+pub(crate) fn put_entry(text: &mut String, place: u32, entry: &[u8]) -> Result<(), AllocError> {
+    let rule = ValueWords {
+        kind: AttributeKind::Table,
+        bytes: entry,
+    };
+    writeln!(text, "    {place}: {rule}")
+}
+
+/// Puts the values of attributes that aren't known, where one of their bytes isn't 0.
+pub(crate) fn put_unknown_values(text: &mut String, values: &[u8]) -> Result<(), AllocError> {
+    if values.iter().all(|byte| *byte == 0) {
+        return Ok(());
+    }
+    let values = HexWords(values);
+    writeln!(text, "  values: {values}")
 }
 
 /// Puts a line with bytes that aren't understood, where one of them isn't 0.

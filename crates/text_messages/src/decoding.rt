@@ -1,14 +1,17 @@
 //! A script or a dialogue as text.
 use crate::frame::put_frame;
 use crate::line::{ScriptLine, read_script_line};
+use crate::lines::LineReader;
+use crate::mistake::find_mistake;
 use crate::names::message_fault_words;
 use crate::reply::put_reply;
 use crate::request::put_request;
+use crate::table_parts::TableParts;
 use frame_meaning::Reason;
 use omci_msg::{MsgFault, read, read_reply};
-use script_lines::{MOST_SPELLED, first_line};
+use script_lines::MOST_SPELLED;
 use std::alloc::{AllocError, Global};
-use std::io::{ErrorKind, Read, Write};
+use std::io::{self, ErrorKind, Read, Write};
 use text_entities::HexWords;
 use text_writing::{DecodeFault, write_whole};
 
@@ -17,35 +20,46 @@ use text_writing::{DecodeFault, write_whole};
 /// HEX` is a frame, shown as it is read. The lines of answers, as a replay writes them, are `r HEX`, `g GEM HEX`, `d N`, `m N`
 /// and `-`. Any other line is bad: it ends the decoding.
 ///
-/// All of the input is read before the first write, and the text of a line is made in memory before it is written.
+/// The text of a line is written before the next line is read, unless that was read with it. It is made in memory, and a line is
+/// held, but not the script. No read that fails is made again.
 pub fn decode<R: Read, W: Write>(
     alloc: Global,
     reader: &mut R,
     writer: &mut W,
 ) -> Result<(), DecodeFault> {
-    let mut script = Vec::new(alloc);
-    match reader.read_to_end(&mut script) {
-        Ok(_) => decode_lines(alloc, &script, writer),
-        Err(error) if error.kind() == ErrorKind::OutOfMemory => Err(DecodeFault::NoMemory),
-        Err(_) => Err(DecodeFault::Read),
+    let mut lines = LineReader::new(alloc)?;
+    let mut parts = TableParts::new();
+    for number in 1..u64::MAX {
+        match lines.next_line(reader) {
+            Ok(Some(line)) => decode_line(alloc, number, line, &mut parts, writer)?,
+            Ok(None) => return Ok(()),
+            Err(error) => return Err(read_fault(&error)),
+        }
+    }
+    Ok(())
+}
+
+/// Why a read failed.
+fn read_fault(error: &io::Error) -> DecodeFault {
+    match error.kind() {
+        ErrorKind::OutOfMemory => DecodeFault::NoMemory,
+        _ => DecodeFault::Read,
     }
 }
 
-/// Writes a text for each line of a script.
-fn decode_lines<W: Write>(alloc: Global, script: &[u8], writer: &mut W) -> Result<(), DecodeFault> {
+/// Writes the text of the line of a number.
+fn decode_line<W: Write>(
+    alloc: Global,
+    number: u64,
+    line: &[u8],
+    parts: &mut TableParts,
+    writer: &mut W,
+) -> Result<(), DecodeFault> {
     let mut buffer = [0; MOST_SPELLED];
-    let mut rest = script;
-    let mut number = 1u64;
-    while !rest.is_empty() {
-        let (line, behind) = first_line(rest);
-        let Some(read) = read_script_line(line, &mut buffer) else {
-            return Err(DecodeFault::BadLine(number));
-        };
-        write_line(alloc, line, &read, writer)?;
-        rest = behind;
-        number += 1;
+    match read_script_line(line, &mut buffer) {
+        Some(read) => write_line(alloc, line, &read, parts, writer),
+        None => Err(DecodeFault::BadLine(number, find_mistake(line))),
     }
-    Ok(())
 }
 
 /// Writes the text of a line.
@@ -53,6 +67,7 @@ fn write_line<W: Write>(
     alloc: Global,
     line: &[u8],
     read: &ScriptLine<'_>,
+    parts: &mut TableParts,
     writer: &mut W,
 ) -> Result<(), DecodeFault> {
     if matches!(read, ScriptLine::Nothing) {
@@ -61,16 +76,20 @@ fn write_line<W: Write>(
         return Ok(());
     }
     let mut text = String::new(alloc);
-    put_line(&mut text, read)?;
+    put_line(&mut text, read, parts)?;
     write_whole(writer, text.as_bytes())?;
     Ok(())
 }
 
 /// Puts the text of a line.
-fn put_line(text: &mut String, line: &ScriptLine<'_>) -> Result<(), AllocError> {
+fn put_line(
+    text: &mut String,
+    line: &ScriptLine<'_>,
+    parts: &mut TableParts,
+) -> Result<(), AllocError> {
     match line {
-        ScriptLine::Message(bytes) => put_message(text, bytes),
-        ScriptLine::Reply(bytes) => put_answer(text, bytes),
+        ScriptLine::Message(bytes) => put_message(text, bytes, parts),
+        ScriptLine::Reply(bytes) => put_answer(text, bytes, parts),
         ScriptLine::Frame(port, bytes) => {
             write!(text, "frame at port {port}")?;
             put_frame(text, bytes)
@@ -87,17 +106,23 @@ fn put_line(text: &mut String, line: &ScriptLine<'_>) -> Result<(), AllocError> 
 }
 
 /// Puts a message, or its fault.
-fn put_message(text: &mut String, bytes: &[u8]) -> Result<(), AllocError> {
+fn put_message(text: &mut String, bytes: &[u8], parts: &mut TableParts) -> Result<(), AllocError> {
     match read(bytes) {
-        Ok(request) => put_request(text, &request),
+        Ok(request) => {
+            parts.ask(&request);
+            put_request(text, &request)
+        }
         Err(fault) => put_fault(text, "message", bytes, fault),
     }
 }
 
-/// Puts a reply, or why it is none.
-fn put_answer(text: &mut String, bytes: &[u8]) -> Result<(), AllocError> {
+/// Puts a reply, and the entries of a table that it completes, or why it is none.
+fn put_answer(text: &mut String, bytes: &[u8], parts: &mut TableParts) -> Result<(), AllocError> {
     match read_reply(bytes) {
-        Ok(reply) => put_reply(text, &reply),
+        Ok(reply) => {
+            put_reply(text, &reply)?;
+            parts.follow(text, &reply)
+        }
         Err(fault) => put_fault(text, "reply", bytes, fault),
     }
 }

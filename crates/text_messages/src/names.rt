@@ -26,7 +26,29 @@ pub fn action_name(action: Action) -> Option<&'static str> {
         Action::MibUpload => Some("MIB upload"),
         Action::MibUploadNext => Some("MIB upload next"),
         Action::MibReset => Some("MIB reset"),
-        Action::Other(_) => None,
+        Action::Other(_) => other_action_name(action.code()),
+    }
+}
+
+/// What an action that this unit doesn't carry out is called, by its code.
+fn other_action_name(code: u8) -> Option<&'static str> {
+    match code {
+        11 => Some("Get all alarms"),
+        12 => Some("Get all alarms next"),
+        16 => Some("Alarm"),
+        17 => Some("Attribute value change"),
+        18 => Some("Test"),
+        19 => Some("Start software download"),
+        20 => Some("Download section"),
+        21 => Some("End software download"),
+        22 => Some("Activate software"),
+        23 => Some("Commit software"),
+        24 => Some("Synchronize time"),
+        25 => Some("Reboot"),
+        27 => Some("Test result"),
+        28 => Some("Get current data"),
+        29 => Some("Set table"),
+        _ => None,
     }
 }
 

@@ -1,5 +1,5 @@
 //! A reply as text.
-use crate::attributes::{TableValue, put_contents, put_names, put_rest, put_values};
+use crate::attributes::{TableValue, put_names, put_rest, put_unknown_values, put_values};
 use crate::names::{ActionWords, result_name};
 use byteorder::{BigEndian, ByteOrder};
 use managed_entity::class_name;
@@ -43,14 +43,15 @@ fn put_row(text: &mut String, contents: &[u8; 32]) -> Result<(), AllocError> {
     }
     let entity = EntityWords { class, instance };
     writeln!(text, ", row of {entity}")?;
-    if class_name(class).is_none() {
-        return put_contents(text, contents);
-    }
     put_returned(text, class, mask, &contents[6..])
 }
 
-/// Puts the attributes that a mask names, and the bytes behind them.
+/// Puts the attributes that a mask names, and the bytes behind them; where they aren't known, their numbers and the bytes.
 fn put_returned(text: &mut String, class: u16, mask: u16, values: &[u8]) -> Result<(), AllocError> {
+    if class_name(class).is_none() {
+        put_names(text, "attributes", class, mask)?;
+        return put_unknown_values(text, values);
+    }
     let rest = put_values(text, class, mask, TableValue::Size, values)?;
     put_rest(text, rest)
 }
@@ -61,11 +62,10 @@ fn put_result(text: &mut String, reply: &Reply) -> Result<(), AllocError> {
     let code = contents[0];
     let name = result_name(code);
     writeln!(text, ", result {code} ({name})")?;
-    let is_known = class_name(reply.class).is_some();
     match reply.action {
-        Action::Get if is_known && matches!(code, 0 | 9) => put_got(text, reply.class, contents),
-        Action::GetNext if is_known && code == 0 => put_part(text, reply.class, contents),
-        Action::Set if is_known && code == 9 => put_failed(text, reply.class, contents),
+        Action::Get if matches!(code, 0 | 9) => put_got(text, reply.class, contents),
+        Action::GetNext if code == 0 => put_part(text, reply.class, contents),
+        Action::Set if code == 9 => put_failed(text, reply.class, contents),
         _ => put_rest(text, &contents[1..]),
     }
 }
@@ -84,6 +84,9 @@ fn put_got(text: &mut String, class: u16, contents: &[u8; 32]) -> Result<(), All
 fn put_part(text: &mut String, class: u16, contents: &[u8; 32]) -> Result<(), AllocError> {
     let mask = BigEndian::read_u16(&contents[1..3]);
     put_names(text, "attributes", class, mask)?;
+    if class_name(class).is_none() {
+        return put_unknown_values(text, &contents[3..]);
+    }
     let part = HexWords(&contents[3..]);
     writeln!(text, "  data: {part}")
 }

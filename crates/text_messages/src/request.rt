@@ -1,5 +1,7 @@
 //! A request as text.
-use crate::attributes::{TableValue, given_mask, put_contents, put_names, put_rest, put_values};
+use crate::attributes::{
+    TableValue, given_mask, put_contents, put_names, put_rest, put_unknown_values, put_values,
+};
 use crate::names::ActionWords;
 use byteorder::{BigEndian, ByteOrder};
 use managed_entity::{class_name, mask_of};
@@ -40,9 +42,12 @@ fn put_asked(text: &mut String, request: &Request) -> Result<(), AllocError> {
             put_rest(text, &contents[2..])
         }
         Action::Other(_) => put_contents(text, contents),
-        _ if class_name(request.class).is_none() => put_contents(text, contents),
-        Action::Create | Action::Set => put_given(text, request),
         Action::Get | Action::GetNext => put_named(text, request),
+        Action::Create | Action::Set if class_name(request.class).is_some() => {
+            put_given(text, request)
+        }
+        Action::Create => put_contents(text, contents),
+        Action::Set => put_unknown_set(text, request),
     }
 }
 
@@ -55,6 +60,13 @@ fn put_given(text: &mut String, request: &Request) -> Result<(), AllocError> {
     };
     let rest = put_values(text, request.class, mask, TableValue::Entry, values)?;
     put_rest(text, rest)
+}
+
+/// Puts what a Set gives an instance whose attributes aren't known.
+fn put_unknown_set(text: &mut String, request: &Request) -> Result<(), AllocError> {
+    let contents = &request.contents;
+    put_names(text, "attributes", request.class, mask_of(contents))?;
+    put_unknown_values(text, &contents[2..])
 }
 
 /// Puts the names of the attributes that a Get or a Get next asks for.

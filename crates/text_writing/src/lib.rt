@@ -8,6 +8,7 @@
 mod fault;
 mod fault_words;
 mod look_fault;
+mod mistake;
 mod whole;
 
 pub use fault::{DecodeFault, TextFault};
@@ -15,4 +16,5 @@ pub use fault_words::{
     Words, bad_line_words, bad_trace_words, no_memory_words, read_failed_words, write_failed_words,
 };
 pub use look_fault::{LookFault, report_look};
+pub use mistake::{Expected, Found, Mistake};
 pub use whole::{WriteFault, write_whole};

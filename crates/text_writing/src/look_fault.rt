@@ -68,7 +68,7 @@ impl From<TextFault> for LookFault {
 impl From<DecodeFault> for LookFault {
     fn from(fault: DecodeFault) -> LookFault {
         match fault {
-            DecodeFault::BadLine(line) => LookFault::BadLine(line),
+            DecodeFault::BadLine(line, _) => LookFault::BadLine(line),
             DecodeFault::Read => LookFault::Read,
             DecodeFault::Write => LookFault::Write,
             DecodeFault::NoMemory => LookFault::NoMemory,
