@@ -69,18 +69,25 @@ impl Read for Pieces<'_> {
     }
 }
 
+/// Compares the next line, or that there is none.
+fn line_is(rt: &impl Abort, reader: &mut LineReader, pieces: &mut Pieces<'_>, line: Option<&[u8]>) {
+    match reader.next_line(pieces) {
+        Ok(next) => same!(rt; next, line),
+        Err(_) => holds!(rt; false, "no read fails"),
+    }
+}
+
 /// Reads a text by pieces of a size, and compares its lines.
 fn lines_are(rt: &impl Abort, alloc: Global, size: usize, text: &[u8], lines: &[&[u8]]) {
-    let made = LineReader::new(alloc);
-    holds!(rt; made.is_ok());
-    let Ok(mut reader) = made else {
+    let Ok(mut reader) = LineReader::new(alloc) else {
+        holds!(rt; false, "there is memory");
         return;
     };
     let mut pieces = Pieces { text, size };
     for line in lines {
-        same!(rt; reader.next_line(&mut pieces), Ok(Some(*line)), "{size}");
+        line_is(rt, &mut reader, &mut pieces, Some(*line));
     }
-    same!(rt; reader.next_line(&mut pieces), Ok(None), "{size}");
+    line_is(rt, &mut reader, &mut pieces, None);
 }
 
 #[test]
