@@ -17,6 +17,8 @@ use Rattle.bench_capture.specs.declared.span.Span.{Span}
 use Rattle.bench_capture.specs.declared.span.Taken.{Taken}
 use Rattle.bench_capture.proofs.Classics.{faulty_reads, taken_reads}
 use Rattle.bench_pcapng.specs.Blocks.{wanted_length}
+use Rattle.bench_capture.specs.declared.pieces.Pieces.{Pieces}
+use Rattle.bench_pcapng.specs.Passing.{IsPassed, IsPast}
 use Rattle.bench_pcapng.specs.Read.{ComesTo, IsBlock, IsRead}
 use Rattle.bench_pcapng.specs.Reading as pcapng
 use Rattle.bench_pcapng.specs.Reading.{Fails, Passes, Place, Progress, Yields, is_pcapng, opened, place_at, step_of}
@@ -25,6 +27,8 @@ use Rattle.bench_pcapng.specs.declared.blocks.Located.{Located}
 use Rattle.bench_pcapng.specs.declared.fault.PcapngFault.{PcapngFault}
 use Rattle.bench_pcapng.specs.declared.fault.PcapngFault.TheVariants as faults
 use Rattle.bench_pcapng.specs.declared.order.Order.TheVariants as orders
+use Rattle.bench_pcapng.specs.declared.passing.Passing.{Passing}
+use Rattle.bench_pcapng.specs.declared.passing.Past.{Past}
 use Rattle.bench_pcapng.proofs.Fronts.{fails_last, fails_on, not_opened_more, opened_more, passes_on, told_long, told_more, yields_on}
 use Rattle.bench_pcapng.proofs.Readings.{passes_further, yields_further}
 use Rattle.capture.specs.Records.{header_of}
@@ -57,6 +61,10 @@ classic_faulty old new bytes fault some why = record {
 
 -- ---- blocks
 
+-- between two of them
+abbrev pub between : Progress → Pieces
+between known = record { blocks = known; passing = None }
+
 -- what a step came to is what there was to be read
 block_reads : (old new : Progress) (bytes behind more : List ℕ) (packet : Option Located) → 0 < length bytes → ComesTo (step_of (place_at old bytes)) bytes packet behind new
     → reading_in (pcapng.reading_at (place_at old (bytes ++ more)))
@@ -73,7 +81,7 @@ block_counts old new bytes behind None comes = (passes_further (place_at old byt
 block_counts old new bytes behind (Some located) comes = (yields_further (place_at old bytes) (place_at new behind) located.packet comes.0).number
 
 pub block_taken : (old new : Progress) (bytes : List ℕ) (block : Block) → 0 < length bytes → IsBlock (step_of (place_at old bytes)) bytes block new
-    → IsTaken (Pcapng old) bytes (taken_of block) (Pcapng new)
+    → IsTaken (Pcapng (between old)) bytes (taken_of block) (Pcapng (between new))
 block_taken old new bytes block some is =
     let counts = block_counts old new bytes (drop block.length bytes) block.packet is.comes in
     record {
@@ -97,19 +105,50 @@ block_fails old bytes more fault some (inl none) is =
 block_fails old bytes more fault some (inr enough) is = fails_on old bytes more fault some enough is
 
 block_faulty_by : (old new : Progress) (bytes : List ℕ) (fault : PcapngFault) (told : CaptureFault) → 0 < length bytes
-    → (step_of (place_at old bytes) ≡ Fails fault) × (new ≡ old) → reading_in (pcapng.stopped fault) ≡ stopped told → IsFaulty (Pcapng old) bytes told (Pcapng new)
+    → (step_of (place_at old bytes) ≡ Fails fault) × (new ≡ old) → reading_in (pcapng.stopped fault) ≡ stopped told → IsFaulty (Pcapng (between old)) bytes told (Pcapng (between new))
 block_faulty_by old new bytes fault told some is same = record {
-  same = ap (λ (known : Progress). Pcapng known) is.1;
+  same = ap (λ (known : Progress). Pcapng (between known)) is.1;
   reads = λ more enough. ap (λ (all : pcapng.Reading). reading_in all) (block_fails old bytes more fault some enough is.0) ∙ same;
 }
 
 pub block_faulty : (old new : Progress) (bytes : List ℕ) (fault : PcapngFault) → 0 < length bytes → IsRead old bytes (Err fault) new
-    → Takes (Pcapng old) bytes (Err (frame_fault_of fault)) (Pcapng new)
+    → Takes (Pcapng (between old)) bytes (Err (frame_fault_of fault)) (Pcapng (between new))
 block_faulty old new bytes faults.Header some is = block_faulty_by old new bytes _ _ some is refl
 block_faulty old new bytes (faults.Link link) some is = block_faulty_by old new bytes _ _ some is refl
 block_faulty old new bytes (faults.Torn n) some is = block_faulty_by old new bytes _ _ some is refl
 block_faulty old new bytes (faults.TooLong n) some is = block_faulty_by old new bytes _ _ some is refl
-block_faulty old new bytes faults.NoMemory some is = ap (λ (known : Progress). Pcapng known) is
+block_faulty old new bytes faults.NoMemory some is = ap (λ (known : Progress). Pcapng (between known)) is
+
+-- ---- a block that is passed over
+
+-- within it
+abbrev pub within : Progress → Passing → Pieces
+within known passing = record { blocks = known; passing = Some passing }
+
+pub past_taken : (old new : Progress) (passing : Passing) (bytes : List ℕ) (past : Past) → IsPast old passing bytes past new
+    → IsTaken (Pcapng (within old passing)) bytes (record { length = past.length; frame = None }) (Pcapng (record { blocks = new; passing = past.left }))
+past_taken old new passing bytes past is = record {
+  some = is.some;
+  within = is.within;
+  span = tt;
+  counted = is.counted;
+  reads = λ more. ap (λ (all : pcapng.Reading). reading_in all) (is.reads more);
+}
+
+past_faulty_by : (old new : Progress) (passing : Passing) (bytes : List ℕ) (fault : PcapngFault) (told : CaptureFault) → IsPassed old passing bytes (Err fault) new
+    → reading_in (pcapng.stopped fault) ≡ stopped told → IsFaulty (Pcapng (within old passing)) bytes told (Pcapng (within new passing))
+past_faulty_by old new passing bytes fault told is same = record {
+  same = ap (λ (known : Progress). Pcapng (within known passing)) is.0;
+  reads = λ more enough. ap (λ (all : pcapng.Reading). reading_in all) (is.1 more enough) ∙ same;
+}
+
+pub past_faulty : (old new : Progress) (passing : Passing) (bytes : List ℕ) (fault : PcapngFault) → IsPassed old passing bytes (Err fault) new
+    → Takes (Pcapng (within old passing)) bytes (Err (frame_fault_of fault)) (Pcapng (within new passing))
+past_faulty old new passing bytes faults.Header is = past_faulty_by old new passing bytes _ _ is refl
+past_faulty old new passing bytes (faults.Link link) is = past_faulty_by old new passing bytes _ _ is refl
+past_faulty old new passing bytes (faults.Torn n) is = past_faulty_by old new passing bytes _ _ is refl
+past_faulty old new passing bytes (faults.TooLong n) is = past_faulty_by old new passing bytes _ _ is refl
+past_faulty old new passing bytes faults.NoMemory is = ap (λ (known : Progress). Pcapng (within known passing)) is.0
 
 -- ---- the beginning of a file in the classic format
 

@@ -1,11 +1,13 @@
 -- The bytes of a file that is in memory are all that there is.
-use Rattle.std.proofs.Common.{◌≡◌, ℕ, List, [], length, drop, refl, sym, ap, ◌∙◌, inl, append-nil}
+use Rattle.std.proofs.Common.{◌≡◌, ℕ, List, [], ◌∷◌, length, drop, Some, None, arith, refl, sym, ap, ◌∙◌, inl, append-nil}
 use Rattle.std.specs.Prelude.{Ok, Err}
 use Rattle.bench_capture.specs.Calls.{IsNext}
 use Rattle.bench_capture.specs.File.{reading_in, reading_of}
-use Rattle.bench_capture.specs.Formats.{IsFaulty, IsTaken, Opens, Takes, reading_at, with_span}
+use Rattle.bench_capture.specs.Formats.{IsFaulty, IsTaken, Opens, Takes, frame_fault_of, reading_at, with_span}
 use Rattle.bench_capture.specs.Reading.{Reading, nothing_left, stopped}
+use Rattle.bench_capture.specs.declared.classic.Records.{Records}
 use Rattle.bench_capture.specs.declared.fault.CaptureFault.{CaptureFault}
+use Rattle.bench_capture.specs.declared.fault.CaptureFault.TheVariants.{Torn}
 use Rattle.bench_capture.specs.declared.fault.FrameFault.{FrameFault}
 use Rattle.bench_capture.specs.declared.fault.FrameFault.TheVariants.{Capture, NoMemory}
 use Rattle.bench_capture.specs.declared.format.Format.{Format}
@@ -13,6 +15,11 @@ use Rattle.bench_capture.specs.declared.format.Format.TheVariants.{Classic, Pcap
 use Rattle.bench_capture.specs.declared.span.Taken.{Taken}
 use Rattle.bench_capture.proofs.Classics.{records_none}
 use Rattle.bench_pcapng.specs.Reading as pcapng
+use Rattle.bench_pcapng.specs.Reading.{Progress}
+use Rattle.bench_pcapng.specs.declared.fault.PcapngFault.{PcapngFault}
+use Rattle.bench_pcapng.specs.declared.fault.PcapngFault.TheVariants as faults
+use Rattle.bench_pcapng.specs.declared.passing.Passing.{Passing}
+use Rattle.bench_pcapng.proofs.Passings.{torn_short}
 use Rattle.bench_pcapng.proofs.Readings as blocks
 
 pub whole_opened : (file : List ℕ) (format : Format) (size : ℕ) → Opens file (Ok (format, size)) → reading_at format (drop size file) ≡ reading_of file
@@ -38,8 +45,26 @@ fault_next old new bytes (Capture fault) all is same =
     (sym same ∙ whole_fails old new bytes fault is, ap (λ (format : Format). reading_at format bytes) is.same ∙ same)
 fault_next old new bytes NoMemory all is same = ap (λ (format : Format). reading_at format bytes) is ∙ same
 
--- no bytes, nothing to be read
-pub reading_none : (format : Format) (bytes : List ℕ) → length bytes ≡ 0 → reading_at format bytes ≡ nothing_left
-reading_none (Classic records) bytes none = records_none records.order records.nanoseconds records.number bytes none
-reading_none (Pcapng known) bytes none =
-    ap (λ (all : pcapng.Reading). reading_in all) (blocks.reading_none (pcapng.place_at known bytes) none)
+-- ---- no bytes
+
+pub empty : (bytes : List ℕ) → length bytes ≡ 0 → bytes ≡ []
+empty [] none = refl
+empty (x ∷ bytes) none = absurd (omega (arith, none))
+
+-- nothing to be read between two records or blocks
+pub classic_none : (records : Records) → reading_at (Classic records) [] ≡ nothing_left
+classic_none records = records_none records.order records.nanoseconds records.number [] refl
+
+pub between_none : (known : Progress) → reading_at (Pcapng (record { blocks = known; passing = None })) [] ≡ nothing_left
+between_none known = ap (λ (all : pcapng.Reading). reading_in all) (blocks.reading_none (pcapng.place_at known []) refl)
+
+-- a block that is passed over is torn
+pub within_none : (known : Progress) (passing : Passing) → reading_at (Pcapng (record { blocks = known; passing = Some passing })) [] ≡ stopped (Torn known.number)
+within_none known passing = ap (λ (all : pcapng.Reading). reading_in all) (torn_short known passing [] (omega arith))
+
+-- of which that is the fault
+pub torn_is : (known : Progress) (torn : PcapngFault) (found : FrameFault) (fault : CaptureFault) → torn ≡ faults.Torn known.number → found ≡ frame_fault_of torn → found ≡ Capture fault
+    → Torn known.number ≡ fault
+torn_is known torn found fault is told has =
+    let same : Capture (Torn known.number) ≡ Capture fault = ap (λ (f : PcapngFault). frame_fault_of f) (sym is) ∙ sym told ∙ has in
+    cc

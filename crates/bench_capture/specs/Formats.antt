@@ -2,7 +2,7 @@
 use Rattle.std.specs.Prelude.{◌≡◌, ◌≤◌, ◌<◌, ◌+◌, ℕ, ◌⊎◌, List, [], ◌++◌, Option, Some, None, Result, Ok, Err, IfSome, if◌then◌else◌, option_map, length, take, drop}
 use Rattle.bench_capture.specs.Classic.{records_at}
 use Rattle.bench_capture.specs.File.{reading_in, reading_of}
-use Rattle.bench_capture.specs.Reading.{Reading, stopped, with_frame}
+use Rattle.bench_capture.specs.Reading.{Reading, nothing_left, stopped, with_frame}
 use Rattle.bench_capture.specs.Recorded.{Recorded}
 use Rattle.bench_capture.specs.declared.fault.CaptureFault.{CaptureFault}
 use Rattle.bench_capture.specs.declared.fault.CaptureFault.TheVariants.{Header, Link, Torn, TooLong}
@@ -13,22 +13,29 @@ use Rattle.bench_capture.specs.declared.format.Format.TheVariants.{Classic, Pcap
 use Rattle.bench_capture.specs.declared.span.Span.{Span}
 use Rattle.bench_capture.specs.declared.span.Taken.{Taken}
 use Rattle.bench_pcapng.specs.Blocks.{wanted_length}
+use Rattle.bench_pcapng.specs.Passing.{going_on}
 use Rattle.bench_pcapng.specs.Reading as pcapng
 use Rattle.bench_pcapng.specs.declared.blocks.Block.{Block}
 use Rattle.bench_pcapng.specs.declared.blocks.Located.{Located}
 use Rattle.bench_pcapng.specs.declared.fault.PcapngFault.{PcapngFault}
 use Rattle.bench_pcapng.specs.declared.fault.PcapngFault.TheVariants as faults
 use Rattle.bench_pcapng.specs.declared.order.Order.TheVariants.{HighFirst}
+use Rattle.bench_pcapng.specs.declared.passing.Passing.{Passing}
 
 -- what is to be read of a capture whose bytes go on with these
 abbrev pub reading_at : Format → List ℕ → Reading
 reading_at (Classic records) bytes = records_at records.order records.nanoseconds records.number bytes
-reading_at (Pcapng blocks) bytes = reading_in (pcapng.reading_at (pcapng.place_at blocks bytes))
+reading_at (Pcapng pieces) bytes = reading_in (going_on pieces.blocks pieces.passing bytes)
+
+-- what is left where a file ends: nothing, or the fault that it has there
+abbrev pub ended_by : Option CaptureFault → Reading
+ended_by None = nothing_left
+ended_by (Some fault) = stopped fault
 
 -- how many blocks of a capture in the pcapng format were read
 abbrev pub blocks_read : Format → ℕ
 blocks_read (Classic records) = 0
-blocks_read (Pcapng blocks) = blocks.number
+blocks_read (Pcapng pieces) = (let blocks = pieces.blocks in blocks.number)
 
 -- ---- frames as parts of bytes
 
@@ -46,10 +53,15 @@ with_span bytes (Some span) later = with_frame (recorded_at bytes span) later
 
 -- ---- one record or block
 
+-- of a block that is passed over, its second length
+abbrev pub wanted_within : Option Passing → ℕ → ℕ
+wanted_within None between = between
+wanted_within (Some passing) between = 4
+
 -- how many bytes show whether the next record or block has a fault
 abbrev pub wanted_of : Format → List ℕ → ℕ
 wanted_of (Classic records) bytes = 262160
-wanted_of (Pcapng blocks) bytes = wanted_length blocks.order bytes
+wanted_of (Pcapng pieces) bytes = wanted_within pieces.passing (let blocks = pieces.blocks in wanted_length blocks.order bytes)
 
 -- how many bytes of a file show whether its beginning has a fault
 abbrev pub wanted_to_open : List ℕ → ℕ

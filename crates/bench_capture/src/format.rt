@@ -1,12 +1,13 @@
 //! A capture in either format, between two records or blocks.
 ghost use Rattle.std.specs.Prelude.{◌≡◌, false};
-ghost use Rattle.bench_capture.specs.Formats.{Opens, frame_fault_of, taken_of, wanted_to_open};
+ghost use Rattle.bench_capture.specs.Formats.{Opens, wanted_to_open};
 ghost use Rattle.bench_pcapng.specs.Reading.{is_pcapng};
 
 use crate::classic::{Records, has_nanoseconds, of_classic};
 use crate::fault::{CaptureFault, FrameFault};
-use crate::span::{Span, Taken};
-use bench_pcapng::{Block, Blocks, PcapngFault, is_pcapng};
+use crate::pieces::Pieces;
+use crate::span::Taken;
+use bench_pcapng::{Blocks, is_pcapng};
 use capture::{HEADER_LEN, read_header};
 use std::alloc::Global;
 
@@ -19,7 +20,7 @@ pub(crate) enum Format {
     /// It is in the classic format.
     Classic(Records),
     /// It is in the pcapng format.
-    Pcapng(Blocks),
+    Pcapng(Pieces),
 }
 
 /// How many bytes of a file show whether its beginning has a fault.
@@ -30,38 +31,6 @@ pub(crate) fn wanted_to_open(file: &[u8]) -> usize
         Blocks::wanted_to_open(file)
     } else {
         HEADER_LEN
-    }
-}
-
-/// A block as what was taken from the front of some bytes.
-fn taken_of(block: &Block<'_>) -> Taken
-    ensures { result ≡ taken_of block.now }
-{
-    let frame = match &block.packet {
-        Some(located) => Some(Span {
-            time: located.packet.time(),
-            original: located.packet.original_len(),
-            start: located.start,
-            length: located.packet.bytes().len(),
-        }),
-        None => None,
-    };
-    Taken {
-        length: block.length,
-        frame,
-    }
-}
-
-/// The same fault of a capture in either format.
-fn of_pcapng(fault: PcapngFault) -> FrameFault
-    ensures { result ≡ frame_fault_of fault }
-{
-    match fault {
-        PcapngFault::Header => FrameFault::Capture(CaptureFault::Header),
-        PcapngFault::Link(link) => FrameFault::Capture(CaptureFault::Link(link)),
-        PcapngFault::Torn(number) => FrameFault::Capture(CaptureFault::Torn(number)),
-        PcapngFault::TooLong(number) => FrameFault::Capture(CaptureFault::TooLong(number)),
-        PcapngFault::NoMemory => FrameFault::NoMemory,
     }
 }
 
@@ -84,8 +53,8 @@ fn open_classic(file: &[u8]) -> Result<(Format, usize), CaptureFault>
 }
 
 impl Format {
-    ghost use Rattle.std.specs.Prelude.{◌≡◌, ◌<◌, ◌-◌, ◌^◌, false, length};
-    ghost use Rattle.bench_capture.specs.Formats.{Opens, Takes, blocks_read, wanted_of};
+    ghost use Rattle.std.specs.Prelude.{◌≡◌, ◌<◌, ◌-◌, ◌^◌, [], ◌++◌, List, ℕ, false, length};
+    ghost use Rattle.bench_capture.specs.Formats.{Opens, Takes, blocks_read, ended_by, reading_at, wanted_of};
 
     /// What is known of a capture behind its beginning, and how many bytes that has. Err where it has a fault.
     pub(crate) fn open(alloc: Global, file: &[u8]) -> Result<(Format, usize), CaptureFault>
@@ -95,7 +64,13 @@ impl Format {
             return open_classic(file);
         }
         match Blocks::open(alloc, file) {
-            Some((known, length)) => Ok((Format::Pcapng(known), length)),
+            Some((known, length)) => {
+                let pieces = Pieces {
+                    blocks: known,
+                    passing: None,
+                };
+                Ok((Format::Pcapng(pieces), length))
+            }
             None => Err(CaptureFault::Header),
         }
     }
@@ -106,7 +81,29 @@ impl Format {
     {
         match self {
             Format::Classic(_) => MOST_RECORD,
-            Format::Pcapng(blocks) => blocks.wanted(bytes),
+            Format::Pcapng(pieces) => pieces.wanted(bytes),
+        }
+    }
+
+    /// The fault of a file that ends here, where that isn't between two records or blocks.
+    pub(crate) fn fault_at_end(&self) -> Option<CaptureFault>
+        ensures { reading_at self.now [] ≡ ended_by result }
+    {
+        match self {
+            Format::Classic(_) => None,
+            Format::Pcapng(pieces) => pieces.fault_at_end(),
+        }
+    }
+
+    /// Begins to pass over the block at the front of these bytes, if it is longer than they are and its bytes don't count. Whether
+    /// it does.
+    pub(crate) fn pass_over(&mut self, bytes: &[u8]) -> bool
+        ensures { (more : List ℕ)
+            → reading_at self.new (bytes.now ++ more) ≡ reading_at self.old (bytes.now ++ more) }
+    {
+        match self {
+            Format::Classic(_) => false,
+            Format::Pcapng(pieces) => pieces.pass_over(bytes),
         }
     }
 
@@ -116,7 +113,7 @@ impl Format {
     {
         match self {
             Format::Classic(_) => false,
-            Format::Pcapng(blocks) => blocks.is_full(),
+            Format::Pcapng(pieces) => pieces.blocks.is_full(),
         }
     }
 
@@ -131,10 +128,7 @@ impl Format {
                 Ok(taken) => Ok(taken),
                 Err(fault) => Err(FrameFault::Capture(fault)),
             },
-            Format::Pcapng(blocks) => match blocks.read(bytes) {
-                Ok(block) => Ok(taken_of(&block)),
-                Err(fault) => Err(of_pcapng(fault)),
-            },
+            Format::Pcapng(pieces) => pieces.take(bytes),
         }
     }
 }

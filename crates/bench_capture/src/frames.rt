@@ -62,6 +62,9 @@ impl<'a> Frames<'a> {
                 return Ok(Some(frame_at(bytes, span)));
             }
         }
-        Ok(None)
+        match self.format.fault_at_end() {
+            Some(fault) => Err(FrameFault::Capture(fault)),
+            None => Ok(None),
+        }
     }
 }

@@ -7,9 +7,11 @@
 //!
 //! **From a slice.** [`Frames`] gives one frame after the other, each as a slice of the file.
 //!
-//! **From a reader.** [`FrameReader`] reads a file in pieces, into one buffer that is used again. A frame is a slice of the buffer. The
-//! buffer grows only where a record or a block is longer than it, and then only as bytes come. So memory doesn't depend on how long
-//! the file is, nor on a length that a broken file gives.
+//! **From a reader.** [`FrameReader`] reads a file in pieces, into one buffer that is used again. A frame is a slice of the buffer. A
+//! block that counts for nothing, and a packet block with a fault, is passed over by its length, and its bytes aren't held. So memory
+//! doesn't depend on how long the file is, nor on a length that a file gives. The buffer has 512 KB, which every record of the classic
+//! format fits in. It grows only where a section header, an interface description or a sound packet has options of over 250,000 bytes,
+//! and then only as bytes come.
 #![tactic(auto)]
 
 mod classic;
@@ -17,6 +19,7 @@ pub mod fault;
 mod format;
 pub mod frames;
 pub mod laws;
+mod pieces;
 pub mod reader;
 pub mod recorded;
 mod span;

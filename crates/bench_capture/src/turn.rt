@@ -1,6 +1,7 @@
 //! One turn of reading on: a record or a block is taken from the bytes that are held, or more bytes are wanted.
 ghost use Rattle.std.specs.Prelude.{◌≡◌, [], false, true, List, ℕ, Ok};
-ghost use Rattle.bench_capture.specs.Windows.{IsTurn};
+ghost use Rattle.bench_capture.specs.Windows.{IsTurn, held};
+ghost use Rattle.bench_capture.specs.declared.window.Window.{Window};
 
 use crate::fault::{FrameFault, ReadFault};
 use crate::format::Format;
@@ -21,6 +22,21 @@ pub(crate) enum Turn {
     Wants,
 }
 
+/// The turn where no bytes are held: the end of the file, if that is between two records or blocks.
+fn turn_without_bytes(format: &Format, ended: bool) -> Result<Turn, ReadFault>
+    ensures turn { (window : Window) (rest : List ℕ) → held window ≡ [] → (ended ≡ true → rest ≡ [])
+        → IsTurn format.now window rest result format.now window }
+    ensures wants { result ≡ Ok Turn.Wants → ended ≡ false }
+{
+    if !ended {
+        return Ok(Turn::Wants);
+    }
+    match format.fault_at_end() {
+        Some(fault) => Err(ReadFault::Capture(fault)),
+        None => Ok(Turn::End),
+    }
+}
+
 /// Takes the record or block at the front of the bytes that are held, which are all that is left where `ended`.
 pub(crate) fn take_turn(
     format: &mut Format,
@@ -33,7 +49,7 @@ pub(crate) fn take_turn(
 {
     let bytes = window.as_slice();
     if bytes.is_empty() {
-        return Ok(if ended { Turn::End } else { Turn::Wants });
+        return turn_without_bytes(format, ended);
     }
     if format.is_full() {
         return Err(ReadFault::Unreadable(ErrorKind::FileTooLarge));
@@ -54,6 +70,8 @@ pub(crate) fn take_turn(
         Err(FrameFault::Capture(fault)) => {
             if ended || format.wanted(bytes) <= bytes.len() {
                 Err(ReadFault::Capture(fault))
+            } else if format.pass_over(bytes) {
+                Ok(Turn::Passed)
             } else {
                 Ok(Turn::Wants)
             }

@@ -28,12 +28,12 @@ not_none false x more is = (refl, is)
 
 -- ---- numbers
 
-number_append : (count : ℕ) (order : Order) (xs ys : List ℕ) → count ≤ length xs → number_in count order (xs ++ ys) ≡ number_in count order xs
+pub number_append : (count : ℕ) (order : Order) (xs ys : List ℕ) → count ≤ length xs → number_in count order (xs ++ ys) ≡ number_in count order xs
 unfolding number_in
 number_append count HighFirst xs ys long = big_from-append count xs ys long
 number_append count LowFirst xs ys long = little_from-append count xs ys long
 
-number_behind : (skipped count : ℕ) (order : Order) (xs ys : List ℕ) → skipped + count ≤ length xs
+pub number_behind : (skipped count : ℕ) (order : Order) (xs ys : List ℕ) → skipped + count ≤ length xs
     → number_in count order (drop skipped (xs ++ ys)) ≡ number_in count order (drop skipped xs)
 number_behind skipped count order xs ys long =
     ap (λ (bytes : List ℕ). number_in count order bytes) (drop-append-le skipped xs ys (omega (arith, long)))
@@ -68,7 +68,7 @@ length_same order bytes more long within =
     ∙ ap (λ (short : Bool). length_by total short (number_in 4 order (drop (total - 4) all))) (a ∙ sym b)
     ∙ ap (λ (n : ℕ). length_by total (nat_lt (length bytes) total) n) last
 
-whole_long : (order : Order) (bytes : List ℕ) → 12 ≤ length bytes → whole_length order bytes ≡ length_in (order_of_block order bytes) bytes
+pub whole_long : (order : Order) (bytes : List ℕ) → 12 ≤ length bytes → whole_length order bytes ≡ length_in (order_of_block order bytes) bytes
 unfolding whole_length
 whole_long order bytes long = let a : nat_lt (length bytes) 12 ≡ false = le-ltb (length bytes) 12 long in rw a refl
 

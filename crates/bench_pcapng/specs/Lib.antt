@@ -5,6 +5,7 @@ pub mod Fault
 pub mod Interfaces
 pub mod Numbers
 pub mod Packets
+pub mod Passing
 pub mod Read
 pub mod Reading
 pub mod Sections

@@ -38,10 +38,10 @@ pub struct Block<'a> {
 /// and how many blocks were read.
 #[derive(Debug, Drop)]
 pub struct Blocks {
-    order: Order,
-    interfaces: Vec<Interface>,
-    time: u64,
-    number: u64,
+    pub(crate) order: Order,
+    pub(crate) interfaces: Vec<Interface>,
+    pub(crate) time: u64,
+    pub(crate) number: u64,
 }
 
 impl Model for Blocks {

@@ -11,7 +11,7 @@ use crate::packet_block::{read_enhanced, read_obsolete, read_simple};
 use crate::section::read_section;
 
 /// The type of an interface description block.
-const INTERFACE: u32 = 1;
+pub(crate) const INTERFACE: u32 = 1;
 
 /// The type of an obsolete packet block.
 const OBSOLETE_PACKET: u32 = 2;

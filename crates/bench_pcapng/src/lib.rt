@@ -11,7 +11,8 @@
 //!
 //! **The way.** [`Pcapng::open`] reads the first block, and each [`Pcapng::next_packet`] goes on to the next packet. A packet's bytes
 //! are a slice of the file. Memory is taken for the interfaces of the section alone. [`Blocks`] is the same without the bytes, for a
-//! file that is held in pieces.
+//! file that is held in pieces. [`Blocks::pass_over`] says of a long block whose bytes don't count how it is passed over, and
+//! [`Blocks::pass_on`] passes them as they come: what is to be read stays what it would be if the block were held (Passing).
 #![tactic(auto)]
 
 mod block;
@@ -23,6 +24,7 @@ mod options;
 mod order;
 pub mod packet;
 mod packet_block;
+pub mod passing;
 pub mod pcapng;
 mod section;
 mod time;
@@ -31,4 +33,5 @@ mod walk;
 pub use blocks::{Block, Blocks, Located};
 pub use fault::PcapngFault;
 pub use packet::Packet;
+pub use passing::{Passing, Past};
 pub use pcapng::{Pcapng, is_pcapng};

@@ -4,7 +4,7 @@ use Rattle.bench_capture.specs.Formats.{reading_at, with_span}
 use Rattle.bench_capture.specs.Reading.{with_frame}
 use Rattle.bench_capture.specs.Recorded.{Recorded}
 use Rattle.bench_capture.specs.declared.span.Span.{Span}
-use Rattle.bench_capture.proofs.Wholes.{fault_next, reading_none, whole_taken}
+use Rattle.bench_capture.proofs.Wholes.{fault_next, whole_taken}
 use Rattle.bench_capture.proofs.frames.Frames.next_frame.Goals as goal
 
 pub returns-in-Err : goal.returns-in-Err
@@ -36,8 +36,3 @@ loop-self-preserved c =
           ∙ c.loop-self.invariant.reading;
       few = omega (arith, c.loop-self.invariant.few, c.in-Ok.ensures.counted, c.in-Ok.ensures.within, left);
     }
-
-pub returns : goal.returns
-returns c =
-    let none : length c.loop-self.self-inside.rest.now ≡ 0 = omega (arith, c.loop-self-test.false) in
-    (sym c.loop-self.invariant.reading ∙ reading_none c.loop-self.self-inside.format c.loop-self.self-inside.rest.now none, c.loop-self.invariant.reading)
