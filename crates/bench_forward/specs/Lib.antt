@@ -1,4 +1,5 @@
 pub mod Blocks
+pub mod Counted
 pub mod Dropped
 pub mod Entries
 pub mod EntryNumbers

@@ -2,6 +2,7 @@
 ghost use Rattle.std.specs.Prelude.{◌≡◌, ◌<◌, ◌+◌, ◌^◌, Option, OnOk, OnErr};
 ghost use Rattle.std.specs.Io.KnownBytes.{Appends};
 ghost use Rattle.frame_meaning.specs.Meaning.{Table, table_at};
+ghost use Rattle.port_plan.specs.Leaving.{IsPlanOf};
 ghost use Rattle.text_writing.specs.Written.{AppendsPart};
 ghost use Rattle.bench_forward.specs.Entries.{number_at};
 ghost use Rattle.bench_forward.specs.EntryNumbers.{AreNumbersAt};
@@ -20,19 +21,23 @@ use crate::line::verdict_line;
 use crate::outputs::Outputs;
 use crate::totals::Totals;
 use bench_capture::RecordedFrame;
-use forward_plan::Live;
+use forward_plan::PortPlan;
 use frame_meaning::Verdict;
+use mib_state::Mib;
 use std::io::Write;
 use text_writing::{WriteFault, write_whole};
 
 /// By what frames are forwarded.
 #[derive(Drop)]
-pub(crate) struct Setting<'l> {
-    pub(crate) live: &'l Live,
+pub(crate) struct Setting<'m, 'p> {
+    pub(crate) mib: &'m Mib,
     /// The port that they come in at.
     pub(crate) port: u16,
+    /// Its plan.
+    pub(crate) plan: PortPlan<'p>,
     /// Those of the table in force there.
     pub(crate) entries: Option<EntryNumbers>,
+    ghost planned: { IsPlanOf mib.now.entities port plan },
 }
 
 /// What is kept from one frame to the next.
@@ -105,7 +110,7 @@ fn entry_for(entries: &Option<EntryNumbers>, bytes: &[u8]) -> Option<usize>
 
 /// Writes what comes of a frame, which has this number.
 fn write_frame<W: Write, V: Write>(
-    setting: &Setting<'_>,
+    setting: &Setting<'_, '_>,
     interfaces: &mut Interfaces,
     number: u64,
     frame: &RecordedFrame<'_>,
@@ -147,13 +152,14 @@ fn write_frame<W: Write, V: Write>(
 
 /// Forwards a frame, writes what comes of it, and counts it. One that isn't written whole isn't counted.
 pub(crate) fn forward_frame<W: Write, V: Write>(
-    setting: &Setting<'_>,
+    setting: &Setting<'_, '_>,
     state: &mut State,
     frame: &RecordedFrame<'_>,
     outputs: &mut Outputs<W, V>,
 ) -> Result<(), ForwardFault>
-    requires { AreNumbersAt (table_at setting.now.live.now setting.now.port) setting.now.entries }
-    ensures leaves { Leaves setting.now.live.now setting.now.port frame.now result
+    requires { AreNumbersAt
+        (table_at setting.now.mib.now.entities setting.now.port) setting.now.entries }
+    ensures leaves { Leaves setting.now.mib.now.entities setting.now.port frame.now result
         state.old state.new (record {
           packets_before = known_in W.contents outputs.old.packets;
           packets_after = known_in W.contents outputs.new.packets;
@@ -163,7 +169,7 @@ pub(crate) fn forward_frame<W: Write, V: Write>(
     ensures counted { OnOk result (state.new.totals.frames ≡ state.old.totals.frames + 1) }
     ensures few { OnOk result (state.old.totals.frames + 1 < 2 ^ 64) }
 {
-    let verdict = setting.live.forward(setting.port, frame.bytes());
+    let verdict = setting.plan.forward(frame.bytes());
     if !state.totals.has_room(&verdict) {
         return Err(ForwardFault::CountFull);
     }

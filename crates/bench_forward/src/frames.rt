@@ -15,9 +15,11 @@ use crate::fault::ForwardFault;
 use crate::forwarding::{Setting, State, forward_frame};
 use crate::interfaces::Interfaces;
 use crate::outputs::Outputs;
+use crate::totalling::count_all;
 use crate::totals::Totals;
 use bench_capture::FrameReader;
-use forward_plan::Live;
+use forward_plan::Plan;
+use mib_state::Mib;
 use std::alloc::{AllocError, Global};
 use std::io::{Read, Write};
 use text_writing::{WriteFault, write_whole};
@@ -48,16 +50,16 @@ fn write_header<W: Write>(packets: &mut Option<W>) -> Result<(), WriteFault>
 
 /// Forwards all frames that a reader has left, from nothing on.
 fn forward_all<R: Read, W: Write, V: Write>(
-    setting: &Setting<'_>,
+    setting: &Setting<'_, '_>,
     state: &mut State,
     frames: &mut FrameReader<R>,
     outputs: &mut Outputs<W, V>,
 ) -> Result<(), ForwardFault>
     requires numbered { AreNumbersAt
-        (table_at setting.now.live.now setting.now.port) setting.now.entries }
+        (table_at setting.now.mib.now.entities setting.now.port) setting.now.entries }
     requires gems { state.old.interfaces ≡ [] }
     requires totals { AreTotals [] 0 state.old.totals }
-    ensures { IfSome frames.old.left (λ all. Ends setting.now.live.now setting.now.port all result
+    ensures { IfSome frames.old.left (λ all. Ends setting.now.mib.now.entities setting.now.port all result
         (record {
           packets_before = known_in W.contents outputs.old.packets;
           packets_after = known_in W.contents outputs.new.packets;
@@ -80,8 +82,37 @@ fn forward_all<R: Read, W: Write, V: Write>(
     }
 }
 
-/// Forwards the frames of a capture that come in at a port, and writes what comes of them. It reads the capture in pieces, and holds
-/// no more memory for a longer one. Frames are numbered from 1.
+/// The same; but where neither output is asked for, the frames are only counted.
+fn forward_or_count<R: Read, W: Write, V: Write>(
+    setting: &Setting<'_, '_>,
+    state: &mut State,
+    frames: &mut FrameReader<R>,
+    outputs: &mut Outputs<W, V>,
+) -> Result<(), ForwardFault>
+    requires numbered { AreNumbersAt
+        (table_at setting.now.mib.now.entities setting.now.port) setting.now.entries }
+    requires gems { state.old.interfaces ≡ [] }
+    requires totals { AreTotals [] 0 state.old.totals }
+    ensures { IfSome frames.old.left (λ all. Ends setting.now.mib.now.entities setting.now.port all result
+        (record {
+          packets_before = known_in W.contents outputs.old.packets;
+          packets_after = known_in W.contents outputs.new.packets;
+          lines_before = known_in V.contents outputs.old.verdicts;
+          lines_after = known_in V.contents outputs.new.verdicts;
+        })
+        state.new.totals) }
+{
+    if outputs.packets.is_some() {
+        return forward_all(setting, state, frames, outputs);
+    }
+    if outputs.verdicts.is_some() {
+        return forward_all(setting, state, frames, outputs);
+    }
+    count_all(setting, &mut state.totals, frames)
+}
+
+/// Forwards the frames of a capture that come in at a port by the managed entities, which it compiles once, and writes what comes of
+/// them. It reads the capture in pieces, and holds no more memory for a longer one. Frames are numbered from 1.
 ///
 /// To `outputs.packets` go the frames that leave, as a capture in the pcapng format: a section header, and for each frame a packet with
 /// the time of its record in nanoseconds, whose interface stands for its GEM port; `gem G`, described ahead of its first packet. To
@@ -92,13 +123,13 @@ fn forward_all<R: Read, W: Write, V: Write>(
 /// later fault comes when it is met, and what was written before it stays; [`Forwarded`] has the totals of the frames up to it.
 pub fn forward_frames<R: Read, W: Write, V: Write>(
     alloc: Global,
-    live: &Live,
+    mib: &Mib,
     port: u16,
     frames: &mut FrameReader<R>,
     outputs: &mut Outputs<W, V>,
 ) -> Result<Forwarded, AllocError>
     ensures ends { IfOk result (λ forwarded.
-        IfSome frames.old.left (λ all. Ends live.now port all forwarded.ended
+        IfSome frames.old.left (λ all. Ends mib.now.entities port all forwarded.ended
         (record {
           packets_before = known_in W.contents outputs.old.packets;
           packets_after = known_in W.contents outputs.new.packets;
@@ -109,17 +140,21 @@ pub fn forward_frames<R: Read, W: Write, V: Write>(
     ensures untouched { OnErr result
         ((frames.new ≡ frames.old) × (outputs.new ≡ outputs.old)) }
 {
-    let entries = EntryNumbers::at(alloc, live.mib(), port)?;
+    let mut compiled = Plan::new(alloc)?;
+    let _ = compiled.compile(mib);
+    let plan = compiled.port(port);
+    let entries = EntryNumbers::at(alloc, mib, port)?;
     let setting = Setting {
-        live,
+        mib,
         port,
+        plan,
         entries,
     };
     let mut state = State {
         interfaces: Interfaces::new(alloc)?,
         totals: Totals::new(alloc)?,
     };
-    let ended = forward_all(&setting, &mut state, frames, outputs);
+    let ended = forward_or_count(&setting, &mut state, frames, outputs);
     Ok(Forwarded {
         totals: state.totals,
         ended,

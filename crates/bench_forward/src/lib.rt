@@ -26,6 +26,7 @@ mod leaving;
 mod line;
 mod outputs;
 mod packet;
+mod totalling;
 mod totals;
 
 pub use dropped::Dropped;

@@ -120,6 +120,7 @@ fn packet_head(interface: u32, time: u64, frame: &OutFrame<'_>, len: usize) -> B
 }
 
 /// How many bytes a frame has as it leaves.
+#[inline(always)]
 #[tactic(auto, using(frame_meaning::proofs::Spellings::spelled_lengths))]
 pub(crate) fn leaving_length(frame: &OutFrame<'_>) -> usize
     requires { length (frame_bytes frame.now) < 2 ^ 63 + 64 }

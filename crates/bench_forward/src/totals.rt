@@ -31,6 +31,7 @@ pub struct Totals {
 }
 
 /// The place of a reason.
+#[inline(always)]
 fn place_of(reason: Reason) -> usize
     ensures value { result + 1 ≡ number_of_reason reason }
     ensures few { result < 9 }
@@ -39,6 +40,7 @@ fn place_of(reason: Reason) -> usize
 }
 
 /// 1 where a condition holds, and else 0.
+#[inline(always)]
 fn one_if(holds: bool) -> u64
     ensures { result ≡ (if holds then 1 else 0) }
 {
@@ -46,6 +48,7 @@ fn one_if(holds: bool) -> u64
 }
 
 /// The bytes that leave with a verdict.
+#[inline(always)]
 fn bytes_leaving(verdict: &Verdict<'_>) -> u64
     requires { weight Bytes verdict.now < 2 ^ 63 + 64 }
     ensures { result ≡ weight Bytes verdict.now }
@@ -78,6 +81,7 @@ impl Totals {
     }
 
     /// Whether no sum passes 64 bits with one frame more.
+    #[inline(always)]
     pub(crate) fn has_room(&self, verdict: &Verdict<'_>) -> bool
         requires { weight Bytes verdict.now < 2 ^ 63 + 64 }
         ensures { MatchBool result
@@ -90,6 +94,7 @@ impl Totals {
     }
 
     /// Counts one frame more, which is cut or isn't.
+    #[inline(always)]
     pub(crate) fn count(&mut self, verdict: &Verdict<'_>, is_cut: bool)
         requires fits { Fits self.old verdict.now }
         requires few { weight Bytes verdict.now < 2 ^ 63 + 64 }

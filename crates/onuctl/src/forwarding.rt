@@ -4,10 +4,9 @@ use crate::files::{read_whole, report_file, report_unread};
 use bench_capture::{FrameReader, ReadFault};
 use bench_forward::{ForwardFault, Forwarded, Outputs, Totals, forward_frames};
 use command_line::{ForwardWords, TraceWords};
-use forward_plan::Live;
-use omci_msg::Request;
+use mib_state::Mib;
 use script_trace::{Applied, ScriptFault, apply_script};
-use std::alloc::{AllocError, Global};
+use std::alloc::Global;
 use std::fs;
 use std::fs::File;
 use std::io::{BufWriter, ErrorKind, Read, Write};
@@ -70,15 +69,6 @@ fn apply_trace<R: Files + Alloc<A = Global>, E: Write>(
     Ok(applied)
 }
 
-/// The entities after requests, with what is compiled of them.
-fn compile(alloc: Global, requests: &[Request]) -> Result<Live, AllocError> {
-    let mut live = Live::new(alloc)?;
-    for request in requests {
-        live.apply(request);
-    }
-    Ok(live)
-}
-
 /// A file that is written, if one is named, or the status where it can't be.
 fn create<R: Files + Alloc<A = Global>, E: Write>(
     rt: &R,
@@ -134,7 +124,7 @@ fn flush<W: Write>(writer: &mut Option<W>) -> Result<(), ForwardFault> {
 fn forward_file<R: Files + Alloc<A = Global>, W: Write, V: Write, E: Write>(
     rt: &R,
     words: &ForwardWords<'_>,
-    live: &Live,
+    mib: &Mib,
     outputs: &mut Outputs<W, V>,
     err: &mut E,
 ) -> Result<Totals, u8> {
@@ -147,7 +137,7 @@ fn forward_file<R: Files + Alloc<A = Global>, W: Write, V: Write, E: Write>(
         Ok(frames) => frames,
         Err(fault) => return Err(report_begun(fault, path, err)),
     };
-    let Ok(forwarded) = forward_frames(rt.alloc(), live, words.port, &mut frames, outputs) else {
+    let Ok(forwarded) = forward_frames(rt.alloc(), mib, words.port, &mut frames, outputs) else {
         return Err(without_memory(err));
     };
     let Forwarded { totals, ended } = forwarded;
@@ -205,27 +195,27 @@ fn report_beside<E: Write>(alloc: Global, totals: &Totals, json: bool, err: &mut
 fn forward_into<R: Files + Alloc<A = Global>, W: Write + Drop, E: Write>(
     rt: &R,
     words: &ForwardWords<'_>,
-    live: &Live,
+    mib: &Mib,
     packets: Option<W>,
     err: &mut E,
 ) -> Result<Totals, u8> {
     let verdicts = create(rt, words.verdicts, err)?;
     let mut outputs = Outputs { packets, verdicts };
-    forward_file(rt, words, live, &mut outputs, err)
+    forward_file(rt, words, mib, &mut outputs, err)
 }
 
 /// Forwards frames that are written to `out`, and writes the totals to `err`.
 fn forward_to_output<R: Files + Alloc<A = Global>, O: Write, E: Write>(
     rt: &R,
     words: &ForwardWords<'_>,
-    live: &Live,
+    mib: &Mib,
     out: &mut O,
     err: &mut E,
 ) -> Result<u8, u8> {
     let Ok(writer) = BufWriter::with_capacity(rt.alloc(), GATHERED, &mut *out) else {
         return Err(without_memory(err));
     };
-    let totals = forward_into(rt, words, live, Some(writer), err)?;
+    let totals = forward_into(rt, words, mib, Some(writer), err)?;
     Ok(report_beside(rt.alloc(), &totals, words.json, err))
 }
 
@@ -233,12 +223,12 @@ fn forward_to_output<R: Files + Alloc<A = Global>, O: Write, E: Write>(
 fn forward_to_files<R: Files + Alloc<A = Global>, O: Write, E: Write>(
     rt: &R,
     words: &ForwardWords<'_>,
-    live: &Live,
+    mib: &Mib,
     out: &mut O,
     err: &mut E,
 ) -> Result<u8, u8> {
     let packets = create(rt, words.out, err)?;
-    let totals = forward_into(rt, words, live, packets, err)?;
+    let totals = forward_into(rt, words, mib, packets, err)?;
     Ok(report_totals(rt.alloc(), &totals, words.json, out, err))
 }
 
@@ -254,12 +244,9 @@ pub fn forward<R: Files + Alloc<A = Global>, O: Write, E: Write>(
         Ok(applied) => applied,
         Err(status) => return status,
     };
-    let Ok(live) = compile(rt.alloc(), &applied.accepted) else {
-        return without_memory(err);
-    };
     let status = match words.out {
-        Some("-") => forward_to_output(rt, words, &live, out, err),
-        _ => forward_to_files(rt, words, &live, out, err),
+        Some("-") => forward_to_output(rt, words, &applied.mib, out, err),
+        _ => forward_to_files(rt, words, &applied.mib, out, err),
     };
     match status {
         Ok(status) => status,

@@ -43,7 +43,7 @@ fn forward<W: Write, V: Write>(
     outputs: &mut Outputs<W, V>,
 ) -> Forwarded {
     let mut frames = FrameReader::open(alloc, file).expect(rt, "a capture");
-    forward_frames(alloc, live, port, &mut frames, outputs).expect(rt, "memory")
+    forward_frames(alloc, live.mib(), port, &mut frames, outputs).expect(rt, "memory")
 }
 
 /// The same by a unit that was sent these messages, at port 257.

@@ -16,16 +16,16 @@ use Rattle.bench_forward.proofs.forwarding.forward_frame.Goals as goal
 pub write_frame-requires : goal.write_frame-requires
 write_frame-requires g c =
     let few : length c.bytes.result.now < 2 ^ 63 = omega arith in
-    fits c.args.setting.now.live.now c.args.setting.now.port c.bytes.result.now c.forward-verdict.result c.forward-verdict.ensures.verdict c.forward-verdict.ensures.size few
+    fits c.args.setting.now.mib.now.entities c.args.setting.now.port c.bytes.result.now c.forward-verdict.result (c.forward-verdict.ensures.verdict c.args.setting.now.mib.now.entities c.args.setting.now.port c.args.setting.now.planned) c.forward-verdict.ensures.size few
 
 pub returns-in_err-write_frame-clause-leaves : goal.returns-in_err-write_frame-clause-leaves
 unfolding entry_number
 returns-in_err-write_frame-clause-leaves g c =
-    let e = c.args.setting.now.live.now in
+    let e = c.args.setting.now.mib.now.entities in
     let port = c.args.setting.now.port in
     let frame = c.args.frame.now in
     let gems = c.args.state.now.interfaces in
-    let verdict : c.forward-verdict.result ≡ verdict_on e port frame = c.forward-verdict.ensures.verdict ∙ ap (meaning e port) c.bytes.ensures in
+    let verdict : c.forward-verdict.result ≡ verdict_on e port frame = c.forward-verdict.ensures.verdict c.args.setting.now.mib.now.entities c.args.setting.now.port c.args.setting.now.planned ∙ ap (meaning e port) c.bytes.ensures in
     let number : c.frames-number.result + 1 ≡ c.args.state.now.totals.frames + 1 = ap (λ (n : ℕ). n + 1) c.frames-number.ensures in
     let table = table_at e port in
     let p = err_from_is_err_and c.from_residual.result c.from_residual.ensures.1 in
@@ -39,11 +39,11 @@ returns-in_err-write_frame-clause-leaves g c =
 pub returns-clause-leaves : goal.returns-clause-leaves
 unfolding entry_number
 returns-clause-leaves g c =
-    let e = c.args.setting.now.live.now in
+    let e = c.args.setting.now.mib.now.entities in
     let port = c.args.setting.now.port in
     let frame = c.args.frame.now in
     let gems = c.args.state.now.interfaces in
-    let verdict : c.forward-verdict.result ≡ verdict_on e port frame = c.forward-verdict.ensures.verdict ∙ ap (meaning e port) c.bytes.ensures in
+    let verdict : c.forward-verdict.result ≡ verdict_on e port frame = c.forward-verdict.ensures.verdict c.args.setting.now.mib.now.entities c.args.setting.now.port c.args.setting.now.planned ∙ ap (meaning e port) c.bytes.ensures in
     let number : c.frames-number.result + 1 ≡ c.args.state.now.totals.frames + 1 = ap (λ (n : ℕ). n + 1) c.frames-number.ensures in
     let table = table_at e port in
     record {

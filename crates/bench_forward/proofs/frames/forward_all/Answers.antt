@@ -9,19 +9,19 @@ pub returns-in_err-write_header : goal.returns-in_err-write_header
 returns-in_err-write_header g c =
     let p = err_from_is_err_and c.from_residual.result c.from_residual.ensures.1 in
     rw (p.1, p.2)
-    (ends_in_header c.args.frames.now.left c.args.setting.now.live.now c.args.setting.now.port c.args.state.now.totals _ _ _ c.in_err-write_header.ensures.err c.requires.totals)
+    (ends_in_header c.args.frames.now.left c.args.setting.now.mib.now.entities c.args.setting.now.port c.args.state.now.totals _ _ _ c.in_err-write_header.ensures.err c.requires.totals)
 
 pub loop-fault-init : goal.loop-fault-init
 loop-fault-init g c = (
   [],
-  so_far_none c.args.setting.now.live.now c.args.setting.now.port c.args.state.now _ _ _ c.requires.gems c.requires.totals c.in_ok-write_header.ensures.ok,
+  so_far_none c.args.setting.now.mib.now.entities c.args.setting.now.port c.args.state.now _ _ _ c.requires.gems c.requires.totals c.in_ok-write_header.ensures.ok,
   left_at_start c.args.frames.now.left,
 )
 
 pub returns-in-Err : goal.returns-in-Err
 returns-in-Err g c =
     let s = c.loop-fault.invariant in
-    ends_by_reader c.args.frames.now.left c.loop-fault.frames.left c.advance.new.self s.0 c.args.setting.now.live.now c.args.setting.now.port c.loop-fault.state _ c.in-Err.fault s.2
+    ends_by_reader c.args.frames.now.left c.loop-fault.frames.left c.advance.new.self s.0 c.args.setting.now.mib.now.entities c.args.setting.now.port c.loop-fault.state _ c.in-Err.fault s.2
     c.in-Err.ensures.goes_on s.1
 
 pub loop-fault-smaller : goal.loop-fault-smaller
@@ -34,7 +34,7 @@ loop-fault-preserved g c =
     let goes = subst (λ is. IfSome c.loop-fault.frames.left (λ all. GoesOn all (Ok is) c.advance.new.self)) c.in-Ok-true.field-0-test c.in-Ok-true.ensures.goes_on in
     let at : Some frame ≡ c.advance.new.self.frame = sym c.unwrap-frame.ensures ∙ c.frame.ensures in (
       s.0 ++ frame ∷ [],
-      so_far_more c.args.setting.now.live.now c.args.setting.now.port s.0 frame c.loop-fault.state c.forward_frame.new.state _ _ _ _ _ _ s.1 c.in_default.ensures.leaves,
+      so_far_more c.args.setting.now.mib.now.entities c.args.setting.now.port s.0 frame c.loop-fault.state c.forward_frame.new.state _ _ _ _ _ _ s.1 c.in_default.ensures.leaves,
       left_more c.args.frames.now.left c.loop-fault.frames.left c.advance.new.self s.0 frame s.2 goes at,
     )
 
@@ -44,5 +44,5 @@ returns-in-Err-forward_frame g c =
     let frame = c.unwrap-frame.result in
     let goes = subst (λ is. IfSome c.loop-fault.frames.left (λ all. GoesOn all (Ok is) c.advance.new.self)) c.in-Ok-true.field-0-test c.in-Ok-true.ensures.goes_on in
     let at : Some frame ≡ c.advance.new.self.frame = sym c.unwrap-frame.ensures ∙ c.frame.ensures in
-    ends_in_frame c.args.frames.now.left c.loop-fault.frames.left c.advance.new.self s.0 frame c.args.setting.now.live.now c.args.setting.now.port c.loop-fault.state c.forward_frame.new.state
+    ends_in_frame c.args.frames.now.left c.loop-fault.frames.left c.advance.new.self s.0 frame c.args.setting.now.mib.now.entities c.args.setting.now.port c.loop-fault.state c.forward_frame.new.state
     c.in-Err-forward_frame.fault _ _ _ _ _ _ s.2 goes at s.1 c.in-Err-forward_frame.ensures.leaves

@@ -6,7 +6,7 @@ use Rattle.bench_forward.proofs.frames.forward_all.Given as goal
 
 -- the frames seen so far are forwarded
 abbrev pub invariant-loop-fault : goal.invariant-loop-fault
-invariant-loop-fault g l = (seen : List Recorded) × AreSoFar l.setting.live.now l.setting.port seen l.state (record {
+invariant-loop-fault g l = (seen : List Recorded) × AreSoFar l.setting.mib.now.entities l.setting.port seen l.state (record {
   packets_before = known_in g.W.Write.contents l.fn.outputs.packets;
   packets_after = known_in g.W.Write.contents l.outputs.packets;
   lines_before = known_in g.V.Write.contents l.fn.outputs.verdicts;
