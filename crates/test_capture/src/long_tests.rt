@@ -26,6 +26,16 @@ fn long_block(alloc: Global) -> Result<Vec<u8>, AllocError> {
     Ok(block)
 }
 
+/// A packet block of 600,000 bytes that says that it stores 300,000 of a frame, and ends with this length.
+fn overlong_packet(alloc: Global, end: [u8; 4]) -> Result<Vec<u8>, AllocError> {
+    let mut block = Vec::new(alloc);
+    block.extend_from_slice(&[6, 0, 0, 0, 0xc0, 0x27, 9, 0, 0, 0, 0, 0, 0, 0, 0, 0])?;
+    block.extend_from_slice(&[0, 0, 0, 0, 0xe0, 0x93, 4, 0, 0xe0, 0x93, 4, 0])?;
+    block.resize(599_996, 7)?;
+    block.extend_from_slice(&end)?;
+    Ok(block)
+}
+
 /// Compares a reader's frames with those of the file in memory, so many, and what comes behind them.
 fn compare_both<R: Read + Drop>(
     rt: &impl Abort,
@@ -73,4 +83,24 @@ fn a_block_is_longer_than_the_buffer(rt: HostRuntime) {
     let torn = Some(CaptureFault::Torn(4));
     compare_both(&rt, rt.alloc(), cut, cut, 1, torn);
     compare_both(&rt, rt.alloc(), cut, Drip::of(cut), 1, torn);
+}
+
+#[test]
+fn a_packet_block_is_longer_than_a_packet(rt: HostRuntime) {
+    let long = overlong_packet(rt.alloc(), [0xc0, 0x27, 9, 0]).expect(&rt, "a block");
+    let parts: [&[u8]; 4] = [&SECTION, &MICRO, &FIRST_PACKET, &long];
+    let file = joined(rt.alloc(), &parts).expect(&rt, "a file");
+    let fault = Some(CaptureFault::TooLong(3));
+    compare_both(&rt, rt.alloc(), &file, file.as_slice(), 1, fault);
+    compare_both(&rt, rt.alloc(), &file, Drip::of(&file), 1, fault);
+}
+
+#[test]
+fn a_long_packet_block_has_two_lengths(rt: HostRuntime) {
+    let long = overlong_packet(rt.alloc(), [0xc4, 0x27, 9, 0]).expect(&rt, "a block");
+    let parts: [&[u8]; 4] = [&SECTION, &MICRO, &FIRST_PACKET, &long];
+    let file = joined(rt.alloc(), &parts).expect(&rt, "a file");
+    let fault = Some(CaptureFault::Torn(3));
+    compare_both(&rt, rt.alloc(), &file, file.as_slice(), 1, fault);
+    compare_both(&rt, rt.alloc(), &file, Drip::of(&file), 1, fault);
 }
