@@ -3,7 +3,7 @@ use Rattle.std.proofs.Common.{◌≡◌, ℕ, zero, suc, ◌+◌, ◌*◌, ◌^�
 use Rattle.std.specs.Option.{unwrap_or}
 use Rattle.tag_view.specs.declared.fault.FrameFault.{FrameFault}
 use Rattle.tag_view.specs.Tag.{TagFields, IsInRange}
-use Rattle.tag_view.specs.Frame.{IsReadTag, Reading, fault_of, frame_of, reading_of}
+use Rattle.tag_view.specs.Frame.{IsReadTag, Reading, fault_of, frame_bytes, frame_of, reading_of, with_tags}
 use Rattle.tag_view.specs.Word.{tag_of}
 use Rattle.tag_view.specs.Dscp.{dscp_of}
 use Rattle.port_plan.specs.declared.port_plan.Tagging.{Tagging}
@@ -17,7 +17,7 @@ use Rattle.frame_meaning.specs.Reason.{reason_of_fault}
 use Rattle.frame_meaning.specs.Meaning.{Table, forwarded_by, found_then, gem_port_at, input_tpid_of, meaning, table_at, tags_at}
 use Rattle.port_plan.specs.Plan.{transparent}
 use Rattle.port_plan.specs.Leaving.{IsFrameOf, IsHeadOf, IsPlanOf, leaves_by, tags_made, words_made}
-use Rattle.std.proofs.lemmas.List.{length-take-le, length-drop}
+use Rattle.std.proofs.lemmas.List.{length-take-le, length-drop, length-map}
 use Rattle.frame_meaning.specs.Size.{GrowsLittle}
 use Rattle.frame_meaning.proofs.Spellings.{length-spelled}
 
@@ -200,3 +200,16 @@ pub few_tags : (count : ℕ) (words : List ℕ) → length (map tag_of (take cou
 few_tags zero words = omega arith
 few_tags (suc n) [] = omega arith
 few_tags (suc n) (word ∷ words) = omega (arith, few_tags n words)
+
+-- how many bytes a frame leaves with
+pub left_length : {plan : PortPlan} {head : FrameHead} (bytes : List ℕ) (received count : ℕ) (tagging : Tagging) → IsHeadOf plan bytes head → received ≡ length head.tags
+    → count ≡ tagging.treat.now.count → count ≤ 4 → length (words_made tagging) ≡ 4
+    → length bytes - 4 * received + 4 * count ≡ length (frame_bytes (with_tags bytes received (tags_made tagging)))
+left_length bytes received count tagging here is of_count few four =
+    let words = words_made tagging in
+    let leaves = length-spelled (take 12 bytes) (tags_made tagging) (drop (12 + 4 * received) bytes) in
+    let ahead : length (take 12 bytes) ≡ 12 = length-take-le 12 bytes (omega (arith, here.whole)) in
+    let behind : length (drop (12 + 4 * received) bytes) ≡ length bytes - (12 + 4 * received) = length-drop (12 + 4 * received) bytes in
+    let tags : length (tags_made tagging) ≡ count =
+    length-map (take tagging.treat.now.count words) tag_of ∙ length-take-le tagging.treat.now.count words (omega (arith, of_count, few, four)) ∙ sym of_count in
+    omega (arith, leaves, ahead, behind, tags, here.whole, is)

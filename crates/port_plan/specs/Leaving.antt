@@ -1,15 +1,17 @@
 -- The plan of a port, and what it decides of a frame that was read.
-use Rattle.std.specs.Prelude.{◌≡◌, ◌≤◌, ◌⊎◌, ◌+◌, ◌*◌, ℕ, drop, zero, suc, List, All, false, length, map, Option, Result, Ok, slice_index, take}
+use Rattle.std.specs.Prelude.{◌≡◌, ◌≤◌, ◌⊎◌, ◌+◌, ◌*◌, ℕ, drop, zero, suc, List, All, false, length, map, Option, Result, Ok, Err, slice_index, take}
 use Rattle.std.specs.Option.{unwrap_or}
 use Rattle.tag_view.specs.Tag.{TagFields, IsInRange}
 use Rattle.tag_view.specs.Word.{tag_of}
-use Rattle.tag_view.specs.Frame.{Reading, frame_of, reading_of}
+use Rattle.tag_view.specs.Frame.{Reading, frame_bytes, frame_of, reading_of}
 use Rattle.tag_view.specs.Dscp.{dscp_of}
 use Rattle.rule_index.specs.Head.{FrameHead, head_of}
 use Rattle.treatment.specs.Compiled.{words_by}
 use Rattle.managed_entity.specs.Instance.{Instance}
 use Rattle.mib_state.specs.Entities.{Entities}
 use Rattle.frame_meaning.specs.declared.reason.Reason.{Reason}
+use Rattle.frame_meaning.specs.declared.verdict.Verdict.{Verdict}
+use Rattle.frame_meaning.specs.declared.verdict.Verdict.TheVariants.{Forward, Drop}
 use Rattle.port_plan.specs.declared.port_plan.PortPlan.{PortPlan}
 use Rattle.port_plan.specs.declared.port_plan.Tagging.{Tagging}
 use Rattle.frame_meaning.specs.Meaning.{found_then, table_at, tags_at, mapper_at, gem_port_at}
@@ -74,3 +76,10 @@ pub record IsHeadOf (plan : PortPlan) (bytes : List ℕ) (head : FrameHead) : Ty
   pub read : frame_of plan.table.now.table.settings.input_tpid bytes ≡ Ok (reading_of plan.table.now.table.settings.input_tpid bytes)
   pub of : IsFrameOf head (drop (12 + 4 * length head.tags) bytes) (reading_of plan.table.now.table.settings.input_tpid bytes)
   pub whole : 14 + 4 * length head.tags ≤ length bytes
+
+-- ---- what comes of a frame
+
+-- the GEM port by which it leaves and how many bytes it has then, or why it is dropped
+abbrev pub outcome_of : Verdict → Result (ℕ × ℕ) Reason
+outcome_of (Forward gem frame) = Ok (gem, length (frame_bytes frame))
+outcome_of (Drop reason) = Err reason
