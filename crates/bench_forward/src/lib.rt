@@ -26,6 +26,7 @@ mod leaving;
 mod line;
 mod outputs;
 mod packet;
+mod shown;
 mod totalling;
 mod totals;
 

@@ -25,16 +25,26 @@ fn count_frame(
     ensures counted { OnOk result (totals.new.frames ≡ totals.old.frames + 1) }
     ensures few { OnOk result (totals.old.frames + 1 < 2 ^ 64) }
 {
-    let verdict = setting.plan.forward(frame.bytes());
-    if !totals.has_room(&verdict) {
+    if totals.frames() == u64::MAX {
         return Err(ForwardFault::CountFull);
     }
-    totals.count(&verdict, frame.is_cut());
-    Ok(())
+    match setting.plan.outcome(frame.bytes()) {
+        Ok((gem, bytes)) => {
+            let bytes = bytes as u64;
+            if totals.bytes() > u64::MAX - bytes {
+                return Err(ForwardFault::CountFull);
+            }
+            totals.count_leaving(gem, bytes, frame.is_cut());
+            Ok(())
+        }
+        Err(reason) => {
+            totals.count_dropped(reason, frame.is_cut());
+            Ok(())
+        }
+    }
 }
 
-/// Forwards and counts all frames that a reader has left, from nothing on. Where the port's plan is looked up once and no verdict is
-/// kept, of a verdict only what is counted is made.
+/// Forwards and counts all frames that a reader has left, from nothing on. The tags that a frame leaves with aren't made.
 pub(crate) fn count_all<R: Read>(
     setting: &Setting<'_, '_>,
     totals: &mut Totals,

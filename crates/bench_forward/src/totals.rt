@@ -16,14 +16,14 @@ use std::alloc::{AllocError, Global};
 /// for a frame.
 #[derive(Drop)]
 pub struct Totals {
-    frames: u64,
-    forwarded: u64,
-    bytes: u64,
-    cut: u64,
+    pub(crate) frames: u64,
+    pub(crate) forwarded: u64,
+    pub(crate) bytes: u64,
+    pub(crate) cut: u64,
     // The reason of number r is at place r - 1.
-    drops: [Dropped; 9],
+    pub(crate) drops: [Dropped; 9],
     // By the port-ID of a GEM port.
-    gems: Vec<u64>,
+    pub(crate) gems: Vec<u64>,
     ghost few_forwarded: { forwarded ≤ frames },
     ghost few_cut: { cut ≤ frames },
     ghost few_drops: { DropsAreWithin frames drops },
@@ -32,7 +32,7 @@ pub struct Totals {
 
 /// The place of a reason.
 #[inline(always)]
-fn place_of(reason: Reason) -> usize
+pub(crate) fn place_of(reason: Reason) -> usize
     ensures value { result + 1 ≡ number_of_reason reason }
     ensures few { result < 9 }
 {
@@ -60,11 +60,13 @@ fn bytes_leaving(verdict: &Verdict<'_>) -> u64
 }
 
 impl Totals {
-    ghost use Rattle.std.specs.Prelude.{◌≡◌, ◌<◌, ◌+◌, ◌^◌, [], IfOk, MatchBool};
+    ghost use Rattle.std.specs.Prelude.{◌≡◌, ◌<◌, ◌+◌, ◌^◌, [], IfOk, MatchBool, length};
+    ghost use Rattle.frame_meaning.specs.declared.verdict.Verdict.TheVariants.{Forward, Drop};
+    ghost use Rattle.tag_view.specs.Frame.{Reading, frame_bytes};
     ghost use Rattle.frame_meaning.specs.Reason.{number_of_reason};
-    ghost use Rattle.frame_stats.specs.Figures.{Bytes, DropsFor, FramesTo};
+    ghost use Rattle.frame_stats.specs.Figures.{Bytes};
     ghost use Rattle.frame_stats.specs.Tallies.{weight};
-    ghost use Rattle.bench_forward.specs.Totals.{AreTotals, CountsOneMore, Fits, SomeSumPasses, dropped_at, shown};
+    ghost use Rattle.bench_forward.specs.Totals.{AreTotals, CountsOneMore, Fits, SomeSumPasses};
 
     /// Nothing is counted yet.
     pub fn new(alloc: Global) -> Result<Totals, AllocError>
@@ -94,66 +96,45 @@ impl Totals {
     }
 
     /// Counts one frame more, which is cut or isn't.
-    #[inline(always)]
     pub(crate) fn count(&mut self, verdict: &Verdict<'_>, is_cut: bool)
         requires fits { Fits self.old verdict.now }
         requires few { weight Bytes verdict.now < 2 ^ 63 + 64 }
         ensures { CountsOneMore self.old verdict.now is_cut self.new }
     {
-        self.frames += 1;
-        self.cut += one_if(is_cut);
         match verdict {
             Verdict::Forward { gem, frame } => {
-                self.forwarded += 1;
-                self.bytes += leaving_length(frame) as u64;
-                self.gems[usize::from(*gem)] += 1;
+                self.count_leaving(*gem, leaving_length(frame) as u64, is_cut)
             }
-            Verdict::Drop(reason) => {
-                let number = self.frames;
-                self.drops[place_of(*reason)].note(number);
-            }
+            Verdict::Drop(reason) => self.count_dropped(*reason, is_cut),
         }
     }
 
-    /// How many frames there are.
-    pub fn frames(&self) -> u64
-        ensures { result ≡ self.now.frames }
+    /// Counts one frame more that leaves by this GEM port with so many bytes, and is cut or isn't.
+    #[inline(always)]
+    pub(crate) fn count_leaving(&mut self, gem: u16, bytes: u64, is_cut: bool)
+        requires frames { self.old.frames + 1 < 2 ^ 64 }
+        requires bytes { self.old.bytes + bytes < 2 ^ 64 }
+        ensures counts { (frame : Reading) → bytes ≡ length (frame_bytes frame)
+            → CountsOneMore self.old (Forward gem frame) is_cut self.new }
+        ensures frames { self.new.frames ≡ self.old.frames + 1 }
     {
-        self.frames
+        self.frames += 1;
+        self.cut += one_if(is_cut);
+        self.forwarded += 1;
+        self.bytes += bytes;
+        self.gems[usize::from(gem)] += 1;
     }
 
-    /// How many of them leave.
-    pub fn forwarded(&self) -> u64
-        ensures { result ≡ self.now.forwarded }
+    /// Counts one frame more that is dropped for this reason, and is cut or isn't.
+    #[inline(always)]
+    pub(crate) fn count_dropped(&mut self, reason: Reason, is_cut: bool)
+        requires { self.old.frames + 1 < 2 ^ 64 }
+        ensures counts { CountsOneMore self.old (Drop reason) is_cut self.new }
+        ensures frames { self.new.frames ≡ self.old.frames + 1 }
     {
-        self.forwarded
-    }
-
-    /// The bytes of those, as they leave.
-    pub fn bytes(&self) -> u64
-        ensures { result ≡ self.now.bytes }
-    {
-        self.bytes
-    }
-
-    /// How many frames are cut: the capture stores fewer bytes than they had.
-    pub fn cut(&self) -> u64
-        ensures { result ≡ self.now.cut }
-    {
-        self.cut
-    }
-
-    /// How many frames are dropped for a reason, and the numbers of the first ten.
-    pub fn dropped(&self, reason: Reason) -> &Dropped
-        ensures { result.now ≡ dropped_at self.now reason }
-    {
-        &self.drops[place_of(reason)]
-    }
-
-    /// How many frames leave by a GEM port.
-    pub fn leaving_by(&self, gem: u16) -> u64
-        ensures { result ≡ shown self.now (FramesTo gem) }
-    {
-        self.gems[usize::from(gem)]
+        self.frames += 1;
+        self.cut += one_if(is_cut);
+        let number = self.frames;
+        self.drops[place_of(reason)].note(number);
     }
 }
