@@ -6,8 +6,8 @@ ghost use Rattle.script_lines.specs.Line.{asked_by};
 ghost use Rattle.script_replay.specs.Answers.{fault_line, line_answer, message_answer, reply_line};
 
 use crate::frame::answer_frame;
-use crate::onu::Onu;
 use omci_msg::{MsgFault, Reply, read, write};
+use onu_unit::Unit;
 use script_digits::{are_pairs, write_digits};
 use script_lines::{MOST_SPELLED, Parts, read_bytes, split_line};
 
@@ -60,7 +60,7 @@ fn put_fault(answers: &mut Vec<u8>, fault: MsgFault)
 
 /// Carries a message out, and puts its answer behind those so far. There is room for twice the
 /// line that spells it.
-fn answer_message(onu: &mut Onu, bytes: &[u8], answers: &mut Vec<u8>)
+fn answer_message(onu: &mut Unit, bytes: &[u8], answers: &mut Vec<u8>)
     requires { vec_len answers.old + 4 * length bytes.now + 6 ≤ vec_capacity answers.old }
     ensures items { answers.new.items ≡ answers.old.items
         ++ (message_answer onu.old (request_of bytes.now)).0 }
@@ -84,7 +84,7 @@ fn answer_message(onu: &mut Onu, bytes: &[u8], answers: &mut Vec<u8>)
 /// Carries out what a line asks for, and puts its answer behind those so far, for which there is
 /// room for three times the line. Whether the line is bad; a bad one changes nothing.
 pub fn answer_line(
-    onu: &mut Onu,
+    onu: &mut Unit,
     line: &[u8],
     buffer: &mut [u8; MOST_SPELLED],
     answers: &mut Vec<u8>,

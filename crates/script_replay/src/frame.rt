@@ -9,9 +9,9 @@ ghost use Rattle.tag_view.specs.Frame.{spelled};
 ghost use Rattle.tag_view.specs.Tag.{tag_bytes};
 
 use crate::answer::{put, put_digits};
-use crate::onu::Onu;
 use forward_plan::{OutFrame, Reason, Verdict};
 use itoa::Buffer;
+use onu_unit::Unit;
 use script_digits::make_lower;
 use script_heads::read_head;
 use script_lines::MOST_SPELLED;
@@ -82,7 +82,7 @@ fn put_dropped(answers: &mut Vec<u8>, reason: Reason)
 /// Forwards the frame that digits spell, and puts what became of it behind the answers so far. There is
 /// room for three times the line that spells it.
 pub(crate) fn answer_frame(
-    onu: &mut Onu,
+    onu: &mut Unit,
     port: u16,
     digits: &[u8],
     buffer: &mut [u8; MOST_SPELLED],

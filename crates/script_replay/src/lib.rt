@@ -16,7 +16,6 @@ mod answer;
 mod fault;
 mod frame;
 mod lines;
-mod onu;
 mod pieces;
 mod report;
 mod script;

@@ -5,8 +5,8 @@ ghost use Rattle.script_lines.specs.Text.{cut};
 ghost use Rattle.script_replay.specs.Answers.{answers_from, before_bad, state_from};
 
 use crate::answer::answer_line;
-use crate::onu::Onu;
 use memchr::memchr;
+use onu_unit::Unit;
 use script_lines::MOST_SPELLED;
 
 /// How far the lines of a piece were answered.
@@ -23,7 +23,7 @@ pub struct Answered {
 /// Answers the lines that end in a piece, up to the first bad one. No line ends in the first
 /// `searched` bytes. There is room for three times the piece.
 pub fn answer_lines(
-    onu: &mut Onu,
+    onu: &mut Unit,
     piece: &[u8],
     searched: usize,
     buffer: &mut [u8; MOST_SPELLED],

@@ -9,8 +9,8 @@ ghost use Rattle.script_replay.specs.Room.{text_room};
 use crate::answer::answer_line;
 use crate::fault::ReplayFault;
 use crate::lines::answer_lines;
-use crate::onu::Onu;
 use crate::pieces::{move_to_front, read_piece};
+use onu_unit::Unit;
 use script_lines::{LINE_LIMIT, MOST_SPELLED};
 use std::alloc::{AllocError, Global};
 use std::io::{Read, Write};
@@ -28,7 +28,7 @@ const MOST_READS: u32 = u32::MAX;
 /// Answers the last line of a script, which no line feed ends, if there is one.
 fn finish<W: Write>(
     writer: &mut W,
-    onu: &mut Onu,
+    onu: &mut Unit,
     line: &[u8],
     lines: u64,
     buffer: &mut [u8; MOST_SPELLED],
@@ -55,7 +55,7 @@ fn finish<W: Write>(
 fn replay_through<R: Read, W: Write>(
     reader: &mut R,
     writer: &mut W,
-    onu: &mut Onu,
+    onu: &mut Unit,
     text: &mut [u8],
     buffer: &mut [u8; MOST_SPELLED],
     answers: &mut Vec<u8>,
@@ -143,7 +143,7 @@ pub fn replay<R: Read, W: Write>(
     let Ok(mut room) = Room::new(alloc) else {
         return Err(ReplayFault::NoMemory);
     };
-    let Ok(mut onu) = Onu::new(alloc) else {
+    let Ok(mut onu) = Unit::new(alloc) else {
         return Err(ReplayFault::NoMemory);
     };
     let mut buffer = [0; MOST_SPELLED];

@@ -1,56 +1,64 @@
-//! The optical network unit that a script talks to.
+//! The unit.
 ghost use Rattle.std.specs.Prelude.{◌≡◌, IfOk, false};
 ghost use Rattle.forward_plan.specs.Compiled.{IsBehind, IsCompiled};
 ghost use Rattle.frame_meaning.specs.Meaning.{meaning};
 ghost use Rattle.frame_meaning.specs.Size.{LeavesLittleMore};
 ghost use Rattle.mib_upload.specs.Upload.{answered, start};
+ghost use Rattle.onu_unit.specs.Ends.{KeepsEnds};
+ghost use Rattle.onu_unit.specs.Unit.{message_answered};
 
 use forward_plan::{Plan, Verdict};
 use mib_state::{Mib, Touch};
 use mib_upload::Desk;
-use omci_msg::{Reply, Request};
+use omci_msg::{MsgFault, Reply, Request, read};
 use std::alloc::{AllocError, Global};
 use std::marker::Model;
 
-/// An optical network unit (ONU) as the lines of a script see it. A desk answers its messages; frames leave by the plan that is
-/// compiled of the desk's entities. What a message touches is only forgotten in the plan: it is compiled when a frame asks for it.
-/// The unit is seen as the state of the desk.
+/// An optical network unit. A desk answers its messages; frames leave by the plan that is compiled of the desk's entities. The unit
+/// is seen as the state of the desk.
 #[derive(Drop)]
-pub(crate) struct Onu {
+pub struct Unit {
     desk: Desk,
     plan: Plan,
     // Whether the plan lags behind the entities.
     is_behind: bool,
 }
 
-impl Model for Onu {
+impl Model for Unit {
     ghost use Rattle.std.specs.Prelude.{◌≡◌, false};
     ghost use Rattle.forward_plan.specs.Compiled.{IsBehind, IsCompiled};
     ghost use Rattle.mib_upload.specs.Upload.{DeskState};
 
     ghost Value = { DeskState };
 
-    ghost view = { λ onu. onu.desk };
+    ghost view = { λ unit. unit.desk };
 
-    ghost invariant = { λ onu.
-        IsBehind onu.desk.mib.entities onu.plan
-        × (onu.is_behind ≡ false → IsCompiled onu.desk.mib.entities onu.plan) };
+    ghost invariant = { λ unit.
+        IsBehind unit.desk.mib.entities unit.plan
+        × (unit.is_behind ≡ false → IsCompiled unit.desk.mib.entities unit.plan) };
 }
 
-impl Onu {
-    /// An ONU without any instance, with all the memory that it will need.
-    pub(crate) fn new(alloc: Global) -> Result<Self, AllocError>
-        ensures { IfOk result (λ onu. onu ≡ start) }
+impl Unit {
+    /// A unit without any instance, with all the memory that it will need.
+    pub fn new(alloc: Global) -> Result<Self, AllocError>
+        ensures { IfOk result (λ unit. unit ≡ start) }
     {
-        Ok(Onu {
+        Ok(Unit {
             desk: Desk::new(alloc)?,
             plan: Plan::new(alloc)?,
             is_behind: false,
         })
     }
 
+    /// The managed entities.
+    pub fn mib(&self) -> &Mib
+        ensures { result.now ≡ self.now.mib }
+    {
+        self.desk.mib()
+    }
+
     /// Carries a request out, and answers it.
-    pub(crate) fn answer(&mut self, request: &Request) -> Reply
+    pub fn answer(&mut self, request: &Request) -> Reply
         ensures reply { result ≡ (answered self.old request.now).0 }
         ensures after { self.new ≡ (answered self.old request.now).1 }
     {
@@ -65,10 +73,29 @@ impl Onu {
         carried.reply
     }
 
-    /// What becomes of a frame that comes in at a port. The verdict borrows the frame alone.
-    pub(crate) fn forward<'a>(&mut self, port: u16, bytes: &'a [u8]) -> Verdict<'a>
+    /// Carries out the request that a message asks, and gives the reply, where one is wanted. A message with a fault changes
+    /// nothing.
+    pub fn message(&mut self, bytes: &[u8]) -> Result<Option<Reply>, MsgFault>
+        ensures answer { result ≡ (message_answered self.old bytes.now).0 }
+        ensures after { self.new ≡ (message_answered self.old bytes.now).1 }
+    {
+        let request = read(bytes)?;
+        let reply = self.answer(&request);
+        if request.wants_answer {
+            Ok(Some(reply))
+        } else {
+            Ok(None)
+        }
+    }
+
+    /// What becomes of a frame that comes in at a port. The verdict borrows the frame alone. A frame that leaves has the addresses of
+    /// the one that came in, and its last bytes as its rest.
+    #[tactic(auto, using(crate::proofs::Ends::meaning_keeps))]
+    #[inline(always)]
+    pub fn forward<'a>(&mut self, port: u16, bytes: &'a [u8]) -> Verdict<'a>
         ensures verdict { result ≡ meaning self.old.mib.entities port bytes.now }
         ensures size { LeavesLittleMore bytes.now result }
+        ensures ends { KeepsEnds bytes.now result }
         ensures same { self.new ≡ self.old }
     {
         catch_up(&mut self.plan, self.is_behind, self.desk.mib());

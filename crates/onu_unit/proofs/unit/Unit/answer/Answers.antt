@@ -1,6 +1,6 @@
 use Rattle.mib_state.specs.Touch.{AreSame}
 use Rattle.forward_plan.proofs.Kept.{behind_same, same_plan}
-use Rattle.script_replay.proofs.onu.Onu.answer.Goals as goal
+use Rattle.onu_unit.proofs.unit.Unit.answer.Goals as goal
 
 pub invariant_of-self : goal.invariant_of-self
 invariant_of-self c =
