@@ -1,0 +1,117 @@
+//! A tag that an entry adds, in words.
+use crate::filter::TAG_WORDS;
+use text_words::{Mistake, Word, number_at_most, read_number};
+use vlan_rule::{AddedTag, EligibleSource, PrioritySource, TpidSource, VidSource};
+
+/// What a priority may be taken from. The last is no word, since it has blanks; it is said among those that are allowed.
+const PRIORITIES: &[&str] = &["inner", "outer", "dscp", "0 to 7"];
+
+/// The received tags.
+const SIDES: &[&str] = &["inner", "outer"];
+
+/// What a TPID may be taken from.
+const TPIDS: &[&str] = &["inner", "outer", "output", "8100", "0x8100"];
+
+/// What a drop eligible indicator may be taken from.
+const BITS: &[&str] = &["inner", "outer", "0", "1"];
+
+/// Which of the two tags is added. What isn't said of it is copied from the received tag of that name.
+#[derive(Clone, Copy, Debug, PartialEq, Eq)]
+pub(crate) enum Side {
+    Outer,
+    Inner,
+}
+
+/// What words say of a tag that is added.
+#[derive(Clone, Copy)]
+pub(crate) struct AddedAsked {
+    priority: Option<PrioritySource>,
+    vid: Option<VidSource>,
+    tpid: Option<TpidSource>,
+    eligible: Option<EligibleSource>,
+}
+
+fn read_priority(word: Word<'_>) -> Result<PrioritySource, Mistake<'_>> {
+    if read_number(word.text).is_some() {
+        let priority = number_at_most(word, "a priority", 7)?;
+        return Ok(PrioritySource::Fixed(u8::try_from(priority).unwrap_or(0)));
+    }
+    Ok(match word.one_of(PRIORITIES)? {
+        0 => PrioritySource::Inner,
+        1 => PrioritySource::Outer,
+        _ => PrioritySource::Dscp,
+    })
+}
+
+fn read_vid(word: Word<'_>) -> Result<VidSource, Mistake<'_>> {
+    match word.place_in(SIDES) {
+        Some(0) => Ok(VidSource::Inner),
+        Some(_) => Ok(VidSource::Outer),
+        None => Ok(VidSource::Fixed(number_at_most(word, "a VID", 4094)?)),
+    }
+}
+
+fn read_tpid(word: Word<'_>) -> Result<TpidSource, Mistake<'_>> {
+    Ok(match word.one_of(TPIDS)? {
+        0 => TpidSource::Inner,
+        1 => TpidSource::Outer,
+        2 => TpidSource::Output,
+        _ => TpidSource::Standard,
+    })
+}
+
+fn read_eligible(word: Word<'_>) -> Result<EligibleSource, Mistake<'_>> {
+    Ok(match word.one_of(BITS)? {
+        0 => EligibleSource::Inner,
+        1 => EligibleSource::Outer,
+        2 => EligibleSource::Clear,
+        _ => EligibleSource::Set,
+    })
+}
+
+/// The drop eligible indicator that goes with a TPID where none is said.
+pub(crate) fn usual_eligible(tpid: TpidSource) -> EligibleSource {
+    match tpid {
+        TpidSource::Inner => EligibleSource::Inner,
+        TpidSource::Outer => EligibleSource::Outer,
+        TpidSource::Output | TpidSource::Standard => EligibleSource::Clear,
+    }
+}
+
+impl AddedAsked {
+    pub(crate) const NOTHING: AddedAsked = AddedAsked {
+        priority: None,
+        vid: None,
+        tpid: None,
+        eligible: None,
+    };
+
+    /// Takes a word that says something of the tag.
+    pub(crate) fn take<'a>(&mut self, word: Word<'a>) -> Result<(), Mistake<'a>> {
+        let Some((name, value)) = word.split_value() else {
+            return Err(word.no_such(TAG_WORDS));
+        };
+        match name.one_of(TAG_WORDS)? {
+            0 => name.put_into(&mut self.priority, read_priority(value)?),
+            1 => name.put_into(&mut self.vid, read_vid(value)?),
+            2 => name.put_into(&mut self.tpid, read_tpid(value)?),
+            _ => name.put_into(&mut self.eligible, read_eligible(value)?),
+        }
+    }
+
+    /// The tag. What isn't said is copied from the received tag on this side; but beside a TPID that isn't copied the drop eligible
+    /// indicator is 0.
+    pub(crate) fn tag(&self, side: Side) -> AddedTag {
+        let (priority, vid, tpid) = match side {
+            Side::Outer => (PrioritySource::Outer, VidSource::Outer, TpidSource::Outer),
+            Side::Inner => (PrioritySource::Inner, VidSource::Inner, TpidSource::Inner),
+        };
+        let tpid = self.tpid.unwrap_or(tpid);
+        AddedTag {
+            priority: self.priority.unwrap_or(priority),
+            vid: self.vid.unwrap_or(vid),
+            tpid,
+            eligible: self.eligible.unwrap_or(usual_eligible(tpid)),
+        }
+    }
+}
