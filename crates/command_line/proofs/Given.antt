@@ -7,7 +7,7 @@ use Rattle.clap.specs.Words.{ReadsOne, Row, Text, first_of, first_value, one_tex
 use Rattle.clap.specs.declared.parser.matches.Found.{Found}
 use Rattle.clap.proofs.WalkLemmas.{first_value-rows, one_text-rows}
 use Rattle.command_line.specs.Asked.{IsExplain, IsForward, IsFrame, IsMib, IsNumber, IsOptionalNumber, IsRules, IsRun, IsTrace}
-use Rattle.command_line.specs.Range.{AreInRange, IsFrameInRange, IsLine}
+use Rattle.command_line.specs.Range.{AreInRange, IsFrameInRange, IsIdentifier, IsLine}
 use Rattle.run_settings.specs.Settings.{AreInLimits}
 use Rattle.command_line.specs.declared.words.RunWords.{RunWords}
 use Rattle.command_line.specs.declared.words.MibWords.{MibWords}
@@ -142,6 +142,13 @@ module _ (f : Found) where
       → (n : Option ℕ) → IsOptionalNumber name (rows_of f) n → IsLine n → ⊥
   optional_unread name text some value None is fits = given name text some is
   optional_unread name text some value (Some n) is fits = number_unread 32 f name n value is (omega (arith, fits))
+
+  -- likewise the identifier of the first message
+  pub identifier_unread : (text : Text) → first_value f (codes "id") ≡ Some text
+      → ((text : Text) → one_text f (codes "id") ≡ Some text → ReadsOne (Reads 16) text None)
+      → (n : Option ℕ) → IsOptionalNumber (codes "id") (rows_of f) n → IsIdentifier n → ⊥
+  identifier_unread text some value None is fits = given (codes "id") text some is
+  identifier_unread text some value (Some n) is fits = number_unread 16 f (codes "id") n value is (omega (arith, fits))
 
   pub trace_file_missing : first_value f (codes "trace") ≡ None → (words : TraceWords) → IsTrace (rows_of f) words → IsLine words.until → ⊥
   trace_file_missing none words is fits = missing f (codes "trace") words.file.now none is.file

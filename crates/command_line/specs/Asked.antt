@@ -13,8 +13,10 @@ use Rattle.command_line.specs.declared.words.FrameWords.TheVariants.{Bytes, Capt
 use Rattle.command_line.specs.declared.words.TraceWords.{TraceWords}
 use Rattle.command_line.specs.declared.words.ForwardWords.{ForwardWords}
 use Rattle.command_line.specs.declared.words.RecordWords.{RecordWords}
+use Rattle.command_line.specs.declared.words.DecodeWords.{DecodeWords}
+use Rattle.command_line.specs.declared.words.EncodeWords.{EncodeWords}
 use Rattle.command_line.specs.declared.words.Words.{Words}
-use Rattle.command_line.specs.declared.words.Words.TheVariants.{Replay, Run, Decode, Mib, Rules, Explain, Judge, Forward, Record}
+use Rattle.command_line.specs.declared.words.Words.TheVariants.{Replay, Run, Decode, Mib, Rules, Explain, Judge, Forward, Record, Encode}
 
 -- the value of an option is a number in decimal digits
 pub record IsNumber (name : Text) (rows : List Row) (n : ℕ) : Type 0 where
@@ -110,27 +112,38 @@ pub record IsRecord (rows : List Row) (words : RecordWords) : Type 0 where
   pub wait : IsOptionalNumber (codes "wait") rows words.wait
   pub lost : IsOptionalNumber (codes "lost") rows words.lost
 
+-- those behind `decode`
+pub record IsDecode (rows : List Row) (words : DecodeWords) : Type 0 where
+  pub source : IsFlag (codes "source") rows words.source
+
+-- those behind `encode`
+pub record IsEncode (rows : List Row) (words : EncodeWords) : Type 0 where
+  pub file : first_of (codes "text") rows ≡ option_map (λ (name : _). name.now) words.file
+  pub identifier : IsOptionalNumber (codes "id") rows words.identifier
+
 -- what a subcommand asks for, by its name and the values of its options
 abbrev pub IsAskedBy : Option (Text × List Row) → Words → Type 0
 IsAskedBy None words = ⊥
 IsAskedBy (Some (name, rows)) Replay = name ≡ codes "replay"
 IsAskedBy (Some (name, rows)) (Run words) = (name ≡ codes "run") × IsRun rows words
-IsAskedBy (Some (name, rows)) Decode = name ≡ codes "decode"
+IsAskedBy (Some (name, rows)) (Decode words) = (name ≡ codes "decode") × IsDecode rows words
 IsAskedBy (Some (name, rows)) (Mib words) = (name ≡ codes "mib") × IsMib rows words
 IsAskedBy (Some (name, rows)) (Rules words) = (name ≡ codes "rules") × IsRules rows words
 IsAskedBy (Some (name, rows)) (Explain words) = (name ≡ codes "explain") × IsExplain rows words
 IsAskedBy (Some (name, rows)) (Judge words) = (name ≡ codes "judge") × IsJudge rows words
 IsAskedBy (Some (name, rows)) (Forward words) = (name ≡ codes "forward") × IsForward rows words
 IsAskedBy (Some (name, rows)) (Record words) = (name ≡ codes "record") × IsRecord rows words
+IsAskedBy (Some (name, rows)) (Encode words) = (name ≡ codes "encode") × IsEncode rows words
 
 -- all but `record`
 abbrev pub IsNoRecord : Words → Type 0
 IsNoRecord Replay = Unit {0}
 IsNoRecord (Run words) = Unit {0}
-IsNoRecord Decode = Unit {0}
+IsNoRecord (Decode words) = Unit {0}
 IsNoRecord (Mib words) = Unit {0}
 IsNoRecord (Rules words) = Unit {0}
 IsNoRecord (Explain words) = Unit {0}
 IsNoRecord (Judge words) = Unit {0}
 IsNoRecord (Forward words) = Unit {0}
 IsNoRecord (Record words) = ⊥
+IsNoRecord (Encode words) = Unit {0}

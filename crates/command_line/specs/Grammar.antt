@@ -128,8 +128,11 @@ to_files = with_rule (with_rule (over_files (codes "forward")) out) verdicts
 abbrev pub forward : App
 forward = with_rule (with_rule (with_rule to_files until) strict) json
 
+abbrev pub source : Rule
+source = flag (codes "source")
+
 abbrev pub decode : App
-decode = new_app (codes "decode")
+decode = with_rule (new_app (codes "decode")) source
 
 abbrev pub mib : App
 mib = with_rule (with_rule (new_app (codes "mib")) trace) json
@@ -146,6 +149,21 @@ explain = with_rule (with_rule (with_rule (at_port (codes "explain")) bytes) (op
 
 abbrev pub judge : App
 judge = with_rule (with_rule (with_rule (with_rule (new_app (codes "judge")) modelled) unordered) json) history
+
+-- the identifier of the first message
+abbrev pub identifier : Rule
+identifier = optional (codes "id") (Signed (pos 0) (pos 65535))
+
+-- a file with a text in words, which may be left out
+abbrev pub text : Rule
+text = record (new_rule (codes "text")) {
+  action = Some Set;
+  value_names = 1;
+  parser = Some NonEmptyString;
+}
+
+abbrev pub encode : App
+encode = with_rule (with_rule (new_app (codes "encode")) identifier) text
 
 -- what names captures
 abbrev pub of_captures : App
@@ -170,4 +188,5 @@ abbrev pub with_looking : App → App
 with_looking app = with_subcommand (with_subcommand (with_subcommand (with_subcommand app decode.top) mib.top) rules.top) explain.top
 
 abbrev pub onuctl : App
-onuctl = with_subcommand (with_subcommand (with_subcommand (with_looking (with_doing alone)) judge.top) forward.top) recording.top
+onuctl =
+    with_subcommand (with_subcommand (with_subcommand (with_subcommand (with_looking (with_doing alone)) judge.top) forward.top) recording.top) encode.top

@@ -3,7 +3,7 @@ use Rattle.std.specs.Prelude.{◌≤◌, ℕ, Option, IfSome}
 use Rattle.run_settings.specs.Settings.{CanRun}
 use Rattle.run_settings.specs.declared.settings.RunSettings.{RunSettings}
 use Rattle.command_line.specs.declared.words.Words.{Words}
-use Rattle.command_line.specs.declared.words.Words.TheVariants.{Replay, Run, Decode, Mib, Rules, Explain, Judge, Forward, Record}
+use Rattle.command_line.specs.declared.words.Words.TheVariants.{Replay, Run, Decode, Mib, Rules, Explain, Judge, Forward, Record, Encode}
 use Rattle.command_line.specs.declared.words.FrameWords.{FrameWords}
 use Rattle.command_line.specs.declared.words.FrameWords.TheVariants.{Bytes, Captured}
 
@@ -11,6 +11,10 @@ use Rattle.command_line.specs.declared.words.FrameWords.TheVariants.{Bytes, Capt
 pub record AreInRange (settings : RunSettings) : Type 0 where
   pub port : settings.port ≤ 65535
   pub limits : CanRun settings
+
+-- a transaction correlation identifier is a number of 16 bits
+abbrev pub IsIdentifier : Option ℕ → Type 0
+IsIdentifier number = IfSome number (λ n. n ≤ 65535)
 
 -- the number of a line, or of milliseconds, is one of 32 bits
 abbrev pub IsLine : Option ℕ → Type 0
@@ -25,10 +29,11 @@ IsFrameInRange (Captured file number) = number ≤ 4294967295
 abbrev pub IsInRange : Words → Type 0
 IsInRange Replay = Unit {0}
 IsInRange (Run words) = AreInRange words.settings
-IsInRange Decode = Unit {0}
+IsInRange (Decode words) = Unit {0}
 IsInRange (Mib words) = Unit {0}
 IsInRange (Rules words) = words.port ≤ 65535
 IsInRange (Explain words) = (words.port ≤ 65535) × IsFrameInRange words.frame
 IsInRange (Judge words) = Unit {0}
 IsInRange (Forward words) = (words.port ≤ 65535) × IsLine words.trace.until
 IsInRange (Record words) = IsLine words.wait × IsLine words.lost
+IsInRange (Encode words) = IsIdentifier words.identifier

@@ -4,7 +4,7 @@ ghost use Rattle.std.specs.Prelude.{◌≡◌, IfOk, Ok, Some, false, codes};
 ghost use Rattle.clap.specs.Words.{App, Rule, Text, app_of, new_app, rule_of, with_rule, with_subcommand};
 ghost use Rattle.clap.specs.declared.builder.command.Command.TheViews.{out-Command as fields_of};
 ghost use Rattle.clap.specs.declared.builder.value_parser.ValueParser.TheVariants.{NonEmptyString};
-ghost use Rattle.command_line.specs.Grammar.{IsCommand, after, at_port, batch, bytes, decode, explain, forward, history, json, judge, lanes, mib, milliseconds, modelled, numbered, of_captures, onuctl, optional, out, over_files, port, recording, replay, rules, run, several, strict, trace, until, unordered, valued, verdicts};
+ghost use Rattle.command_line.specs.Grammar.{IsCommand, after, at_port, batch, bytes, decode, encode, explain, forward, history, identifier, json, judge, lanes, mib, milliseconds, modelled, numbered, of_captures, onuctl, optional, out, over_files, port, recording, replay, rules, run, several, source, strict, text, trace, until, unordered, valued, verdicts};
 
 use clap::builder::ValueParser;
 use clap::{Arg, ArgAction, Command, value_parser};
@@ -218,14 +218,26 @@ fn bytes<'a>(alloc: Global) -> Arg<'a>
         .help("Bytes of the frame, from the destination address on, in hexadecimal digits")
 }
 
+/// Whether lines are said in the words that `encode` reads.
+fn source<'a>(alloc: Global) -> Arg<'a>
+    ensures rule { rule_of result ≡ source }
+    ensures local { result.global ≡ false }
+{
+    Arg::new(alloc, "source")
+        .long("source")
+        .action(ArgAction::SetTrue)
+        .help(
+            "Write the lines of a script in the words that encode reads; has no value [example: --source]",
+        )
+}
+
 fn decode<'a>(alloc: Global) -> Result<Command<'a>, AllocError>
     ensures { IsCommand result decode }
 {
-    Ok(
-        Command::new(alloc, "decode")
-            .about("Say what each line of the script or of the answers on standard input means")
-            .after_help("Example: onuctl decode < examples/one_frame.script"),
-    )
+    let alone = Command::new(alloc, "decode")
+        .about("Say what each line of the script or of the answers on standard input means")
+        .after_help("Example: onuctl decode < examples/one_frame.script");
+    with_arg(Ok(alone), source(alloc))
 }
 
 fn mib<'a>(alloc: Global) -> Result<Command<'a>, AllocError>
@@ -482,6 +494,58 @@ fn judge<'a>(alloc: Global) -> Result<Command<'a>, AllocError>
     with_arg(shown, history(alloc))
 }
 
+/// The identifier of the first message.
+fn identifier<'a>(alloc: Global) -> Arg<'a>
+    ensures rule { rule_of result ≡ identifier }
+    ensures local { result.global ≡ false }
+{
+    let parser = value_parser!(u16).range(0..=i64::from(u16::MAX));
+    optional(
+        alloc,
+        "id",
+        "NUMBER",
+        "Transaction correlation identifier of the first message, 0 to 65535; 1 without it [example: 100]",
+        parser,
+    )
+}
+
+/// The file with a text in words.
+fn text<'a>(alloc: Global) -> Arg<'a>
+    ensures rule { rule_of result ≡ text }
+    ensures local { result.global ≡ false }
+{
+    Arg::new(alloc, "text")
+        .value_name("FILE")
+        .action(ArgAction::Set)
+        .value_parser(ValueParser::NonEmptyString)
+        .help("Text in words, a file; standard input without it [example: up.onu]")
+}
+
+/// What the words of a text are, in short.
+const LANGUAGE: &str =
+    "A line in words is a line of the script; `#` begins a remark. Numbers are decimal or begin with 0x.
+  create CLASS INSTANCE ATTRIBUTE=VALUE ..      set CLASS INSTANCE ATTRIBUTE=VALUE ..
+  delete CLASS INSTANCE                         get CLASS INSTANCE ATTRIBUTE ..
+  get-next CLASS INSTANCE N                     upload | upload-next N | reset
+  entry vlan INSTANCE FILTER -> TREATMENT       remove-entry vlan INSTANCE FILTER
+  frame PORT dst=MAC src=MAC tag=TPID:PRIORITY:DEI:VID type=TYPE dscp=N length=N payload=HEX
+  o HEX | f PORT HEX | raw HEX
+Classes are gem-port, interwork, mapper, vlan, onu-data. A message takes id=N and quiet.
+FILTER: tags=0|1|2, default, pcp=, vid=, tpid=, dei=, outer(..), inner(..), type=
+TREATMENT: drop, or remove=N outer(pcp= vid= tpid= dei=) inner(..)
+Status: 0, or 2 where the text has mistakes, each said with line and column; then no script is written.
+Example: onuctl encode up.onu | onuctl replay";
+
+fn encode<'a>(alloc: Global) -> Result<Command<'a>, AllocError>
+    ensures { IsCommand result encode }
+{
+    let alone = Command::new(alloc, "encode")
+        .about("Make a script of a text in words")
+        .after_help(LANGUAGE);
+    let numbered_from = with_arg(Ok(alone), identifier(alloc));
+    with_arg(numbered_from, text(alloc))
+}
+
 /// The program with all that it can be asked for.
 pub fn onuctl<'a>(alloc: Global) -> Result<Command<'a>, AllocError>
     ensures { IfOk result (λ command. app_of command ≡ onuctl) }
@@ -499,5 +563,6 @@ pub fn onuctl<'a>(alloc: Global) -> Result<Command<'a>, AllocError>
     let explaining = with_sub(listing, explain(alloc));
     let judging = with_sub(explaining, judge(alloc));
     let capturing = with_sub(judging, forward(alloc));
-    with_sub(capturing, recording(alloc))
+    let recorded = with_sub(capturing, recording(alloc));
+    with_sub(recorded, encode(alloc))
 }

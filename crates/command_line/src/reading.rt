@@ -1,8 +1,8 @@
 //! What the words ask for.
-ghost use Rattle.std.specs.Prelude.{◌≡◌, ◌≤◌, ℕ, Option, IfErr, IfNone, IfOk, IfSome};
+ghost use Rattle.std.specs.Prelude.{◌≡◌, ◌≤◌, ℕ, Option, codes, IfErr, IfNone, IfOk, IfSome};
 ghost use Rattle.clap.specs.Words.{app_of, found_of, rows_of, subcommand_of, subcommand_rows_of};
 ghost use Rattle.clap.specs.Walk.{texts};
-ghost use Rattle.command_line.specs.Asked.{AreTexts, IsAskedBy, IsExplain, IsForward, IsFrame, IsJudge, IsMib, IsNoRecord, IsOptionalNumber, IsRecord, IsRules, IsRun, IsTrace};
+ghost use Rattle.command_line.specs.Asked.{AreTexts, IsAskedBy, IsDecode, IsEncode, IsExplain, IsForward, IsFrame, IsJudge, IsMib, IsNoRecord, IsOptionalNumber, IsRecord, IsRules, IsRun, IsTrace};
 ghost use Rattle.command_line.specs.Refused.{IsRightlyRefused};
 ghost use Rattle.command_line.specs.declared.words.Words.{Words};
 ghost use Rattle.command_line.specs.declared.words.RecordWords.{RecordWords};
@@ -10,16 +10,17 @@ ghost use Rattle.command_line.specs.declared.words.RunWords.{RunWords};
 ghost use Rattle.command_line.specs.declared.words.MibWords.{MibWords};
 ghost use Rattle.command_line.specs.declared.words.RulesWords.{RulesWords};
 ghost use Rattle.command_line.specs.declared.words.ExplainWords.{ExplainWords};
+ghost use Rattle.command_line.specs.declared.words.EncodeWords.{EncodeWords};
 ghost use Rattle.command_line.specs.declared.words.ForwardWords.{ForwardWords};
 ghost use Rattle.command_line.specs.declared.words.FrameWords.{FrameWords};
 ghost use Rattle.command_line.specs.declared.words.TraceWords.{TraceWords};
 ghost use Rattle.command_line.specs.Grammar.{onuctl};
-ghost use Rattle.command_line.specs.Range.{AreInRange, IsFrameInRange, IsInRange, IsLine};
+ghost use Rattle.command_line.specs.Range.{AreInRange, IsFrameInRange, IsIdentifier, IsInRange, IsLine};
 
 use crate::grammar::onuctl;
 use crate::words::{
-    ExplainWords, ForwardWords, FrameWords, JudgeWords, MibWords, RecordWords, RulesWords,
-    RunWords, TraceWords, Words,
+    DecodeWords, EncodeWords, ExplainWords, ForwardWords, FrameWords, JudgeWords, MibWords,
+    RecordWords, RulesWords, RunWords, TraceWords, Words,
 };
 use clap::error::ErrorKind;
 use clap::{ArgMatches, Command, Error};
@@ -162,6 +163,41 @@ fn read_judge<'a>(given: &ArgMatches<'a>) -> JudgeWords<'a>
     }
 }
 
+/// What the words behind `decode` ask for.
+fn read_decode(given: &ArgMatches<'_>) -> DecodeWords
+    ensures { IsDecode (rows_of (found_of given.now)) result }
+{
+    DecodeWords {
+        source: given.get_flag("source"),
+    }
+}
+
+/// The identifier behind `--id`, which may be left out; None where it is given, and no number of 16 bits.
+fn read_identifier(given: &ArgMatches<'_>) -> Option<Option<u16>>
+    ensures asked { IfSome result (IsOptionalNumber (codes "id") (rows_of (found_of given.now))) }
+    ensures range { IfSome result IsIdentifier }
+    ensures none { IfNone result ((n : Option ℕ)
+        → IsOptionalNumber (codes "id") (rows_of (found_of given.now)) n → IsIdentifier n → ⊥) }
+{
+    if given.get_str("id").is_none() {
+        return Some(None);
+    }
+    Some(Some(given.get_one("id")?))
+}
+
+/// What the words behind `encode` ask for; None where the identifier has over 16 bits.
+fn read_encode<'a>(given: &ArgMatches<'a>) -> Option<EncodeWords<'a>>
+    ensures asked { IfSome result (IsEncode (rows_of (found_of given.now))) }
+    ensures range { IfSome result (λ words. IsIdentifier words.identifier) }
+    ensures none { IfNone result ((words : EncodeWords)
+        → IsEncode (rows_of (found_of given.now)) words → IsIdentifier words.identifier → ⊥) }
+{
+    Some(EncodeWords {
+        file: given.get_str("text"),
+        identifier: read_identifier(given)?,
+    })
+}
+
 /// The texts of an option that may be given several times, in order.
 fn texts_of<'a>(
     alloc: Global,
@@ -214,8 +250,11 @@ fn read_others<'a>(matches: &ArgMatches<'a>) -> Option<Words<'a>>
     if matches.subcommand_matches("replay").is_some() {
         return Some(Words::Replay);
     }
-    if matches.subcommand_matches("decode").is_some() {
-        return Some(Words::Decode);
+    if let Some(given) = matches.subcommand_matches("decode") {
+        return Some(Words::Decode(read_decode(given)));
+    }
+    if let Some(given) = matches.subcommand_matches("encode") {
+        return Some(Words::Encode(read_encode(given)?));
     }
     if let Some(given) = matches.subcommand_matches("run") {
         return Some(Words::Run(read_run(given)?));

@@ -9,7 +9,7 @@ pub enum Words<'a> {
     /// A run over two files.
     Run(RunWords<'a>),
     /// What each line on standard input means.
-    Decode,
+    Decode(DecodeWords),
     /// The managed entities after a trace.
     Mib(MibWords<'a>),
     /// The table in force at a port after a trace.
@@ -22,6 +22,24 @@ pub enum Words<'a> {
     Forward(ForwardWords<'a>),
     /// The history that captures show.
     Record(RecordWords<'a>),
+    /// The script of a text in words.
+    Encode(EncodeWords<'a>),
+}
+
+/// How `decode` is to say what lines mean.
+#[derive(Clone, Copy, Debug, PartialEq, Eq)]
+pub struct DecodeWords {
+    /// Whether it says them in the words that `encode` reads.
+    pub source: bool,
+}
+
+/// What `encode` is to make a script of.
+#[derive(Clone, Copy, Debug, PartialEq, Eq)]
+pub struct EncodeWords<'a> {
+    /// The file with the text in words, or None for standard input.
+    pub file: Option<&'a str>,
+    /// The transaction correlation identifier of the first message, or None for 1.
+    pub identifier: Option<u16>,
 }
 
 /// What `run` is to do.

@@ -62,6 +62,11 @@ pub fn decode_lines<I: Read, O: Write, E: Write>(
     err: &mut E,
 ) -> u8 {
     let outcome = decode(alloc, reader, out);
+    report_decoding(outcome, err)
+}
+
+/// Says how the lines of a script ended, and what is wrong in a bad one, and gives the status.
+pub fn report_decoding<E: Write>(outcome: Result<(), DecodeFault>, err: &mut E) -> u8 {
     let status = report_look(&outcome.map_err(LookFault::from), err);
     if let Err(DecodeFault::BadLine(_, mistake)) = outcome {
         let _ = writeln!(err, "{mistake}");

@@ -2,6 +2,7 @@
 #![tactic(auto)]
 
 mod captures;
+mod encoding;
 mod files;
 mod forwarding;
 mod judge_progress;
@@ -11,6 +12,7 @@ mod recording;
 mod running;
 
 use command_line::{Words, read_words, report_words};
+use encoding::{decode_into_words, encode_text};
 use forwarding::forward;
 use judging::judge_history;
 use looking::{decode_lines, explain_frame, show_mib, show_rules};
@@ -67,7 +69,9 @@ fn answer<
             report_replay(&outcome, err)
         }
         Ok(Words::Run(words)) => run(rt, &words, out, err),
-        Ok(Words::Decode) => decode_lines(alloc, input, out, err),
+        Ok(Words::Decode(words)) if words.source => decode_into_words(alloc, input, out, err),
+        Ok(Words::Decode(_)) => decode_lines(alloc, input, out, err),
+        Ok(Words::Encode(words)) => encode_text(rt, &words, input, out, err),
         Ok(Words::Mib(words)) => show_mib(rt, &words, out, err),
         Ok(Words::Rules(words)) => show_rules(rt, &words, out, err),
         Ok(Words::Explain(words)) => explain_frame(rt, &words, out, err),

@@ -2,8 +2,9 @@
 
 use clap::Error;
 use command_line::{
-    ExplainWords, ForwardWords, FrameWords, JudgeWords, MibWords, NumberedFile, RulesWords,
-    RunWords, TraceWords, Words, read_numbered, read_tpid, read_words, report_words,
+    DecodeWords, EncodeWords, ExplainWords, ForwardWords, FrameWords, JudgeWords, MibWords,
+    NumberedFile, RulesWords, RunWords, TraceWords, Words, read_numbered, read_tpid, read_words,
+    report_words,
 };
 use run_settings::RunSettings;
 use std::alloc::AllocError;
@@ -25,6 +26,7 @@ Commands:
   judge    Say whether a right unit may have done what a history says
   forward  Forward the frames of a capture after a trace, and say what becomes of each
   record   Write the history that captures of one clock show, for judge
+  encode   Make a script of a text in words
   help     Print this message or the help of the given subcommand(s)
 
 Options:
@@ -98,7 +100,14 @@ fn words_ask_for_a_replay_or_a_run(rt: HostRuntime) -> Result<(), Fail> {
 #[test]
 fn words_ask_to_look_inside(rt: HostRuntime) -> Result<(), Fail> {
     for (words, asked) in [
-        (&["onuctl", "decode"][..], Words::Decode),
+        (
+            &["onuctl", "decode"][..],
+            Words::Decode(DecodeWords { source: false }),
+        ),
+        (
+            &["onuctl", "decode", "--source"][..],
+            Words::Decode(DecodeWords { source: true }),
+        ),
         (
             &["onuctl", "mib", "--trace", "t"][..],
             Words::Mib(MibWords {
@@ -200,6 +209,36 @@ fn words_ask_for_a_judgement(rt: HostRuntime) -> Result<(), Fail> {
     ] {
         same!(rt; read_words(rt.alloc(), words)?, Words::Judge(asked), "{words:?}");
     }
+    Ok(())
+}
+
+#[test]
+fn words_ask_to_encode(rt: HostRuntime) -> Result<(), Fail> {
+    let plain = EncodeWords {
+        file: None,
+        identifier: None,
+    };
+    for (words, asked) in [
+        (&["onuctl", "encode"][..], plain),
+        (
+            &["onuctl", "encode", "t", "--id", "0"][..],
+            EncodeWords {
+                file: Some("t"),
+                identifier: Some(0),
+            },
+        ),
+        (
+            &["onuctl", "encode", "--id", "65535"][..],
+            EncodeWords {
+                identifier: Some(65_535),
+                ..plain
+            },
+        ),
+    ] {
+        same!(rt; read_words(rt.alloc(), words)?, Words::Encode(asked), "{words:?}");
+    }
+    let too_great = read_words(rt.alloc(), &["onuctl", "encode", "--id", "65536"]);
+    holds!(rt; too_great.is_err());
     Ok(())
 }
 

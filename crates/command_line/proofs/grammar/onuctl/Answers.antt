@@ -12,4 +12,5 @@ returns c =
     let explaining = c.with_sub-explaining.ensures _ _ listing c.explain.ensures in
     let judging = c.with_sub-judging.ensures _ _ explaining c.judge.ensures in
     let capturing = c.with_sub-capturing.ensures _ _ judging c.forward.ensures in
-    c.with_sub.ensures _ _ capturing c.recording.ensures
+    let recorded = c.with_sub-recorded.ensures _ _ capturing c.recording.ensures in
+    c.with_sub.ensures _ _ recorded c.encode.ensures
