@@ -1,0 +1,125 @@
+//! The calls that a C program makes, proved. Each calls one of a library below, and promises what that one does.
+//!
+//! `library/onu.c` stands between C and these calls: it answers null pointers, and passes on what is none. `include/onu.h` says what each
+//! call does.
+#![tactic(auto)]
+
+ghost use Rattle.std.specs.Prelude.{◌≡◌, ◌<◌, None, Err, pos, length};
+ghost use Rattle.bench_history.specs.History.{history_of};
+ghost use Rattle.onu_calls.specs.Forwarding.{StandsIn, verdict_in, verdict_number, verdict_room};
+ghost use Rattle.onu_calls.specs.Messaging.{answer_in, answer_number, answer_room, left_in};
+ghost use Rattle.onu_cell.specs.Numbers.{bad_flags, bad_line, closed, small};
+ghost use Rattle.onu_cell.specs.Opening.{Opens, closing_number};
+ghost use Rattle.onu_texts.specs.Judging.{DeviatesAt, IsExplainedBy, settings_in};
+ghost use Rattle.onu_texts.specs.Replaying.{ReplaysInto};
+ghost use Rattle.onu_texts.specs.Room.{IsWrittenUpTo, Refuses};
+
+use onu_calls::CVerdict;
+use onu_cell::Cell;
+use std::alloc::Global;
+
+/// Puts a unit without any instance into an empty cell.
+#[unsafe(no_mangle)]
+pub extern "C" fn onu_proved_open(alloc: Global, cell: &mut Cell) -> i32
+    ensures { Opens cell.old.handle.held result cell.new.handle.held }
+{
+    onu_cell::open(cell, alloc)
+}
+
+/// Gives the memory of the unit in a cell back.
+#[unsafe(no_mangle)]
+pub extern "C" fn onu_proved_close(alloc: Global, cell: &mut Cell) -> i32
+    ensures number { result ≡ closing_number cell.old.handle.held }
+    ensures empty { cell.new.handle.held ≡ None }
+{
+    onu_cell::close(cell, alloc)
+}
+
+/// Carries out the request that a message asks, and puts the reply into the room.
+#[unsafe(no_mangle)]
+pub extern "C" fn onu_proved_message(
+    alloc: Global,
+    cell: &mut Cell,
+    bytes: &[u8],
+    reply: &mut [u8; 48],
+) -> i32
+    ensures number { result ≡ answer_number (answer_in cell.old.handle.held bytes.now) }
+    ensures room { reply.new ≡ answer_room reply.old (answer_in cell.old.handle.held bytes.now) }
+    ensures after { cell.new.handle.held ≡ left_in cell.old.handle.held bytes.now }
+{
+    onu_calls::message(cell, alloc, bytes, reply)
+}
+
+/// Forwards a frame that comes in at a port.
+#[unsafe(no_mangle)]
+pub extern "C" fn onu_proved_forward(
+    alloc: Global,
+    cell: &mut Cell,
+    port: u16,
+    frame: &[u8],
+    verdict: &mut CVerdict,
+) -> i32
+    ensures number { result ≡ verdict_number (verdict_in cell.old.handle.held port frame.now) }
+    ensures verdict { verdict.new
+        ≡ verdict_room verdict.old frame.now (verdict_in cell.old.handle.held port frame.now) }
+    ensures stands { StandsIn frame.now verdict.new.rest
+        (verdict_in cell.old.handle.held port frame.now) }
+    ensures same { cell.new.handle.held ≡ cell.old.handle.held }
+{
+    onu_calls::forward(cell, alloc, port, frame, verdict)
+}
+
+/// Explains what becomes of a frame that comes in at a port, as JSON in a room.
+#[unsafe(no_mangle)]
+pub extern "C" fn onu_proved_explain(
+    alloc: Global,
+    cell: &mut Cell,
+    port: u16,
+    frame: &[u8],
+    room: &mut [u8],
+    written: &mut usize,
+) -> i32
+    ensures same { cell.new.handle.held ≡ cell.old.handle.held }
+    ensures closed { cell.old.handle.held ≡ None → result ≡ closed }
+    ensures ok { result ≡ pos 0 → IsWrittenUpTo written.new room.old room.new }
+    ensures small { result ≡ small → length room.old < written.new }
+    ensures kept { Refuses result → room.new ≡ room.old }
+{
+    onu_texts::explain_into(cell, alloc, port, frame, room, written)
+}
+
+/// Answers a script from a unit without any instance on, in a room.
+#[unsafe(no_mangle)]
+pub extern "C" fn onu_proved_replay(
+    alloc: Global,
+    script: &[u8],
+    room: &mut [u8],
+    written: &mut usize,
+    line: &mut u64,
+) -> i32
+    ensures { ReplaysInto script.now room.old room.new result written.new line.new }
+{
+    onu_texts::replay_into(alloc, script, room, written, line)
+}
+
+/// Judges a history, as JSON in a room.
+#[unsafe(no_mangle)]
+pub extern "C" fn onu_proved_judge(
+    alloc: Global,
+    history: &[u8],
+    flags: u32,
+    room: &mut [u8],
+    written: &mut usize,
+    line: &mut u64,
+) -> i32
+    ensures explained { result ≡ pos 1 → IsExplainedBy (settings_in flags) history.now }
+    ensures deviates { result ≡ pos 0 → DeviatesAt (settings_in flags) history.now line.new }
+    ensures bad { result ≡ bad_line → history_of history.now ≡ Err line.new }
+    ensures flags { settings_in flags ≡ None → result ≡ bad_flags }
+    ensures yes { result ≡ pos 1 → IsWrittenUpTo written.new room.old room.new }
+    ensures no { result ≡ pos 0 → IsWrittenUpTo written.new room.old room.new }
+    ensures small { result ≡ small → length room.old < written.new }
+    ensures kept { Refuses result → room.new ≡ room.old }
+{
+    onu_texts::judge_into(alloc, history, flags, room, written, line)
+}

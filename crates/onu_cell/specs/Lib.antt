@@ -1,0 +1,4 @@
+pub mod Full
+pub mod Holds
+pub mod Numbers
+pub mod Opening

@@ -1,0 +1,3 @@
+pub mod Judging
+pub mod Replaying
+pub mod Room

@@ -1,0 +1,23 @@
+-- A text in a room for it.
+use Rattle.std.specs.Prelude.{◌≡◌, ◌≤◌, ℕ, ℤ, negsuc, Bool, if◌then◌else◌, nat_le, List, ◌++◌, length, drop}
+use Rattle.onu_cell.specs.Numbers.{small}
+
+abbrev pub fits : List ℕ → List ℕ → Bool
+fits text room = nat_le (length text) (length room)
+
+-- the text stands at the front of a room that it fits, and what stood behind stays; another room stays whole
+abbrev pub room_with : List ℕ → List ℕ → List ℕ
+room_with text room = if fits text room then text ++ drop (length text) room else room
+
+-- what a call answers whose text may not fit
+abbrev pub fitting : ℤ → List ℕ → List ℕ → ℤ
+fitting number text room = if fits text room then number else small
+
+-- a room after a call: as it was but for a front of so many bytes
+pub record IsWrittenUpTo (written : ℕ) (room after : List ℕ) : Type 0 where
+  pub within : written ≤ length room
+  pub behind : drop written after ≡ drop written room
+
+-- the numbers of calls that leave the room as it was: the negative ones
+abbrev pub Refuses : ℤ → Type 0
+Refuses number = (n : ℕ) × (number ≡ negsuc n)

@@ -1,0 +1,183 @@
+/**
+ * @file onu.h
+ * @brief An optical network unit (ONU) in your process: it answers OMCI messages and forwards Ethernet frames upstream as ITU-T G.988
+ *        says, and judges what another unit was seen to do.
+ *
+ * Link `libonu.a` or `libonu.so`, which `./build-library` makes. The calls keep nothing but what stands in an ::onu, call no function of
+ * yours, open no file, start no thread and write to no stream. They take memory by `malloc` and `realloc` and give it back by `free`.
+ *
+ * @par Answers
+ * Every call but onu_version() answers by a number: 0 or more where it did what was asked, and less where it didn't. -1 to -4 are the
+ * faults of a message; the others are named here. A call that answers one of these leaves the unit as it was.
+ *
+ * @par Threads
+ * A cell is used by one thread at a time: two calls with one cell must not run at once, and what orders them must be a lock, a join or the
+ * like. Calls with different cells, and calls without one, may run at once.
+ *
+ * @par What the caller guarantees
+ * A pointer that isn't null points to as many bytes as the call says, and what it is written through overlaps nothing else that is
+ * passed to that call. No call is made from a signal handler, or in the child of a fork of a program with several threads. `malloc` and
+ * `realloc` align a block to 16 bytes, as the C standard asks.
+ *
+ * Bytes of messages and frames stand in the order of the line. Numbers in an ::onu_verdict have the byte order of the machine.
+ */
+#ifndef ONU_H
+#define ONU_H
+
+#include <stdbool.h>
+#include <stddef.h>
+#include <stdint.h>
+
+#ifdef __cplusplus
+extern "C" {
+#endif
+
+/** The cell isn't open. Nothing was read or written. */
+#define ONU_CLOSED (-16)
+/** The cell is open already. It stays as it was. */
+#define ONU_OPEN (-17)
+/** A pointer is null. Nothing was read or written. */
+#define ONU_NULL (-18)
+/** The room is too small. It stays as it was; `*written` is how many bytes it has to have. */
+#define ONU_SMALL (-19)
+/** A request for memory was refused. The unit and the room stay as they were. */
+#define ONU_NO_MEMORY (-20)
+/** A line is bad; `*line` is its number. */
+#define ONU_BAD_LINE (-21)
+/** A flag that has no meaning is set. Nothing was read or written. */
+#define ONU_FLAGS (-22)
+
+/** A flag of onu_judge(): contents of replies are compared only where their requests are on classes that the model has. */
+#define ONU_MODELLED 1u
+/** A flag of onu_judge(): each frame is judged by itself, since several lanes serve a port. */
+#define ONU_UNORDERED 2u
+
+/**
+ * @brief A cell in which a unit stands, or none.
+ *
+ * You own the cell: it may stand on the stack, in a struct or in an array. All its bytes are zero at first, as by #ONU_CELL. It may be
+ * moved by `memcpy` between calls, if the old bytes aren't used again: a copy that is used beside the first one breaks both. Its fields
+ * belong to the library.
+ */
+typedef struct onu {
+    bool full_;  /**< Not for you. */
+    void *unit_; /**< Not for you. */
+} onu;
+
+/** What a cell is at first: `onu cell = ONU_CELL;` */
+#define ONU_CELL { false, NULL }
+
+/**
+ * @brief What becomes of a frame, in numbers.
+ *
+ * A frame that leaves is the first 12 bytes of the frame that came in, then `count` tags, then the bytes of the frame that came in from
+ * `rest` on. Nothing of it is copied.
+ */
+typedef struct onu_verdict {
+    uint16_t gem;     /**< The port-ID of the GEM port by which the frame leaves; 0 where it is dropped. */
+    uint8_t reason;   /**< Why it is dropped, 1 to 9 (docs/FORMATS.md, "From a port to a GEM port"); 0 where it leaves. */
+    uint8_t count;    /**< How many tags it leaves with, at most 4. */
+    uint32_t tags[4]; /**< The tags, outermost first: TPID in the high 16 bits, then priority, DEI and VID. 0 behind the last. */
+    size_t rest;      /**< Where its rest begins in the bytes that came in, in bytes; 0 where it is dropped. */
+} onu_verdict;
+
+/**
+ * @brief Opens a cell: a unit without any managed entity but ONU data, with all the memory that it will need.
+ *
+ * No message and no frame takes memory later. Close the cell by onu_close().
+ *
+ * @param[in,out] cell  a cell that isn't open.
+ * @return 0; #ONU_OPEN, #ONU_NO_MEMORY (the cell stays closed) or #ONU_NULL.
+ */
+int32_t onu_open(onu *cell);
+
+/**
+ * @brief Closes a cell, and gives its unit's memory back. The cell may be opened again.
+ *
+ * @param[in,out] cell  an open cell.
+ * @return 0; #ONU_CLOSED or #ONU_NULL.
+ */
+int32_t onu_close(onu *cell);
+
+/**
+ * @brief Hands a message of the OMCI's baseline message set to the unit, and gets the reply.
+ *
+ * The request is carried out before the call returns: a frame that is forwarded next meets what it changed.
+ *
+ * @param[in,out] cell   an open cell.
+ * @param[in]     bytes  the message. It may be null where `n` is 0.
+ * @param[in]     n      how many bytes it has: 48, or 44 without the last four.
+ * @param[out]    reply  room for the 48 bytes of the reply. It is written only where 1 is returned.
+ * @return 1, and the reply is written; 0, the request wanted no answer and was carried out; or the message's fault, and nothing was
+ *         carried out: -1, neither 48 nor 44 bytes; -2, the destination bit is 1; -3, this is no request; -4, a device identifier other
+ *         than that of the baseline set. #ONU_CLOSED or #ONU_NULL.
+ */
+int32_t onu_message(onu *cell, const uint8_t *bytes, size_t n, uint8_t reply[48]);
+
+/**
+ * @brief Forwards an Ethernet frame upstream that comes in at a port.
+ *
+ * @param[in,out] cell     an open cell. Its managed entities stay as they are.
+ * @param[in]     port     the port, as the managed entities point to it.
+ * @param[in]     frame    the frame, from its destination address on, without a frame check sequence. It may be null where `n` is 0.
+ * @param[in]     n        how many bytes it has.
+ * @param[out]    verdict  what becomes of it.
+ * @return 1, it leaves; 0, it is dropped; #ONU_CLOSED or #ONU_NULL, and the verdict isn't written.
+ */
+int32_t onu_forward(onu *cell, uint16_t port, const uint8_t *frame, size_t n, onu_verdict *verdict);
+
+/**
+ * @brief Explains what becomes of a frame, step by step, as `onuctl explain --json` does (docs/FORMATS.md).
+ *
+ * @param[in,out] cell     an open cell. Its managed entities stay as they are.
+ * @param[in]     port     the port.
+ * @param[in]     frame    the frame. It may be null where `n` is 0.
+ * @param[in]     n        how many bytes it has.
+ * @param[out]    room     room for the text: JSON in UTF-8, no zero byte at its end. It may be null where `size` is 0.
+ * @param[in]     size     how many bytes the room has.
+ * @param[out]    written  how many bytes the text has, also with #ONU_SMALL.
+ * @return 0, and the text is in the room; #ONU_SMALL, #ONU_NO_MEMORY (`*written` is 0), #ONU_CLOSED or #ONU_NULL.
+ */
+int32_t onu_explain(onu *cell, uint16_t port, const uint8_t *frame, size_t n, uint8_t *room, size_t size, size_t *written);
+
+/**
+ * @brief Answers a script, line by line, from a unit of its own, as `onuctl replay` does (docs/FORMATS.md).
+ *
+ * @param[in]  script   the script. It may be null where `n` is 0.
+ * @param[in]  n        how many bytes it has.
+ * @param[out] room     room for the answers: three times as many bytes as the script, and 3, are enough. It may be null where `size` is 0.
+ * @param[in]  size     how many bytes the room has.
+ * @param[out] written  how many bytes the answers have, also with #ONU_SMALL.
+ * @param[out] line     the number, from 1, of the first bad line, also with #ONU_SMALL; 0 where no line is bad.
+ * @return 0, and the answers are in the room; #ONU_BAD_LINE, and the answers to the lines before it are in the room; #ONU_SMALL,
+ *         #ONU_NO_MEMORY (`*written` and `*line` are 0) or #ONU_NULL.
+ */
+int32_t onu_replay(const uint8_t *script, size_t n, uint8_t *room, size_t size, size_t *written, uint64_t *line);
+
+/**
+ * @brief Judges a history: whether a right unit may have behaved so. What is found is written as `onuctl judge --json` writes it
+ *        (docs/FORMATS.md).
+ *
+ * @param[in]  history  the history. It may be null where `n` is 0.
+ * @param[in]  n        how many bytes it has.
+ * @param[in]  flags    #ONU_MODELLED and #ONU_UNORDERED, or 0.
+ * @param[out] room     room for the text: JSON in UTF-8, no zero byte at its end. It may be null where `size` is 0.
+ * @param[in]  size     how many bytes the room has.
+ * @param[out] written  how many bytes the text has, also with #ONU_SMALL; 0 where there is none.
+ * @param[out] line     the number, from 1, of the first line that no right unit explains, also with #ONU_SMALL, or of the first bad
+ *                      line; else 0.
+ * @return 1, explained; 0, not; #ONU_BAD_LINE, #ONU_SMALL, #ONU_NO_MEMORY, #ONU_FLAGS or #ONU_NULL.
+ */
+int32_t onu_judge(const uint8_t *history, size_t n, uint32_t flags, uint8_t *room, size_t size, size_t *written, uint64_t *line);
+
+/**
+ * @brief The program's version, and what it was proved with.
+ * @return a string that stands for good, such as `onuctl 0.1.0, proved with rattle-kit-13b logic dac8208d650f15bf`.
+ */
+const char *onu_version(void);
+
+#ifdef __cplusplus
+}
+#endif
+
+#endif

@@ -1,0 +1,77 @@
+"""Whole texts: a script and its answers, a history and its judgement."""
+
+import ctypes
+import json
+from typing import Any, Dict, NamedTuple, Optional, Union
+
+from . import _library
+from ._library import BAD_LINE, NO_MEMORY
+
+
+class BadLine(Exception):
+    """A line of a text is bad. ``line`` is its number, from 1; of a script, ``answers`` are those to the lines before it."""
+
+    def __init__(self, line: int, answers: bytes = b"") -> None:
+        super().__init__("line %d is bad" % line)
+        self.line = line
+        self.answers = answers
+
+
+class Finding(NamedTuple):
+    """What a history shows: whether a right unit may have behaved so; if not, the first line that no right unit explains; and all of it, as
+    ``onuctl judge --json`` writes it (docs/FORMATS.md)."""
+
+    explained: bool
+    line: Optional[int]
+    details: Dict[str, Any]
+
+    def __str__(self) -> str:
+        if self.explained:
+            return "explained"
+        return "deviation at line %s: %s" % (self.line, json.dumps(self.details))
+
+
+def _bytes(text: Union[bytes, str]) -> bytes:
+    return text.encode() if isinstance(text, str) else text
+
+
+def replay(script: Union[bytes, str]) -> bytes:
+    """The answers to a script, line by line, from a unit of its own, as ``onuctl replay`` gives them. Raises :class:`BadLine`."""
+    script = _bytes(script)
+    line = ctypes.c_uint64()
+    numbers = []
+
+    def call(room: Any, size: int, written: ctypes.c_size_t) -> int:
+        numbers.append(_library.replay(script, len(script), room, size, written, line))
+        return numbers[-1]
+
+    answers = _library.in_room(call, 3 * len(script) + 1)
+    if numbers[-1] == NO_MEMORY:
+        raise MemoryError("no memory for a replay")
+    if numbers[-1] == BAD_LINE:
+        raise BadLine(line.value, answers)
+    return answers
+
+
+def judge(history: Union[bytes, str], *, modelled: bool = False, unordered: bool = False) -> Finding:
+    """Judges a history (docs/FORMATS.md, "Histories"): whether a right unit may have behaved so.
+
+    ``modelled`` compares the contents of replies only where their requests are on classes that the model has; ``unordered`` judges each
+    frame by itself. Raises :class:`BadLine`.
+    """
+    history = _bytes(history)
+    flags = (1 if modelled else 0) | (2 if unordered else 0)
+    line = ctypes.c_uint64()
+    numbers = []
+
+    def call(room: Any, size: int, written: ctypes.c_size_t) -> int:
+        numbers.append(_library.judge(history, len(history), flags, room, size, written, line))
+        return numbers[-1]
+
+    text = _library.in_room(call, 4096)
+    if numbers[-1] == NO_MEMORY:
+        raise MemoryError("no memory for a judgement")
+    if numbers[-1] == BAD_LINE:
+        raise BadLine(line.value)
+    explained = numbers[-1] == 1
+    return Finding(explained, None if explained else line.value, json.loads(text))

@@ -1,0 +1,145 @@
+"""A unit: it answers messages and forwards frames."""
+
+import ctypes
+import enum
+import json
+import struct
+from typing import Any, Dict, List, NamedTuple, NoReturn, Optional, Union
+
+from . import _library
+from ._library import CLOSED, Cell
+
+
+class Reason(enum.IntEnum):
+    """Why a frame is dropped, in the order in which the reasons are found (docs/FORMATS.md)."""
+
+    RUNT = 1
+    CUT_TAG = 2
+    NO_RULE = 3
+    RULE_DISCARD = 4
+    NO_MAPPER = 5
+    NULL_POINTER = 6
+    NO_INTERWORK = 7
+    NO_GEM = 8
+    DIRECTION = 9
+
+
+class Forwarded(NamedTuple):
+    """A frame that leaves: the port-ID of its GEM port, and its bytes then."""
+
+    gem: int
+    frame: bytes
+
+
+class Dropped(NamedTuple):
+    """A frame that is dropped, and why."""
+
+    reason: Reason
+
+
+class MessageFault(Exception):
+    """Bytes that are no request of the baseline message set; nothing was carried out. ``code`` is the number of the fault."""
+
+    WORDS = {
+        1: "neither 48 bytes nor 44",
+        2: "the destination bit is 1",
+        3: "the bit AK is 1: no request",
+        4: "a device identifier other than 0x0A",
+    }
+
+    def __init__(self, code: int) -> None:
+        super().__init__("message fault %d: %s" % (code, self.WORDS[code]))
+        self.code = code
+
+
+_DROPPED = [Dropped(reason) for reason in Reason]
+_Reply = ctypes.c_char * 48
+_Verdict = ctypes.c_char * _library.verdict.size
+_message = _library.message
+_forward = _library.forward
+_numbers = _library.verdict.unpack
+# The bytes of so many tags.
+_tags = [struct.Struct(">%dI" % count).pack for count in range(5)]
+
+
+class Unit:
+    """An optical network unit without any managed entity but ONU data, until messages create some.
+
+    It holds memory until it is closed; ``with Unit() as unit`` closes it at the end. A closed unit raises :class:`ValueError`. Threads may
+    share one: a call holds the interpreter's lock. A unit can't be copied.
+    """
+
+    __slots__ = ("_at", "_cell")
+
+    def __init__(self) -> None:
+        self._cell = Cell()
+        self._at = ctypes.byref(self._cell)
+        if _library.open_cell(self._at) != 0:
+            raise MemoryError("no memory for a unit")
+
+    def message(self, message: bytes) -> Optional[bytes]:
+        """Hands the unit an OMCI message of 48 bytes, or 44 without its last four, and returns its reply, 48 bytes, or None where the
+        message wants none. The request is carried out then. Raises :class:`MessageFault` where the bytes are no request."""
+        reply = _Reply()
+        number = _message(self._at, message, len(message), reply)
+        if number == 1:
+            return reply.raw
+        if number == 0:
+            return None
+        if number == CLOSED:
+            self._refuse()
+        raise MessageFault(-number)
+
+    def forward(self, port: int, frame: bytes) -> Union[Forwarded, Dropped]:
+        """Sends an Ethernet frame, from its destination address on and without a frame check sequence, into a port, and returns what
+        becomes of it."""
+        if not 0 <= port <= 0xFFFF:
+            raise ValueError("a port is a number from 0 to 65535, not %d" % port)
+        said = _Verdict()
+        number = _forward(self._at, port, frame, len(frame), said)
+        if number == 1:
+            numbers = _numbers(said)
+            count = numbers[2]
+            return Forwarded(numbers[0], frame[:12] + _tags[count](*numbers[3 : 3 + count]) + frame[numbers[7] :])
+        if number == 0:
+            return _DROPPED[_numbers(said)[1] - 1]
+        self._refuse()
+
+    def explain(self, port: int, frame: bytes) -> List[Dict[str, Any]]:
+        """Why a frame that is sent into a port goes where it goes, step by step, as ``onuctl explain --json`` writes it: the last step is
+        the verdict. Nothing changes."""
+        if not 0 <= port <= 0xFFFF:
+            raise ValueError("a port is a number from 0 to 65535, not %d" % port)
+        numbers = []
+
+        def call(room: Any, size: int, written: ctypes.c_size_t) -> int:
+            numbers.append(_library.explain(self._at, port, frame, len(frame), room, size, written))
+            return numbers[-1]
+
+        text = _library.in_room(call, 16384)
+        if numbers[-1] == CLOSED:
+            self._refuse()
+        if numbers[-1] != 0:
+            raise MemoryError("no memory for an explanation")
+        return json.loads(text)
+
+    def close(self) -> None:
+        """Gives the unit's memory back. A closed unit stays closed."""
+        _library.close_cell(self._at)
+
+    def __enter__(self) -> "Unit":
+        return self
+
+    def __exit__(self, *exception: object) -> None:
+        self.close()
+
+    def __del__(self) -> None:
+        if hasattr(self, "_at"):
+            self.close()
+
+    def __reduce__(self) -> NoReturn:
+        raise TypeError("a unit can't be copied")
+
+    @staticmethod
+    def _refuse() -> NoReturn:
+        raise ValueError("the unit is closed")

@@ -1,0 +1,533 @@
+/*
+ * The library from C: each call once on its happy path and once for each number that it answers, and all again with each request for memory
+ * refused in turn. What is expected is typed from docs/FORMATS.md.
+ *
+ * It is linked with -Wl,--wrap=malloc,--wrap=realloc,--wrap=free, so that the library's requests for memory come here first.
+ */
+#include "onu.h"
+
+#include <stdio.h>
+#include <stdlib.h>
+#include <string.h>
+
+#define CHECK(holds) check((holds), #holds, __LINE__)
+
+static unsigned checked, failed;
+
+static void check(bool holds, const char *text, int line) {
+    checked++;
+    if (holds)
+        return;
+    failed++;
+    printf("FAILED: library_test.c:%d: %s\n", line, text);
+}
+
+/* ---- memory: the request of the number `refused`, from 1, is refused; `blocks` are held */
+
+static unsigned long requests, refused;
+static long blocks;
+
+void *__real_malloc(size_t size);
+void *__real_realloc(void *block, size_t size);
+void __real_free(void *block);
+void *__wrap_malloc(size_t size);
+void *__wrap_realloc(void *block, size_t size);
+void __wrap_free(void *block);
+
+void *__wrap_malloc(size_t size) {
+    void *block = ++requests == refused ? NULL : __real_malloc(size);
+    blocks += block != NULL;
+    return block;
+}
+
+void *__wrap_realloc(void *block, size_t size) {
+    return ++requests == refused ? NULL : __real_realloc(block, size);
+}
+
+void __wrap_free(void *block) {
+    blocks -= block != NULL;
+    __real_free(block);
+}
+
+/* Counts requests anew, and refuses one of them, or none with 0. */
+static void refuse(unsigned long number) {
+    requests = 0;
+    refused = number;
+}
+
+/* ---- bytes by their hexadecimal digits */
+
+static uint8_t bytes[20000];
+
+static size_t put_hex(const char *digits, uint8_t *room) {
+    size_t n = 0;
+    while (*digits != 0) {
+        char pair[3] = {digits[0], digits[1], 0};
+        if (*digits == ' ') {
+            digits++;
+            continue;
+        }
+        room[n++] = (uint8_t)strtoul(pair, NULL, 16);
+        digits += 2;
+    }
+    return n;
+}
+
+/* A message of 48 bytes: these, zeros up to byte 40, and a trailer. */
+static const uint8_t *message_of(const char *digits) {
+    memset(bytes, 0, 48);
+    put_hex(digits, bytes);
+    bytes[43] = 0x28;
+    return bytes;
+}
+
+static bool are_hex(const uint8_t *room, size_t n, const char *digits) {
+    uint8_t expected[20000];
+    return put_hex(digits, expected) == n && memcmp(room, expected, n) == 0;
+}
+
+/* ---- what is sent */
+
+#define AD "020000000001020000000002"
+#define U AD "08004500"
+
+/* Create a GEM port, an interworking point, a mapper of port 257 and its table. */
+static const char *const set_up[] = {
+    "0001440a010c0401 0400 8001 03 00",
+    "0002440a010a0501 0401 05 0601",
+    "0003440a00820601 0101 0501050105010501 0501050105010501 01 0001",
+    "0004440a00ab0701 02 0101",
+};
+
+/* Entries of the table: no tag becomes VID 100; VID 100 becomes VID 200. */
+#define TO_100 "0005480a00ab0701 0400 f8000000f8000000 000f000000000324"
+#define TO_200 "0006480a00ab0701 0400 f800000080320000 400f000000080644"
+
+/* The digits of a message and of its trailer, as a line of a script or of a history spells them. */
+static void put_line(char *text, const char *front, const char *digits) {
+    char line[128];
+    size_t n = 0;
+    for (; *digits != 0; digits++)
+        if (*digits != ' ')
+            line[n++] = *digits;
+    while (n < 80)
+        line[n++] = '0';
+    line[n] = 0;
+    sprintf(text + strlen(text), "%s %s0000002800000000\n", front, line);
+}
+
+/* The number that a message is answered by, with the digits of the reply if there is one. */
+static int32_t send_message(onu *cell, const char *digits, const char *reply) {
+    uint8_t room[48 + 2];
+    memset(room, 0xee, sizeof room);
+    int32_t number = onu_message(cell, message_of(digits), 48, room + 1);
+    CHECK(room[0] == 0xee && room[49] == 0xee);
+    if (number == 1 && reply != NULL) {
+        CHECK(memcmp(room + 1, message_of(reply), 48) == 0);
+    } else if (number != 1) {
+        for (int i = 0; i < 50; i++)
+            CHECK(room[i] == 0xee);
+    }
+    return number;
+}
+
+static void open_set_up(onu *cell) {
+    static const char *const replies[] = {"0001240a010c0401", "0002240a010a0501", "0003240a00820601", "0004240a00ab0701"};
+    CHECK(onu_open(cell) == 0);
+    for (int i = 0; i < 4; i++)
+        CHECK(send_message(cell, set_up[i], replies[i]) == 1);
+}
+
+/* Whether a frame leaves port 257 by GEM port 1024 with these bytes. */
+static bool leaves(onu *cell, const char *digits, const char *leaving) {
+    uint8_t frame[2000], left[2000];
+    size_t n = put_hex(digits, frame), m = 12;
+    onu_verdict said;
+    if (onu_forward(cell, 257, frame, n, &said) != 1 || said.gem != 1024 || said.reason != 0 || said.count > 4 || said.rest > n)
+        return false;
+    memcpy(left, frame, 12);
+    for (int i = 0; i < said.count; i++)
+        for (int shift = 24; shift >= 0; shift -= 8)
+            left[m++] = (uint8_t)(said.tags[i] >> shift);
+    for (int i = said.count; i < 4; i++)
+        if (said.tags[i] != 0)
+            return false;
+    memcpy(left + m, frame + said.rest, n - said.rest);
+    return are_hex(left, m + n - said.rest, leaving);
+}
+
+/* The reason for which a frame into port 257 is dropped; 0 where it leaves. */
+static int dropped(onu *cell, const char *digits) {
+    uint8_t frame[2000];
+    size_t n = put_hex(digits, frame);
+    onu_verdict said;
+    if (onu_forward(cell, 257, frame, n, &said) != 0)
+        return 0;
+    CHECK(said.gem == 0 && said.count == 0 && said.rest == 0 && said.tags[0] == 0 && said.tags[3] == 0);
+    return said.reason;
+}
+
+/* ---- tests */
+
+static void null_pointers_are_answered(void) {
+    onu cell = ONU_CELL;
+    uint8_t room[64] = {0};
+    size_t written = 7;
+    uint64_t line = 7;
+    onu_verdict said;
+    CHECK(onu_open(NULL) == ONU_NULL && onu_close(NULL) == ONU_NULL);
+    CHECK(onu_open(&cell) == 0);
+    CHECK(onu_message(NULL, room, 48, room) == ONU_NULL);
+    CHECK(onu_message(&cell, NULL, 48, room) == ONU_NULL);
+    CHECK(onu_message(&cell, room, 48, NULL) == ONU_NULL);
+    CHECK(onu_forward(NULL, 257, room, 14, &said) == ONU_NULL);
+    CHECK(onu_forward(&cell, 257, NULL, 14, &said) == ONU_NULL);
+    CHECK(onu_forward(&cell, 257, room, 14, NULL) == ONU_NULL);
+    CHECK(onu_explain(NULL, 257, room, 14, room + 20, 9, &written) == ONU_NULL);
+    CHECK(onu_explain(&cell, 257, NULL, 14, room + 20, 9, &written) == ONU_NULL);
+    CHECK(onu_explain(&cell, 257, room, 14, NULL, 9, &written) == ONU_NULL);
+    CHECK(onu_explain(&cell, 257, room, 14, room + 20, 9, NULL) == ONU_NULL);
+    CHECK(onu_replay(NULL, 9, room, 64, &written, &line) == ONU_NULL);
+    CHECK(onu_replay(room, 9, NULL, 64, &written, &line) == ONU_NULL);
+    CHECK(onu_replay(room, 9, room + 20, 40, NULL, &line) == ONU_NULL);
+    CHECK(onu_replay(room, 9, room + 20, 40, &written, NULL) == ONU_NULL);
+    CHECK(onu_judge(NULL, 9, 0, room, 64, &written, &line) == ONU_NULL);
+    CHECK(onu_judge(room, 9, 0, NULL, 64, &written, &line) == ONU_NULL);
+    CHECK(onu_judge(room, 9, 0, room + 20, 40, NULL, &line) == ONU_NULL);
+    CHECK(onu_judge(room, 9, 0, room + 20, 40, &written, NULL) == ONU_NULL);
+    CHECK(written == 7 && line == 7);
+    for (size_t i = 0; i < sizeof room; i++)
+        CHECK(room[i] == 0);
+    CHECK(onu_close(&cell) == 0);
+}
+
+/* No bytes have no address: an empty message, frame, script and history, and a room of no bytes. */
+static void no_bytes_may_be_null(void) {
+    onu cell = ONU_CELL;
+    uint8_t room[400];
+    size_t written = 0;
+    uint64_t line = 7;
+    onu_verdict said;
+    CHECK(onu_open(&cell) == 0);
+    CHECK(onu_message(&cell, NULL, 0, room) == -1);
+    CHECK(onu_forward(&cell, 257, NULL, 0, &said) == 0 && said.reason == 1);
+    CHECK(onu_explain(&cell, 257, NULL, 0, NULL, 0, &written) == ONU_SMALL && written > 0);
+    CHECK(onu_replay(NULL, 0, NULL, 0, &written, &line) == 0 && written == 0 && line == 0);
+    CHECK(onu_judge(NULL, 0, 0, room, sizeof room, &written, &line) == 1 && line == 0);
+    CHECK(onu_close(&cell) == 0);
+}
+
+static void a_closed_cell_is_answered(void) {
+    onu cell = ONU_CELL;
+    uint8_t room[64];
+    size_t written = 7;
+    onu_verdict said;
+    for (int round = 0; round < 2; round++) {
+        memset(room, 0xee, sizeof room);
+        memset(&said, 0xee, sizeof said);
+        CHECK(onu_close(&cell) == ONU_CLOSED);
+        CHECK(onu_message(&cell, message_of(set_up[0]), 48, room) == ONU_CLOSED);
+        CHECK(onu_forward(&cell, 257, bytes, 48, &said) == ONU_CLOSED);
+        CHECK(onu_explain(&cell, 257, bytes, 48, room, sizeof room, &written) == ONU_CLOSED);
+        CHECK(written == 7 && room[0] == 0xee && room[63] == 0xee && said.gem == 0xeeee && said.rest == (size_t)0xeeeeeeeeeeeeeeeeu);
+        /* And once more behind a unit. */
+        if (round == 0)
+            CHECK(onu_open(&cell) == 0 && onu_close(&cell) == 0);
+    }
+}
+
+static void a_cell_is_opened_once(void) {
+    onu cell = ONU_CELL;
+    open_set_up(&cell);
+    CHECK(onu_open(&cell) == ONU_OPEN);
+    CHECK(leaves(&cell, U, U));
+    CHECK(onu_close(&cell) == 0);
+    /* What is opened again is new: the port has no mapper. */
+    CHECK(onu_open(&cell) == 0);
+    CHECK(dropped(&cell, U) == 5);
+    CHECK(onu_close(&cell) == 0);
+}
+
+static void messages_are_answered(void) {
+    onu cell = ONU_CELL;
+    uint8_t reply[48];
+    open_set_up(&cell);
+    /* It exists: result 7. The sync, attribute 1 of ONU data: four were accepted. */
+    CHECK(send_message(&cell, set_up[0], "0001240a010c0401 07") == 1);
+    CHECK(send_message(&cell, "0009490a00020000 8000", "0009290a00020000 00 8000 04") == 1);
+    /* 44 bytes are a message as well, and are answered by 48. */
+    memset(reply, 0xee, sizeof reply);
+    CHECK(onu_message(&cell, message_of("0009490a00020000 8000"), 44, reply) == 1);
+    CHECK(memcmp(reply, message_of("0009290a00020000 00 8000 04"), 48) == 0);
+    /* No answer is wanted, and the request is carried out: the sync is 5 then. */
+    CHECK(send_message(&cell, "0005080a00ab0701 0400 f8000000f8000000 000f000000000324", NULL) == 0);
+    CHECK(send_message(&cell, "0009490a00020000 8000", "0009290a00020000 00 8000 05") == 1);
+    CHECK(leaves(&cell, U, AD "81000064 08004500"));
+    /* Faults, of which none is carried out. */
+    CHECK(onu_message(&cell, message_of(set_up[0]), 47, reply) == -1);
+    CHECK(send_message(&cell, "0001c40a010c0402", NULL) == -2);
+    CHECK(send_message(&cell, "0001640a010c0402", NULL) == -3);
+    CHECK(send_message(&cell, "0001440b010c0402", NULL) == -4);
+    CHECK(send_message(&cell, "0009490a00020000 8000", "0009290a00020000 00 8000 05") == 1);
+    CHECK(onu_close(&cell) == 0);
+}
+
+static void frames_are_forwarded(void) {
+    onu cell = ONU_CELL;
+    open_set_up(&cell);
+    /* By the entries that a new table has, each frame leaves as it came. */
+    CHECK(leaves(&cell, U, U));
+    CHECK(leaves(&cell, AD "8100a064 08004500", AD "8100a064 08004500"));
+    CHECK(leaves(&cell, AD "88a80064 810000c8 08004500", AD "88a80064 810000c8 08004500"));
+    CHECK(leaves(&cell, AD "0800", AD "0800"));
+    CHECK(dropped(&cell, AD "08") == 1);
+    CHECK(dropped(&cell, AD "8100") == 2 && dropped(&cell, AD "81000064 8100") == 2);
+    /* A tag is added, and one takes the place of another. */
+    CHECK(send_message(&cell, TO_100, "0005280a00ab0701") == 1);
+    CHECK(leaves(&cell, U, AD "81000064 08004500"));
+    CHECK(send_message(&cell, TO_200, "0006280a00ab0701") == 1);
+    CHECK(leaves(&cell, AD "8100a064 08004500", AD "8100a0c8 08004500"));
+    /* Both tags go, and what looks like a third belongs to the rest. */
+    CHECK(send_message(&cell, "0007480a00ab0701 0400 8800000088000000 800f0000000f0000", "0007280a00ab0701") == 1);
+    CHECK(leaves(&cell, AD "88a80064 810000c8 8100e12c 08004500", AD "8100e12c 08004500"));
+    /* The discarding entry for two tags, and then no entry for them. */
+    CHECK(send_message(&cell, "0008480a00ab0701 0400 8800000088000000 ffffffffffffffff", "0008280a00ab0701") == 1);
+    CHECK(send_message(&cell, "0009480a00ab0701 0400 e0000000e0000000 c00f0000000f0000", "0009280a00ab0701") == 1);
+    CHECK(dropped(&cell, AD "88a80064 810000c8 08004500") == 4);
+    CHECK(send_message(&cell, "000a480a00ab0701 0400 e0000000e0000000 ffffffffffffffff", "000a280a00ab0701") == 1);
+    CHECK(dropped(&cell, AD "88a80064 810000c8 08004500") == 3);
+    /* Another port has no table and no mapper. */
+    onu_verdict said;
+    size_t n = put_hex(U, bytes);
+    CHECK(onu_forward(&cell, 258, bytes, n, &said) == 0 && said.reason == 5);
+    CHECK(onu_close(&cell) == 0);
+}
+
+static void a_frame_is_explained(void) {
+    static uint8_t room[8192], other[8192];
+    onu cell = ONU_CELL;
+    size_t written = 0, needed = 0;
+    open_set_up(&cell);
+    CHECK(send_message(&cell, TO_100, NULL) == 1);
+    size_t n = put_hex(U, bytes);
+    memset(room, 0xee, sizeof room);
+    CHECK(onu_explain(&cell, 257, bytes, n, room, sizeof room - 1, &written) == 0 && written < sizeof room - 1);
+    CHECK(room[written] == 0xee);
+    room[written] = 0;
+    CHECK(strstr((char *)room, "\"step\":\"table\"") != NULL);
+    CHECK(strstr((char *)room, "\"line\":\"g 1024 " AD "8100006408004500\"") != NULL);
+    /* In a room of just its size, and in one that is a byte too small. */
+    memset(other, 0xee, sizeof other);
+    CHECK(onu_explain(&cell, 257, bytes, n, other, written, &needed) == 0 && needed == written);
+    CHECK(memcmp(other, room, written) == 0 && other[written] == 0xee);
+    memset(other, 0xee, sizeof other);
+    CHECK(onu_explain(&cell, 257, bytes, n, other, written - 1, &needed) == ONU_SMALL && needed == written);
+    for (size_t i = 0; i <= written; i++)
+        CHECK(other[i] == 0xee);
+    CHECK(leaves(&cell, U, AD "81000064 08004500"));
+    CHECK(onu_close(&cell) == 0);
+}
+
+/* A script with its answers, as docs/FORMATS.md has them. */
+static void put_script(char *script, char *answers) {
+    static const char *const replies[] = {"0001240a010c0401", "0002240a010a0501", "0003240a00820601", "0004240a00ab0701"};
+    script[0] = answers[0] = 0;
+    for (int i = 0; i < 4; i++) {
+        put_line(script, "o", set_up[i]);
+        put_line(answers, "r", replies[i]);
+    }
+    put_line(script, "o", "0005080a00ab0701 0400 f8000000f8000000 000f000000000324");
+    strcat(answers, "-\n");
+    strcat(script, "f 257 " U "\nf 258 " U "\n# nothing\n");
+    strcat(answers, "g 1024 " AD "8100006408004500\nd 5\n");
+}
+
+static void a_script_is_answered(void) {
+    static char script[4096], answers[4096];
+    static uint8_t room[4096];
+    size_t written = 0;
+    uint64_t line = 7;
+    put_script(script, answers);
+    size_t n = strlen(answers);
+    memset(room, 0xee, sizeof room);
+    CHECK(onu_replay((uint8_t *)script, strlen(script), room, n, &written, &line) == 0);
+    CHECK(written == n && line == 0 && memcmp(room, answers, n) == 0 && room[n] == 0xee);
+    memset(room, 0xee, sizeof room);
+    CHECK(onu_replay((uint8_t *)script, strlen(script), room, n - 1, &written, &line) == ONU_SMALL && written == n && line == 0);
+    for (size_t i = 0; i <= n; i++)
+        CHECK(room[i] == 0xee);
+    /* A bad line: the answers to those before it are there. */
+    strcat(script, "x\nf 257 " U "\n");
+    CHECK(onu_replay((uint8_t *)script, strlen(script), room, sizeof room, &written, &line) == ONU_BAD_LINE);
+    CHECK(line == 9 && written == n && memcmp(room, answers, n) == 0 && room[n] == 0xee);
+    CHECK(onu_replay((uint8_t *)script, strlen(script), room, n - 1, &written, &line) == ONU_SMALL && line == 9);
+}
+
+/* The set-up with its replies, and then a table that is filled while frames are sent. */
+static void put_history(char *history, const char *seen) {
+    static const char *const replies[] = {"0001240a010c0401", "0002240a010a0501", "0003240a00820601", "0004240a00ab0701"};
+    history[0] = 0;
+    for (int i = 0; i < 4; i++) {
+        put_line(history, "o", set_up[i]);
+        put_line(history, "r", replies[i]);
+    }
+    put_line(history, "o", TO_100);
+    strcat(history, "f 257 " U "\nf 257 " U "\n");
+    strcat(history, seen);
+}
+
+/* Whether a text is another but for white space. */
+static bool says(const uint8_t *text, size_t n, const char *expected) {
+    for (size_t i = 0; i < n; i++)
+        if (text[i] != '\n' && text[i] != ' ' && text[i] != (uint8_t)*expected++)
+            return false;
+    return *expected == 0;
+}
+
+static void a_history_is_judged(void) {
+    static char history[4096];
+    static uint8_t room[4096];
+    size_t written = 0, needed = 0;
+    uint64_t line = 7;
+    CHECK(onu_judge(bytes, 0, 0, room, sizeof room, &written, &line) == 1 && line == 0);
+    CHECK(says(room, written, "{\"explained\":true,\"messages\":0,\"accepted\":0,\"replies\":0,"
+                              "\"frames\":{\"forwarded\":0,\"dropped\":0,\"open\":0},\"versions\":[]}"));
+    /* The first frame has the new tag, and the second hasn't: no right unit goes back. */
+    put_history(history, "g 0 1024 " AD "8100006408004500\ng 1 1024 " U "\n");
+    memset(room, 0xee, sizeof room);
+    CHECK(onu_judge((uint8_t *)history, strlen(history), 0, room, sizeof room, &written, &line) == 0 && line == 13);
+    CHECK(says(room, written, "{\"explained\":false,\"line\":13,\"frame\":{\"number\":1,\"port\":257,\"sent_line\":11,"
+                              "\"seen\":{\"gem\":1024,\"frame\":\"" U "\"},\"at_least\":5,\"at_most\":5,\"versions\":["
+                              "{\"from\":5,\"to\":5,\"gem\":1024,\"frame\":\"" AD "8100006408004500\"}]}}"));
+    CHECK(room[written] == 0xee);
+    memset(room, 0xee, sizeof room);
+    CHECK(onu_judge((uint8_t *)history, strlen(history), 0, room, written - 1, &needed, &line) == ONU_SMALL && line == 13);
+    CHECK(needed == written && room[0] == 0xee && room[written - 1] == 0xee);
+    /* Each frame by itself, it is right. */
+    CHECK(onu_judge((uint8_t *)history, strlen(history), ONU_UNORDERED, room, sizeof room, &written, &line) == 1 && line == 0);
+    needed = line = 7;
+    CHECK(onu_judge((uint8_t *)history, strlen(history), 4, room, sizeof room, &needed, &line) == ONU_FLAGS && needed == 7 && line == 7);
+    /* A class that the model has not: its reply is compared but where asked for modelled classes alone. */
+    history[0] = 0;
+    put_line(history, "o", "0001440a002d0001");
+    put_line(history, "r", "0001240a002d0001");
+    CHECK(onu_judge((uint8_t *)history, strlen(history), 0, room, sizeof room, &written, &line) == 0 && line == 2);
+    CHECK(onu_judge((uint8_t *)history, strlen(history), ONU_MODELLED, room, sizeof room, &written, &line) == 1 && line == 0);
+    /* A frame that nobody sent. */
+    strcpy(history, "# nothing\ng 0 1 00\n");
+    CHECK(onu_judge((uint8_t *)history, strlen(history), 0, room, sizeof room, &written, &line) == ONU_BAD_LINE && line == 2 && written == 0);
+}
+
+static void units_are_alone(void) {
+    enum { UNITS = 1000 };
+    static onu cells[UNITS];
+    for (int i = 0; i < UNITS; i++)
+        CHECK(onu_open(&cells[i]) == 0);
+    for (int i = 0; i < 4; i++)
+        CHECK(send_message(&cells[500], set_up[i], NULL) == 1);
+    CHECK(leaves(&cells[500], U, U) && dropped(&cells[499], U) == 5 && dropped(&cells[501], U) == 5);
+    /* A cell may be moved. */
+    onu moved;
+    memcpy(&moved, &cells[500], sizeof moved);
+    CHECK(leaves(&moved, U, U));
+    memcpy(&cells[500], &moved, sizeof moved);
+    for (int i = 0; i < UNITS; i++)
+        CHECK(onu_close(&cells[i]) == 0);
+}
+
+/* A cell is closed, whatever was refused while it was opened; then it is opened and set up. The requests that opening makes. */
+static void memory_for_a_unit_is_refused(void) {
+    unsigned long number = 0;
+    int32_t answer;
+    do {
+        onu cell = ONU_CELL;
+        refuse(++number);
+        answer = onu_open(&cell);
+        refuse(0);
+        CHECK(answer == 0 || answer == ONU_NO_MEMORY);
+        CHECK(onu_close(&cell) == (answer == 0 ? 0 : ONU_CLOSED));
+        CHECK(blocks == 0);
+    } while (answer == ONU_NO_MEMORY);
+    CHECK(number > 10);
+    printf("opening a unit makes %lu requests for memory\n", number - 1);
+}
+
+/* No message and no frame asks for memory. */
+static void messages_and_frames_take_no_memory(void) {
+    onu cell = ONU_CELL;
+    CHECK(onu_open(&cell) == 0);
+    refuse(1);
+    for (int i = 0; i < 4; i++)
+        CHECK(send_message(&cell, set_up[i], NULL) == 1);
+    CHECK(send_message(&cell, TO_100, NULL) == 1 && leaves(&cell, U, AD "81000064 08004500"));
+    CHECK(send_message(&cell, "00014d0a00020000", NULL) == 1 && send_message(&cell, "00014e0a00020000", NULL) == 1);
+    CHECK(send_message(&cell, "00014f0a00020000", NULL) == 1 && dropped(&cell, U) == 5);
+    CHECK(requests == 0);
+    refuse(0);
+    CHECK(onu_close(&cell) == 0 && blocks == 0);
+}
+
+static void memory_for_an_explanation_is_refused(void) {
+    static uint8_t room[8192];
+    onu cell = ONU_CELL;
+    unsigned long number = 0;
+    int32_t answer;
+    open_set_up(&cell);
+    long held = blocks;
+    size_t n = put_hex(U, bytes);
+    do {
+        size_t written = 7;
+        memset(room, 0xee, sizeof room);
+        refuse(++number);
+        answer = onu_explain(&cell, 257, bytes, n, room, sizeof room, &written);
+        refuse(0);
+        CHECK(answer == 0 || (answer == ONU_NO_MEMORY && written == 0 && room[0] == 0xee));
+        CHECK(blocks == held);
+    } while (answer != 0);
+    CHECK(number > 3 && leaves(&cell, U, U));
+    CHECK(onu_close(&cell) == 0 && blocks == 0);
+}
+
+static void memory_for_texts_is_refused(void) {
+    static char script[4096], answers[4096], history[4096];
+    static uint8_t room[4096];
+    put_script(script, answers);
+    put_history(history, "g 0 1024 " AD "8100006408004500\ng 1 1024 " U "\n");
+    for (int judges = 0; judges < 2; judges++) {
+        unsigned long number = 0;
+        int32_t answer;
+        do {
+            size_t written = 7;
+            uint64_t line = 7;
+            memset(room, 0xee, sizeof room);
+            refuse(++number);
+            answer = judges ? onu_judge((uint8_t *)history, strlen(history), 0, room, sizeof room, &written, &line)
+                            : onu_replay((uint8_t *)script, strlen(script), room, sizeof room, &written, &line);
+            refuse(0);
+            CHECK(answer == 0 || (answer == ONU_NO_MEMORY && written == 0 && line == 0 && room[0] == 0xee));
+            CHECK(blocks == 0);
+        } while (answer != 0);
+        CHECK(number > 10);
+    }
+}
+
+int main(void) {
+    CHECK(strncmp(onu_version(), "onuctl ", 7) == 0 && strstr(onu_version(), ", proved with rattle-kit") != NULL);
+    null_pointers_are_answered();
+    no_bytes_may_be_null();
+    a_closed_cell_is_answered();
+    a_cell_is_opened_once();
+    messages_are_answered();
+    frames_are_forwarded();
+    a_frame_is_explained();
+    a_script_is_answered();
+    a_history_is_judged();
+    units_are_alone();
+    CHECK(blocks == 0);
+    memory_for_a_unit_is_refused();
+    messages_and_frames_take_no_memory();
+    memory_for_an_explanation_is_refused();
+    memory_for_texts_is_refused();
+    printf("%u checks, %u failed\n", checked, failed);
+    return failed != 0;
+}
