@@ -75,7 +75,7 @@ typedef struct onu {
  */
 typedef struct onu_verdict {
     uint16_t gem;     /**< The port-ID of the GEM port by which the frame leaves; 0 where it is dropped. */
-    uint8_t reason;   /**< Why it is dropped, 1 to 9 (docs/FORMATS.md, "From a port to a GEM port"); 0 where it leaves. */
+    uint8_t reason;   /**< Why it is dropped, 1 to 9 (docs/RULES.md, "From a port to a GEM port"); 0 where it leaves. */
     uint8_t count;    /**< How many tags it leaves with, at most 4. */
     uint32_t tags[4]; /**< The tags, outermost first: TPID in the high 16 bits, then priority, DEI and VID. 0 behind the last. */
     size_t rest;      /**< Where its rest begins in the bytes that came in, in bytes; 0 where it is dropped. */

@@ -11,7 +11,7 @@ from ._library import CLOSED, Cell
 
 
 class Reason(enum.IntEnum):
-    """Why a frame is dropped, in the order in which the reasons are found (docs/FORMATS.md)."""
+    """Why a frame is dropped, in the order in which the reasons are found (docs/RULES.md)."""
 
     RUNT = 1
     CUT_TAG = 2

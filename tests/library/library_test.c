@@ -1,6 +1,6 @@
 /*
  * The library from C: each call once on its happy path and once for each number that it answers, and all again with each request for memory
- * refused in turn. What is expected is typed from docs/FORMATS.md.
+ * refused in turn. What is expected is typed from docs/RULES.md and docs/FORMATS.md.
  *
  * It is linked with -Wl,--wrap=malloc,--wrap=realloc,--wrap=free, so that the library's requests for memory come here first.
  */

@@ -1,4 +1,4 @@
-"""The Python package: each call on its happy path, and each way to fail. What is expected is typed from docs/FORMATS.md."""
+"""The Python package: each call on its happy path, and each way to fail. What is expected is typed from docs/RULES.md and docs/FORMATS.md."""
 
 import copy
 import pickle
