@@ -22,7 +22,7 @@ number_append HighFirst xs ys h = big_from-append 4 xs ys h
 number_append LowFirst xs ys h = little_from-append 4 xs ys h
 
 -- the number behind k bytes
-number_behind : (k : ℕ) (order : Order) (xs ys : List ℕ) → k + 4 ≤ length xs → number_in order (drop k (xs ++ ys)) ≡ number_in order (drop k xs)
+pub number_behind : (k : ℕ) (order : Order) (xs ys : List ℕ) → k + 4 ≤ length xs → number_in order (drop k (xs ++ ys)) ≡ number_in order (drop k xs)
 number_behind k order xs ys h =
     ap (λ (bytes : List ℕ). number_in order bytes) (drop-append-le k xs ys (omega (arith, h)))
     ∙ number_append order (drop k xs) ys (simp length-drop (omega (arith, h)))
@@ -103,12 +103,12 @@ no_fault true fault later is = absurd (cc)
 no_fault false fault later is = (refl, is)
 
 -- a whole record stores what its 16 bytes say, and no more than it may
-record IsWhole (order : Order) (bytes : List ℕ) : Type 0 where
+pub record IsWhole (order : Order) (bytes : List ℕ) : Type 0 where
   pub long : 16 ≤ length bytes
   pub fits : stored_length order bytes ≤ 262144
   pub all : stored_length order bytes ≤ length (drop 16 bytes)
 
-whole_sizes : (order : Order) (bytes : List ℕ) → record_fault order bytes ≡ None → IsWhole order bytes
+pub whole_sizes : (order : Order) (bytes : List ℕ) → record_fault order bytes ≡ None → IsWhole order bytes
 whole_sizes order bytes whole =
     let a = no_fault _ _ _ whole in
     let b = no_fault _ _ _ a.1 in

@@ -8,6 +8,7 @@ mod forwarding;
 mod judge_progress;
 mod judging;
 mod looking;
+mod pieces;
 mod recording;
 mod running;
 
@@ -20,6 +21,7 @@ use recording::record;
 use running::run;
 use script_replay::{replay, report_replay};
 use std::alloc::{AllocError, Global};
+use std::fs::File;
 use std::io::{ErrorKind, IsTerminal, Read, Write};
 use std::process::ExitCode;
 use std::rt::{Clock, Env, Files};
@@ -57,7 +59,7 @@ fn without_words<E: Write>(error: &io::Error, err: &mut E) -> ExitCode {
 
 /// Does what the words ask for, and gives the status.
 fn answer<
-    R: Files + Alloc<A = Global> + Threads + Wait + Clock + Sync,
+    R: Files<File = File> + Alloc<A = Global> + Threads + Wait + Clock + Sync,
     I: Read,
     O: Write,
     E: Write + IsTerminal + Send,

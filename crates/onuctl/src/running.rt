@@ -1,12 +1,20 @@
 //! A run over two files.
-use crate::captures::{Naming, cut_frames, explain_fault, packets_of, report_capture, report_cut};
+use crate::captures::{
+    Naming, cut_frames, cut_in_file, explain_fault, packets_of, report_capture, report_cut,
+};
 use crate::files::{read_whole, report_unread};
+use crate::pieces::read_pieces;
 use bench_capture::{CaptureFault, FrameFault};
 use bench_pcapng::is_pcapng;
+use capture_pieces::Pieces;
 use command_line::RunWords;
-use run_capture::{RunFault, report_run, run_frames, run_frames_shown, run_over, run_over_shown};
+use run_capture::{
+    RunFault, report_run, run_frames, run_frames_shown, run_over, run_over_shown, run_pieces,
+    run_pieces_shown,
+};
 use run_trace::{TraceFault, read_requests};
 use std::alloc::Global;
+use std::fs::File;
 use std::io::{IsTerminal, Write};
 use std::rt::{Clock, Files};
 use std::sync::Wait;
@@ -81,11 +89,48 @@ fn run_classic<
     report(&outcome, words.frames, err)
 }
 
-/// Reads the trace and then the capture whole, and forwards the frames of the capture while the trace is applied. What comes of it
-/// is written to `out`, and why nothing does to `err`, which shows how far the run is where it is a terminal, and how many frames were cut.
-/// It gives the status.
-pub fn run<
+/// Forwards the frames of a capture that is held in pieces.
+fn run_parts<
     R: Files + Alloc<A = Global> + Threads + Wait + Clock + Sync,
+    O: Write,
+    E: Write + IsTerminal + Send,
+>(rt: &R, words: &RunWords, trace: &[u8], pieces: &Pieces, out: &mut O, err: &mut E) -> u8 {
+    let outcome = if err.is_terminal() {
+        run_pieces_shown(rt, trace, pieces, &words.settings, out, err)
+    } else {
+        run_pieces(rt, rt.alloc(), trace, pieces, &words.settings, out)
+    };
+    report(&outcome, words.frames, err)
+}
+
+/// Forwards the frames of a capture that is held whole.
+fn run_whole<
+    R: Files + Alloc<A = Global> + Threads + Wait + Clock + Sync,
+    O: Write,
+    E: Write + IsTerminal + Send,
+>(rt: &R, words: &RunWords, trace: &[u8], out: &mut O, err: &mut E) -> u8 {
+    let file = match read_whole(rt, words.frames) {
+        Ok(file) => file,
+        Err(error) => {
+            return report_unread(&error, b"cannot read frames\n", words.frames, err);
+        }
+    };
+    let status = if is_pcapng(&file) {
+        run_packets(rt, words, trace, &file, out, err)
+    } else {
+        run_classic(rt, words, trace, &file, out, err)
+    };
+    if status == 0 && err.is_terminal() {
+        report_cut(cut_frames(rt.alloc(), &file), err);
+    }
+    status
+}
+
+/// Reads the trace and then the capture, and forwards the frames of the capture while the trace is applied. What comes of it is written
+/// to `out`, and why nothing does to `err`, which shows how far the run is where it is a terminal, and how many frames were cut. It
+/// gives the status.
+pub fn run<
+    R: Files<File = File> + Alloc<A = Global> + Threads + Wait + Clock + Sync,
     O: Write,
     E: Write + IsTerminal + Send,
 >(rt: &R, words: &RunWords, out: &mut O, err: &mut E) -> u8 {
@@ -95,19 +140,18 @@ pub fn run<
             return report_unread(&error, b"cannot read trace\n", words.trace, err);
         }
     };
-    let file = match read_whole(rt, words.frames) {
-        Ok(file) => file,
+    let pieces = match read_pieces(rt, words.frames) {
+        Ok(pieces) => pieces,
         Err(error) => {
             return report_unread(&error, b"cannot read frames\n", words.frames, err);
         }
     };
-    let status = if is_pcapng(&file) {
-        run_packets(rt, words, &trace, &file, out, err)
-    } else {
-        run_classic(rt, words, &trace, &file, out, err)
+    let Some(pieces) = pieces else {
+        return run_whole(rt, words, &trace, out, err);
     };
+    let status = run_parts(rt, words, &trace, &pieces, out, err);
     if status == 0 && err.is_terminal() {
-        report_cut(cut_frames(rt.alloc(), &file), err);
+        report_cut(cut_in_file(rt, words.frames), err);
     }
     status
 }

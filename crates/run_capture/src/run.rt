@@ -18,12 +18,15 @@ ghost use Rattle.run_capture.specs.Outcome.{
   Runs,
   RunsFrames,
 };
+ghost use Rattle.run_capture.specs.Source.{file_in};
 ghost use Rattle.run_capture.specs.declared.fault.RunFault.TheVariants.{NoMemory};
 
 use crate::fault::RunFault;
 use crate::lines::lines_of;
 use crate::progress::{Progress, Watched, show};
-use capture::{ListFault, Pcap, list_frames};
+use crate::source::Source;
+use capture::ListFault;
+use capture_pieces::Pieces;
 use omci_msg::Request;
 use run_lanes::{LaneFault, RunInput, run_lanes};
 use run_settings::RunSettings;
@@ -79,14 +82,17 @@ fn output_of<R: Threads + Wait + Sync>(
     rt: &R,
     alloc: Global,
     trace: &[u8],
-    file: &[u8],
+    source: Source<'_>,
     settings: &RunSettings,
     progress: &Progress,
 ) -> Result<Vec<u8>, RunFault>
-    ensures fits { IfOk result (λ out. input_fault trace.now file.now settings.now ≡ None) }
-    ensures output { IfOk result (λ out. IsOutput trace.now file.now settings.now out.items) }
-    ensures fault { IfErr result (IsWhyNone (input_fault trace.now file.now settings.now)
-        (CountsPass trace.now file.now settings.now)) }
+    ensures fits { IfOk result (λ out.
+        input_fault trace.now (file_in source.entry) settings.now ≡ None) }
+    ensures output { IfOk result (λ out.
+        IsOutput trace.now (file_in source.entry) settings.now out.items) }
+    ensures fault { IfErr result (IsWhyNone
+        (input_fault trace.now (file_in source.entry) settings.now)
+        (CountsPass trace.now (file_in source.entry) settings.now)) }
 {
     if !settings.can_run() {
         return Err(RunFault::Settings);
@@ -94,9 +100,9 @@ fn output_of<R: Threads + Wait + Sync>(
     let requests = match read_requests(alloc, trace) {
         Ok(requests) => requests,
         Err(TraceFault::BadLine(line)) => return Err(RunFault::BadTrace(line)),
-        Err(TraceFault::NoMemory) => return Err(without_memory(file)),
+        Err(TraceFault::NoMemory) => return Err(without_memory(alloc, source)),
     };
-    let frames = match list_frames(alloc, file) {
+    let frames = match source.list_frames(alloc) {
         Ok(frames) => frames,
         Err(ListFault::Capture(fault)) => return Err(RunFault::Capture(fault)),
         Err(ListFault::NoMemory) => return Err(RunFault::NoMemory),
@@ -136,12 +142,12 @@ fn output_of_frames<R: Threads + Wait + Sync>(
 }
 
 /// Why nothing is written where the requests of the trace find no memory: the capture has a fault, or else that.
-fn without_memory(file: &[u8]) -> RunFault
-    ensures { result ≡ unwrap_or (file_fault None (capture_of file.now)) NoMemory }
+fn without_memory(alloc: Global, source: Source<'_>) -> RunFault
+    ensures { result ≡ unwrap_or (file_fault None (capture_of (file_in source.entry))) NoMemory }
 {
-    match Pcap::open(file) {
-        Ok(_) => RunFault::NoMemory,
-        Err(fault) => RunFault::Capture(fault),
+    match source.list_frames(alloc) {
+        Ok(_) | Err(ListFault::NoMemory) => RunFault::NoMemory,
+        Err(ListFault::Capture(fault)) => RunFault::Capture(fault),
     }
 }
 
@@ -199,7 +205,28 @@ pub fn run_over<R: Threads + Wait + Sync, W: Write>(
     ensures { Runs trace.now frames.now settings.now result (W.contents writer.old)
         (W.contents writer.new) }
 {
-    let out = match output_of(rt, alloc, trace, frames, settings, &Progress::new()) {
+    let source = Source::Whole(frames);
+    let out = match output_of(rt, alloc, trace, source, settings, &Progress::new()) {
+        Ok(out) => out,
+        Err(fault) => return Err(fault),
+    };
+    write_lines(writer, &out)
+}
+
+/// Runs over a capture file that is held in pieces, and does the same as [`run_over`] does with the file as one slice.
+pub fn run_pieces<R: Threads + Wait + Sync, W: Write>(
+    rt: &R,
+    alloc: Global,
+    trace: &[u8],
+    pieces: &Pieces,
+    settings: &RunSettings,
+    writer: &mut W,
+) -> Result<(), RunFault>
+    ensures { Runs trace.now pieces.now settings.now result (W.contents writer.old)
+        (W.contents writer.new) }
+{
+    let source = Source::InPieces(pieces);
+    let out = match output_of(rt, alloc, trace, source, settings, &Progress::new()) {
         Ok(out) => out,
         Err(fault) => return Err(fault),
     };
@@ -236,7 +263,62 @@ pub fn run_over_shown<
             ensures fault { IfErr result (IsWhyNone
                 (input_fault trace.entry.now frames.entry.now settings.entry.now)
                 (CountsPass trace.entry.now frames.entry.now settings.entry.now)) }
-        { output_of(rt, rt.alloc(), trace, frames, settings, progress) },
+        {
+            output_of(
+                rt,
+                rt.alloc(),
+                trace,
+                Source::Whole(frames),
+                settings,
+                progress,
+            )
+        },
+    );
+    let out = match made {
+        Ok(out) => out,
+        Err(fault) => return Err(fault),
+    };
+    write_lines(writer, &out)
+}
+
+/// The same as [`run_pieces`], and meanwhile a line on `err`, as by [`run_over_shown`].
+pub fn run_pieces_shown<
+    R: Threads + Wait + Clock + Alloc<A = Global> + Sync,
+    W: Write,
+    E: Write + Send,
+>(
+    rt: &R,
+    trace: &[u8],
+    pieces: &Pieces,
+    settings: &RunSettings,
+    writer: &mut W,
+    err: &mut E,
+) -> Result<(), RunFault>
+    ensures { Runs trace.now pieces.now settings.now result (W.contents writer.old)
+        (W.contents writer.new) }
+{
+    let made = make_shown(
+        rt,
+        settings,
+        err,
+        |progress: &Progress| -> Result<Vec<u8>, RunFault>
+            ensures fits { IfOk result (λ out.
+                input_fault trace.entry.now pieces.entry.now settings.entry.now ≡ None) }
+            ensures output { IfOk result (λ out.
+                IsOutput trace.entry.now pieces.entry.now settings.entry.now out.items) }
+            ensures fault { IfErr result (IsWhyNone
+                (input_fault trace.entry.now pieces.entry.now settings.entry.now)
+                (CountsPass trace.entry.now pieces.entry.now settings.entry.now)) }
+        {
+            output_of(
+                rt,
+                rt.alloc(),
+                trace,
+                Source::InPieces(pieces),
+                settings,
+                progress,
+            )
+        },
     );
     let out = match made {
         Ok(out) => out,

@@ -1,7 +1,8 @@
 //! What a run writes.
 use crate::run_capture_tests::{HEADER, applied_first, port_257};
 use crate::run_lanes_tests::{CUT, UNTAGGED};
-use run_capture::{RunFault, run_frames, run_frames_shown, run_over};
+use capture_pieces::Pieces;
+use run_capture::{RunFault, run_frames, run_frames_shown, run_over, run_pieces, run_pieces_shown};
 use std::alloc::{AllocError, Global};
 use std::test::Fail;
 use test_fixtures::{Sink, push_message, same};
@@ -132,6 +133,45 @@ fn listed_frames_have_the_lines_of_a_capture_of_them(rt: HostRuntime) -> Result<
         )?;
         same!(rt; shown.as_slice(), written.as_slice(), "{lanes} lanes");
     }
+    Ok(())
+}
+
+/// The same capture in two parts, cut within the second record.
+fn three_frames_in_parts(alloc: Global) -> Result<Pieces, AllocError> {
+    let file = three_frames(alloc)?;
+    let mut parts = Vec::new(alloc);
+    for part in file.chunks(70) {
+        parts.push(part.to_vec(alloc)?)?;
+    }
+    Pieces::join(alloc, parts)
+}
+
+#[test]
+fn a_capture_in_pieces_has_the_same_lines(rt: HostRuntime) -> Result<(), Fail> {
+    let alloc = rt.alloc();
+    let trace = tagging(alloc)?;
+    let pieces = three_frames_in_parts(alloc)?;
+    let settings = applied_first(1, 2);
+    let mut written = Vec::new(alloc);
+    run_pieces(
+        &rt,
+        alloc,
+        trace.as_bytes(),
+        &pieces,
+        &settings,
+        &mut written,
+    )?;
+    same!(rt; written.as_slice(), LINES.as_bytes());
+    let (mut shown, mut line) = (Vec::new(alloc), Vec::new(alloc));
+    run_pieces_shown(
+        &rt,
+        trace.as_bytes(),
+        &pieces,
+        &settings,
+        &mut shown,
+        &mut line,
+    )?;
+    same!(rt; shown.as_slice(), LINES.as_bytes());
     Ok(())
 }
 

@@ -1,7 +1,8 @@
 ghost use Rattle.std.specs.Prelude.{◌≡◌, ◌<◌, length};
 
 use capture::{CaptureFault, ListFault, Pcap, law_of_records, list_frames};
-use std::alloc::Global;
+use capture_pieces::Pieces;
+use std::alloc::{AllocError, Global};
 use std::process::Abort;
 use test_fixtures::same;
 
@@ -192,6 +193,53 @@ fn frames_are_listed_or_the_first_fault_is_told(rt: HostRuntime) {
     ] {
         let want = ListFault::Capture(fault);
         same!(rt; why_not_listed(rt.alloc(), file), Some(want));
+    }
+}
+
+/// A file in parts of so many bytes.
+fn parted(alloc: Global, file: &[u8], size: usize) -> Result<Pieces, AllocError> {
+    let mut parts = Vec::new(alloc);
+    for part in file.chunks(size.max(1)) {
+        parts.push(part.to_vec(alloc)?)?;
+    }
+    Pieces::join(alloc, parts)
+}
+
+/// Compares the frames of three records, whose file is in parts of so many bytes.
+fn compare_parts(rt: &impl Abort, alloc: Global, size: usize) {
+    let pieces = parted(alloc, &THREE, size).expect(rt, "parts");
+    let list = pieces.list_frames(alloc).expect(rt, "three records");
+    same!(rt; list.as_slice(), FRAMES_OF_THREE.as_slice(), "parts of {size}");
+}
+
+/// Why the frames of a file in parts aren't listed.
+fn why_no_parts(alloc: Global, file: &[u8], size: usize) -> Option<ListFault> {
+    match parted(alloc, file, size) {
+        Ok(pieces) => pieces.list_frames(alloc).err(),
+        Err(_) => None,
+    }
+}
+
+#[test]
+fn a_file_in_parts_of_any_size_has_the_same_frames(rt: HostRuntime) {
+    for size in 1..=THREE.len() {
+        compare_parts(&rt, rt.alloc(), size);
+    }
+}
+
+#[test]
+fn a_file_in_parts_has_the_same_fault(rt: HostRuntime) {
+    let too_long = changed(&THREE, &SECOND_TOO_LONG);
+    for (file, fault) in [
+        (&THREE[..74], CaptureFault::Torn(2)),
+        (&THREE[..23], CaptureFault::Header),
+        (&THREE[..0], CaptureFault::Magic),
+        (&too_long[..], CaptureFault::TooLong(1)),
+    ] {
+        for size in [1, 20, 41] {
+            let want = ListFault::Capture(fault);
+            same!(rt; why_no_parts(rt.alloc(), file, size), Some(want), "parts of {size}");
+        }
     }
 }
 

@@ -1,0 +1,63 @@
+//! A file in pieces.
+
+use crate::joining::joined;
+use crate::listing::{list_records, read_order};
+use crate::piece::Piece;
+use capture::ListFault;
+use std::alloc::{AllocError, Global};
+use std::marker::Model;
+
+/// A file in pieces, known by its bytes.
+#[derive(Debug, Drop)]
+pub struct Pieces {
+    pub(crate) pieces: Vec<Piece>,
+}
+
+impl Model for Pieces {
+    ghost use Rattle.std.specs.Prelude.{ℕ, List};
+    ghost use Rattle.capture_pieces.specs.Joined.{AreJoined, file_of};
+
+    ghost Value = { List ℕ };
+
+    ghost view = { λ p. file_of p.pieces.items };
+
+    ghost invariant = { λ p. AreJoined p.pieces.items };
+}
+
+impl Pieces {
+    ghost use Rattle.std.specs.Prelude.{◌≡◌, ◌<◌, ◌^◌, Ok, IfErr, IfOk, map, vec_len};
+    ghost use Rattle.std.specs.List.{flat_map};
+    ghost use Rattle.capture.specs.Listed.{IsWhyNoList};
+    ghost use Rattle.capture.specs.Records.{capture_of};
+
+    /// The file whose parts these are, one behind the other. A part's bytes stay where they are, if there is room for
+    /// [`OVERLAP`](crate::OVERLAP) bytes more behind them.
+    pub fn join(alloc: Global, parts: Vec<Vec<u8>>) -> Result<Pieces, AllocError>
+        ensures { IfOk result (λ pieces. pieces ≡ flat_map (λ part. part.items) parts.items) }
+    {
+        Ok(Pieces {
+            pieces: joined(alloc, parts)?,
+        })
+    }
+
+    /// The frames of the capture file, in its order, each as a slice of a piece. A fault of the file is told before want of memory.
+    pub fn list_frames(&self, alloc: Global) -> Result<Vec<&[u8]>, ListFault>
+        ensures frames { IfOk result (λ list.
+            capture_of self.now ≡ Ok (map (λ frame. frame.now) list.items)) }
+        ensures few { IfOk result (λ list. vec_len list < 2 ^ 32) }
+        ensures fault { IfErr result (IsWhyNoList self.now) }
+    {
+        let order = match read_order(&self.pieces) {
+            Ok(order) => order,
+            Err(fault) => return Err(ListFault::Capture(fault)),
+        };
+        let listing = match list_records(alloc, order, &self.pieces) {
+            Ok(listing) => listing,
+            Err(fault) => return Err(ListFault::Capture(fault)),
+        };
+        if listing.refused {
+            return Err(ListFault::NoMemory);
+        }
+        Ok(listing.frames)
+    }
+}
