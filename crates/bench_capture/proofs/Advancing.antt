@@ -4,7 +4,7 @@ use Rattle.std.specs.Io.KnownBytes.{IsAtEnd, Keeps, prepend_known}
 use Rattle.std.specs.Prelude.{Result, Ok, Err, IfSome, not, option_map}
 use Rattle.bench_capture.specs.Formats.{reading_at}
 use Rattle.bench_capture.specs.Reading.{Reading}
-use Rattle.bench_capture.specs.Windows.{IsNextSpan, IsNoCaptureFault, IsTurn, held, reading_on}
+use Rattle.bench_capture.specs.Windows.{IsBegun, IsNextSpan, IsNoCaptureFault, IsTurn, held, reading_on}
 use Rattle.bench_capture.specs.declared.fault.ReadFault.{ReadFault}
 use Rattle.bench_capture.specs.declared.fault.ReadFault.TheVariants.{Capture, Unreadable, NoMemory}
 use Rattle.bench_capture.specs.declared.format.Format.{Format}
@@ -81,6 +81,20 @@ module _ (first : Option (List ℕ)) (start : Format) (from : Window) where
   -- the next frame of what there was at first
   abbrev pub GivesNext : Result (Option Span) ReadFault → Format → Window → Option (List ℕ) → Type 0
   GivesNext result format window left = IfSome first (λ rest. IsNextSpan (reading_on start from rest) result format window left)
+
+  -- what there was at first, behind a first block
+  abbrev pub GivesBegun : Result (Unit {0}) ReadFault → Format → Window → Option (List ℕ) → Type 0
+  GivesBegun result format window left = IfSome first (λ rest. IsBegun (reading_on start from rest) result format window left)
+
+  begun_by : (all : Reading) (fault : ReadFault) (format : Format) (window : Window) (left : Option (List ℕ)) → IsNextSpan all (Err fault) format window left
+      → IsBegun all (Err fault) format window left
+  begun_by all (Capture fault) format window left is = is.0
+  begun_by all (Unreadable kind) format window left is = tt
+  begun_by all NoMemory format window left is = tt
+
+  -- a fault is one of what there was at first
+  pub fault_begun : (fault : ReadFault) (format : Format) (window : Window) (left : Option (List ℕ)) → GivesNext (Err fault) format window left → GivesBegun (Err fault) format window left
+  fault_begun fault format window left = if_some first _ _ (λ rest. begun_by (reading_on start from rest) fault format window left)
 
   module _ (old new : Format) (window later : Window) (left : Option (List ℕ)) (ended : Bool) (ends : ended ≡ true → IsAtEnd left) where
     pub frame_given : (span : Span) → Turns old new window later ended (Ok (Frame span)) → StillLeaves old window left → GivesNext (Ok (Some span)) new later left

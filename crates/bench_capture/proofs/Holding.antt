@@ -1,7 +1,9 @@
 -- The bytes that a window holds.
 use Rattle.std.proofs.Common.{◌≡◌, ◌≤◌, ℕ, ◌+◌, ◌-◌, List, ◌++◌, length, take, drop, arith, sym, ap, ◌∙◌, Option, Some, None, append_assoc, length-drop, length-take}
-use Rattle.std.proofs.lemmas.List.{drop-drop, drop-take, take-take}
-use Rattle.std.proofs.Math.Seq.{take-add}
+use Rattle.std.proofs.lemmas.List.{drop-append-le, drop-drop, drop-take, take-take}
+use Rattle.std.proofs.lemmas.List.Edits.{take-paste}
+use Rattle.std.proofs.Math.Seq.{paste, take-add}
+use Rattle.std.specs.List.{copy_within}
 use Rattle.std.specs.Io.KnownBytes.{Consumes, Keeps, prepend_known}
 use Rattle.std.specs.Prelude.{min, slice_range}
 
@@ -42,6 +44,32 @@ held_same old new start end ordered kept =
     ∙ ap (λ (bytes : List ℕ). drop start bytes) kept
     ∙ ap (λ (n : ℕ). drop start (take n old)) whole
     ∙ drop-take start (end - start) old
+
+-- without bytes behind the first ones, where those behind them were moved up
+pub held_cut : (bytes : List ℕ) (start end skipped count : ℕ) → start ≤ end → end ≤ length bytes → skipped + count ≤ length (slice_range bytes start end)
+    → slice_range (copy_within bytes (start + skipped + count) end (start + skipped)) start (end - count)
+    ≡ take skipped (slice_range bytes start end) ++ drop (skipped + count) (slice_range bytes start end)
+held_cut bytes start end skipped count ordered all within =
+    let to = start + skipped in
+    let from = to + count in
+    let left = end - from in
+    let source = drop from bytes in
+    let moved = paste bytes to source left in
+    let size : length (slice_range bytes start end) ≡ min (end - start) (length (drop start bytes)) = length-take (end - start) (drop start bytes) in
+    let fits : from ≤ end = omega (arith, within, size, ordered) in
+    let room : left ≤ length source = omega (arith, fits, all, length-drop from bytes) in
+    let whole : start + (end - count - start) ≡ to + left = omega (arith, fits) in
+    let first : start ≤ length (take to bytes) = omega (arith, fits, all, length-take to bytes) in
+    let rest : end - start ≡ skipped + count + left = omega (arith, fits) in
+    sym (drop-take start (end - count - start) moved)
+    ∙ ap (λ (n : ℕ). drop start (take n moved)) whole
+    ∙ ap (λ (front : List ℕ). drop start front) (take-paste bytes to source left (omega (arith, fits, all)) room)
+    ∙ drop-append-le start (take to bytes) (take left source) first
+    ∙ ap (λ (front : List ℕ). front ++ take left source) (drop-take start skipped bytes ∙ sym (take-take skipped (end - start) (drop start bytes) (omega (arith, rest))))
+    ∙ ap (λ (back : List ℕ). take skipped (slice_range bytes start end) ++ back)
+    (sym (ap (λ (n : ℕ). drop (skipped + count) (take n (drop start bytes))) rest
+    ∙ drop-take (skipped + count) left (drop start bytes)
+    ∙ ap (take left) (drop-drop (skipped + count) start bytes ∙ ap (λ (n : ℕ). drop n bytes) (let a : start + (skipped + count) ≡ from = omega arith in a))))
 
 -- a part of the bytes that are held is a part of the buffer
 pub held_part : (bytes : List ℕ) (start end skipped count : ℕ) → skipped + count ≤ length (slice_range bytes start end)

@@ -1,5 +1,5 @@
 -- The bytes of a file that is in memory are all that there is.
-use Rattle.std.proofs.Common.{◌≡◌, ℕ, List, [], ◌∷◌, length, drop, Some, None, arith, refl, sym, ap, ◌∙◌, inl, append-nil}
+use Rattle.std.proofs.Common.{◌≡◌, ℕ, Bool, true, false, List, [], ◌∷◌, length, drop, Some, None, arith, refl, sym, ap, ◌∙◌, inl, append-nil}
 use Rattle.std.specs.Prelude.{Ok, Err}
 use Rattle.bench_capture.specs.Calls.{IsNext}
 use Rattle.bench_capture.specs.File.{reading_in, reading_of}
@@ -7,7 +7,7 @@ use Rattle.bench_capture.specs.Formats.{IsFaulty, IsTaken, Opens, Takes, frame_f
 use Rattle.bench_capture.specs.Reading.{Reading, nothing_left, stopped}
 use Rattle.bench_capture.specs.declared.classic.Records.{Records}
 use Rattle.bench_capture.specs.declared.fault.CaptureFault.{CaptureFault}
-use Rattle.bench_capture.specs.declared.fault.CaptureFault.TheVariants.{Torn}
+use Rattle.bench_capture.specs.declared.fault.CaptureFault.TheVariants.{Header, Torn}
 use Rattle.bench_capture.specs.declared.fault.FrameFault.{FrameFault}
 use Rattle.bench_capture.specs.declared.fault.FrameFault.TheVariants.{Capture, NoMemory}
 use Rattle.bench_capture.specs.declared.format.Format.{Format}
@@ -16,11 +16,11 @@ use Rattle.bench_capture.specs.declared.span.Taken.{Taken}
 use Rattle.bench_capture.proofs.Classics.{records_none}
 use Rattle.bench_pcapng.specs.Reading as pcapng
 use Rattle.bench_pcapng.specs.Reading.{Progress}
-use Rattle.bench_pcapng.specs.declared.fault.PcapngFault.{PcapngFault}
-use Rattle.bench_pcapng.specs.declared.fault.PcapngFault.TheVariants as faults
+use Rattle.bench_pcapng.specs.Passing.{fault_in}
+use Rattle.bench_pcapng.specs.declared.fault.BlockFault.TheVariants as blocks_faults
 use Rattle.bench_pcapng.specs.declared.passing.Passing.{Passing}
-use Rattle.bench_pcapng.proofs.Passings.{torn_short}
 use Rattle.bench_pcapng.proofs.Readings as blocks
+use Rattle.bench_pcapng.proofs.Rests.{torn_rest}
 
 pub whole_opened : (file : List ℕ) (format : Format) (size : ℕ) → Opens file (Ok (format, size)) → reading_at format (drop size file) ≡ reading_of file
 whole_opened file format size opens =
@@ -58,13 +58,16 @@ classic_none records = records_none records.order records.nanoseconds records.nu
 pub between_none : (known : Progress) → reading_at (Pcapng (record { blocks = known; passing = None })) [] ≡ nothing_left
 between_none known = ap (λ (all : pcapng.Reading). reading_in all) (blocks.reading_none (pcapng.place_at known []) refl)
 
--- a block that is passed over is torn
-pub within_none : (known : Progress) (passing : Passing) → reading_at (Pcapng (record { blocks = known; passing = Some passing })) [] ≡ stopped (Torn known.number)
-within_none known passing = ap (λ (all : pcapng.Reading). reading_in all) (torn_short known passing [] (omega arith))
+-- a block that is passed over has the fault of one that is torn
+pub within_none : (known : Progress) (passing : Passing) (fault : CaptureFault) → frame_fault_of (fault_in passing.first known.number blocks_faults.Torn) ≡ Capture fault
+    → reading_at (Pcapng (record { blocks = known; passing = Some passing })) [] ≡ stopped fault
+within_none known passing fault told = ap (λ (all : pcapng.Reading). reading_in all) (torn_rest known passing) ∙ by_first passing.first told
+  where
+    by_first : (first : Bool) → frame_fault_of (fault_in first known.number blocks_faults.Torn) ≡ Capture fault → reading_in (pcapng.stopped (fault_in first known.number blocks_faults.Torn)) ≡ stopped fault
+    by_first true same = let found : Header ≡ fault = cc in ap (λ (f : CaptureFault). stopped f) found
+    by_first false same = let found : Torn known.number ≡ fault = cc in ap (λ (f : CaptureFault). stopped f) found
 
--- of which that is the fault
-pub torn_is : (known : Progress) (torn : PcapngFault) (found : FrameFault) (fault : CaptureFault) → torn ≡ faults.Torn known.number → found ≡ frame_fault_of torn → found ≡ Capture fault
-    → Torn known.number ≡ fault
-torn_is known torn found fault is told has =
-    let same : Capture (Torn known.number) ≡ Capture fault = ap (λ (f : PcapngFault). frame_fault_of f) (sym is) ∙ sym told ∙ has in
-    cc
+-- which isn't want of memory
+pub torn_is_fault : (first : Bool) (n : ℕ) → frame_fault_of (fault_in first n blocks_faults.Torn) ≡ NoMemory → ⊥
+torn_is_fault true n is = cc
+torn_is_fault false n is = cc

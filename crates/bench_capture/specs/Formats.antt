@@ -1,5 +1,5 @@
 -- What is left of a capture behind what was read of it, and what reading a record or a block of it gives.
-use Rattle.std.specs.Prelude.{◌≡◌, ◌≤◌, ◌<◌, ◌+◌, ℕ, ◌⊎◌, List, [], ◌++◌, Option, Some, None, Result, Ok, Err, IfSome, if◌then◌else◌, option_map, length, take, drop}
+use Rattle.std.specs.Prelude.{◌≡◌, ◌≤◌, ◌<◌, ◌+◌, ℕ, ◌⊎◌, ⊤, Bool, true, false, List, [], ◌++◌, Option, Some, None, Result, Ok, Err, IfSome, if◌then◌else◌, option_map, length, take, drop}
 use Rattle.bench_capture.specs.Classic.{records_at}
 use Rattle.bench_capture.specs.File.{reading_in, reading_of}
 use Rattle.bench_capture.specs.Reading.{Reading, nothing_left, stopped, with_frame}
@@ -10,17 +10,20 @@ use Rattle.bench_capture.specs.declared.fault.FrameFault.{FrameFault}
 use Rattle.bench_capture.specs.declared.fault.FrameFault.TheVariants.{Capture, NoMemory}
 use Rattle.bench_capture.specs.declared.format.Format.{Format}
 use Rattle.bench_capture.specs.declared.format.Format.TheVariants.{Classic, Pcapng}
+use Rattle.bench_capture.specs.declared.span.Gap.{Gap}
 use Rattle.bench_capture.specs.declared.span.Span.{Span}
 use Rattle.bench_capture.specs.declared.span.Taken.{Taken}
 use Rattle.bench_pcapng.specs.Blocks.{wanted_length}
-use Rattle.bench_pcapng.specs.Passing.{going_on}
+use Rattle.bench_pcapng.specs.Passing.{going_on, inside_of, kept_of, letting_of, passing_of}
 use Rattle.bench_pcapng.specs.Reading as pcapng
+use Rattle.bench_pcapng.specs.Reading.{Progress}
 use Rattle.bench_pcapng.specs.declared.blocks.Block.{Block}
 use Rattle.bench_pcapng.specs.declared.blocks.Located.{Located}
 use Rattle.bench_pcapng.specs.declared.fault.PcapngFault.{PcapngFault}
 use Rattle.bench_pcapng.specs.declared.fault.PcapngFault.TheVariants as faults
 use Rattle.bench_pcapng.specs.declared.order.Order.TheVariants.{HighFirst}
 use Rattle.bench_pcapng.specs.declared.passing.Passing.{Passing}
+use Rattle.bench_pcapng.specs.declared.passing.Past.{Past}
 
 -- what is to be read of a capture whose bytes go on with these
 abbrev pub reading_at : Format → List ℕ → Reading
@@ -53,10 +56,10 @@ with_span bytes (Some span) later = with_frame (recorded_at bytes span) later
 
 -- ---- one record or block
 
--- of a block that is passed over, its second length
+-- of a block that is passed over, all that is left of it
 abbrev pub wanted_within : Option Passing → ℕ → ℕ
 wanted_within None between = between
-wanted_within (Some passing) between = 4
+wanted_within (Some passing) between = inside_of passing + 4
 
 -- how many bytes show whether the next record or block has a fault
 abbrev pub wanted_of : Format → List ℕ → ℕ
@@ -97,6 +100,47 @@ abbrev pub Opens : List ℕ → Result (Format × ℕ) CaptureFault → Type 0
 Opens file (Ok (format, size)) = (size ≤ length file) × (blocks_read format ≤ size)
     × ((more : List ℕ) → reading_of (file ++ more) ≡ reading_at format (drop size file ++ more))
 Opens file (Err fault) = (more : List ℕ) → AreEnough (wanted_to_open file) file more → reading_of (file ++ more) ≡ stopped fault
+
+-- ---- bytes that are let go
+
+-- the bytes without those that are let go
+abbrev pub cut_of : Gap → List ℕ → List ℕ
+cut_of gap bytes = take gap.start bytes ++ drop (gap.start + gap.length) bytes
+
+-- what is to be read without the bytes that are let go, which are among these, is what there was to be read
+abbrev pub LetsGo : Format → List ℕ → Option Gap → Format → Type 0
+LetsGo old bytes None new = new ≡ old
+LetsGo old bytes (Some gap) new = (gap.start + gap.length ≤ length bytes)
+    × ((more : List ℕ) → reading_at new (cut_of gap bytes ++ more) ≡ reading_at old (bytes ++ more))
+
+abbrev pub is_passing : Option Passing → Bool
+is_passing None = false
+is_passing (Some passing) = true
+
+-- which bytes are let go of the next block, or of the one that is passed over
+abbrev pub past_by : Option Passing → Progress → List ℕ → Option Past
+past_by None known bytes = passing_of known bytes
+past_by (Some passing) known bytes = letting_of passing bytes
+
+-- whether a block is passed over
+abbrev pub is_within : Format → Bool
+is_within (Classic records) = false
+is_within (Pcapng pieces) = is_passing pieces.passing
+
+-- of a block that is passed over no more bytes are kept than show what it does
+abbrev pub FewKept : Format → Type 0
+FewKept (Classic records) = ⊤
+FewKept (Pcapng pieces) = IfSome pieces.passing (λ passing. kept_of passing.outcome ≤ 262164)
+
+-- the bytes are few, or show whether the next record or block has a fault
+abbrev pub IsHeld : Format → List ℕ → Type 0
+IsHeld format bytes = (wanted_of format bytes ≤ length bytes) ⊎ (length bytes < 262176)
+
+-- what is known within a first block that the bytes don't hold all of, without those that are let go
+abbrev pub OpensLong : List ℕ → Option (Format × Gap) → Type 0
+OpensLong file None = ⊤
+OpensLong file (Some (format, gap)) = (gap.start + gap.length ≤ length file) × FewKept format
+    × ((more : List ℕ) → reading_of (file ++ more) ≡ reading_at format (cut_of gap file ++ more))
 
 -- ---- blocks of the pcapng format
 

@@ -46,6 +46,13 @@ Begins file (Err (Capture fault)) window left = reading_of file ≡ stopped faul
 Begins file (Err (Unreadable kind)) window left = ⊤
 Begins file (Err NoMemory) window left = ⊤
 
+-- what is known behind a first block that was passed over, of all that was to be read
+abbrev pub IsBegun : Reading → Result (Unit {0}) ReadFault → Format → Window → Option (List ℕ) → Type 0
+IsBegun all (Ok done) format window left = option_map (reading_on format window) left ≡ Some all
+IsBegun all (Err (Capture fault)) format window left = all ≡ stopped fault
+IsBegun all (Err (Unreadable kind)) format window left = ⊤
+IsBegun all (Err NoMemory) format window left = ⊤
+
 -- where the next frame stands, of all that was to be read
 abbrev pub IsNextSpan : Reading → Result (Option Span) ReadFault → Format → Window → Option (List ℕ) → Type 0
 IsNextSpan all (Ok (Some span)) format window left =

@@ -1,12 +1,12 @@
 //! A capture in either format, between two records or blocks.
-ghost use Rattle.std.specs.Prelude.{◌≡◌, false};
-ghost use Rattle.bench_capture.specs.Formats.{Opens, wanted_to_open};
+ghost use Rattle.std.specs.Prelude.{◌≡◌, IfOk, false};
+ghost use Rattle.bench_capture.specs.Formats.{FewKept, Opens, wanted_to_open};
 ghost use Rattle.bench_pcapng.specs.Reading.{is_pcapng};
 
 use crate::classic::{Records, has_nanoseconds, of_classic};
 use crate::fault::{CaptureFault, FrameFault};
 use crate::pieces::Pieces;
-use crate::span::Taken;
+use crate::span::{Gap, Taken};
 use bench_pcapng::{Blocks, is_pcapng};
 use capture::{HEADER_LEN, read_header};
 use std::alloc::Global;
@@ -37,7 +37,8 @@ pub(crate) fn wanted_to_open(file: &[u8]) -> usize
 /// What is known of a capture in the classic format behind its header, and how many bytes that has.
 fn open_classic(file: &[u8]) -> Result<(Format, usize), CaptureFault>
     requires { is_pcapng file.now ≡ false }
-    ensures { Opens file.now result }
+    ensures opens { Opens file.now result }
+    ensures kept { IfOk result (λ parts. FewKept parts.0) }
 {
     match read_header(file) {
         Ok(order) => {
@@ -53,12 +54,13 @@ fn open_classic(file: &[u8]) -> Result<(Format, usize), CaptureFault>
 }
 
 impl Format {
-    ghost use Rattle.std.specs.Prelude.{◌≡◌, ◌<◌, ◌-◌, ◌^◌, [], ◌++◌, List, ℕ, false, length};
-    ghost use Rattle.bench_capture.specs.Formats.{Opens, Takes, blocks_read, ended_by, reading_at, wanted_of};
+    ghost use Rattle.std.specs.Prelude.{◌≡◌, ◌⊎◌, ◌↔◌, ◌≤◌, ◌<◌, ◌-◌, ◌^◌, [], IfOk, IsTrue, None, false, length};
+    ghost use Rattle.bench_capture.specs.Formats.{FewKept, IsHeld, LetsGo, Opens, OpensLong, Takes, blocks_read, ended_by, is_within, reading_at, wanted_of, wanted_to_open};
 
     /// What is known of a capture behind its beginning, and how many bytes that has. Err where it has a fault.
     pub(crate) fn open(alloc: Global, file: &[u8]) -> Result<(Format, usize), CaptureFault>
-        ensures { Opens file.now result }
+        ensures opens { Opens file.now result }
+        ensures kept { IfOk result (λ parts. FewKept parts.0) }
     {
         if !is_pcapng(file) {
             return open_classic(file);
@@ -75,13 +77,41 @@ impl Format {
         }
     }
 
-    /// How many bytes show whether the next record or block has a fault.
-    pub(crate) fn wanted(&self, bytes: &[u8]) -> usize
-        ensures { result ≡ wanted_of self.now bytes.now }
+    /// What is known of a capture within its first block, which these bytes don't hold all of, and which of them are let go. None where
+    /// none can be: then they are few, or show whether the beginning has a fault.
+    pub(crate) fn open_long(alloc: Global, file: &[u8]) -> Option<(Format, Gap)>
+        ensures opens { OpensLong file.now result }
+        ensures held { result ≡ None → wanted_to_open file.now ≤ length file.now ⊎ length file.now < 262176 }
+    {
+        let (known, past) = Blocks::pass_over_first(alloc, file)?;
+        let pieces = Pieces {
+            blocks: known,
+            passing: Some(past.left),
+        };
+        let gap = Gap {
+            start: past.start,
+            length: past.length,
+        };
+        Some((Format::Pcapng(pieces), gap))
+    }
+
+    /// Whether a block is passed over.
+    pub(crate) fn is_within(&self) -> bool
+        ensures { result ≡ is_within self.now }
     {
         match self {
-            Format::Classic(_) => MOST_RECORD,
-            Format::Pcapng(pieces) => pieces.wanted(bytes),
+            Format::Classic(_) => false,
+            Format::Pcapng(pieces) => pieces.passing.is_some(),
+        }
+    }
+
+    /// Whether these bytes show whether the next record or block has a fault.
+    pub(crate) fn is_enough(&self, bytes: &[u8]) -> bool
+        ensures { IsTrue result ↔ (wanted_of self.now bytes.now ≤ length bytes.now) }
+    {
+        match self {
+            Format::Classic(_) => bytes.len() >= MOST_RECORD,
+            Format::Pcapng(pieces) => pieces.is_enough(bytes),
         }
     }
 
@@ -95,15 +125,15 @@ impl Format {
         }
     }
 
-    /// Begins to pass over the block at the front of these bytes, if it is longer than they are and its bytes don't count. Whether
-    /// it does.
-    pub(crate) fn pass_over(&mut self, bytes: &[u8]) -> bool
-        ensures { (more : List ℕ)
-            → reading_at self.new (bytes.now ++ more) ≡ reading_at self.old (bytes.now ++ more) }
+    /// Which of these bytes, which don't hold all of a block, can be let go. None where none of them can be: then there are few of them.
+    pub(crate) fn let_go(&mut self, bytes: &[u8]) -> Option<Gap>
+        ensures goes { LetsGo self.old bytes.now result self.new }
+        ensures kept { FewKept self.old → FewKept self.new }
+        ensures held { FewKept self.old → result ≡ None → IsHeld self.old bytes.now }
     {
         match self {
-            Format::Classic(_) => false,
-            Format::Pcapng(pieces) => pieces.pass_over(bytes),
+            Format::Classic(_) => None,
+            Format::Pcapng(pieces) => pieces.let_go(bytes),
         }
     }
 
@@ -121,7 +151,8 @@ impl Format {
     pub(crate) fn take(&mut self, bytes: &[u8]) -> Result<Taken, FrameFault>
         requires some { 0 < length bytes.now }
         requires few { blocks_read self.old < 2 ^ 64 - 1 }
-        ensures { Takes self.old bytes.now result self.new }
+        ensures takes { Takes self.old bytes.now result self.new }
+        ensures kept { FewKept self.old → FewKept self.new }
     {
         match self {
             Format::Classic(records) => match records.take(bytes) {

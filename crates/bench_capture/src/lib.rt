@@ -7,11 +7,11 @@
 //!
 //! **From a slice.** [`Frames`] gives one frame after the other, each as a slice of the file.
 //!
-//! **From a reader.** [`FrameReader`] reads a file in pieces, into one buffer that is used again. A frame is a slice of the buffer. A
-//! block that counts for nothing, and a packet block with a fault, is passed over by its length, and its bytes aren't held. So memory
-//! doesn't depend on how long the file is, nor on a length that a file gives. The buffer has 512 KB, which every record of the classic
-//! format fits in. It grows only where a section header, an interface description or a sound packet has options of over 250,000 bytes,
-//! and then only as bytes come.
+//! **From a reader.** [`FrameReader`] reads a file in pieces, into one buffer of 512 KB that is used again and never grows: every record
+//! of the classic format fits in it. A frame is a slice of the buffer. A block of the pcapng format that is longer than 262,176 bytes
+//! is passed over as its bytes come, but for those of its packet, which are kept until the block's end was seen; of the options of an
+//! interface one at a time is held. So memory doesn't depend on how long the file is, nor on a length that a file gives, but for the
+//! interfaces of a section.
 #![tactic(auto)]
 
 mod classic;

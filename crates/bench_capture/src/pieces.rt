@@ -3,11 +3,8 @@ ghost use Rattle.std.specs.Prelude.{◌≡◌};
 ghost use Rattle.bench_capture.specs.Formats.{frame_fault_of, taken_of};
 
 use crate::fault::{CaptureFault, FrameFault};
-use crate::span::{Span, Taken};
-use bench_pcapng::{Block, Blocks, Passing, PcapngFault};
-
-/// How many bytes the second length of a block has.
-const LENGTH_LEN: usize = 4;
+use crate::span::{Gap, Span, Taken};
+use bench_pcapng::{Block, Blocks, Passing, Past, PcapngFault};
 
 /// How far the blocks of a file are read: between two, or within one that is passed over.
 #[derive(Debug, Drop)]
@@ -49,17 +46,17 @@ fn of_pcapng(fault: PcapngFault) -> FrameFault
 }
 
 impl Pieces {
-    ghost use Rattle.std.specs.Prelude.{◌≡◌, ◌<◌, ◌-◌, ◌^◌, [], ◌++◌, List, ℕ, None, length};
-    ghost use Rattle.bench_capture.specs.Formats.{Takes, ended_by, reading_at, wanted_of};
+    ghost use Rattle.std.specs.Prelude.{◌≡◌, ◌↔◌, ◌≤◌, ◌<◌, ◌-◌, ◌^◌, [], IsTrue, None, length};
+    ghost use Rattle.bench_capture.specs.Formats.{FewKept, IsHeld, LetsGo, Takes, ended_by, past_by, reading_at, wanted_of};
     ghost use Rattle.bench_capture.specs.declared.format.Format.TheVariants.{Pcapng};
 
-    /// How many bytes show whether the next block, or the one that is passed over, has a fault.
-    pub(crate) fn wanted(&self, bytes: &[u8]) -> usize
-        ensures { result ≡ wanted_of (Pcapng self.now) bytes.now }
+    /// Whether these bytes show whether the next block, or the one that is passed over, has a fault.
+    pub(crate) fn is_enough(&self, bytes: &[u8]) -> bool
+        ensures { IsTrue result ↔ (wanted_of (Pcapng self.now) bytes.now ≤ length bytes.now) }
     {
         match self.passing {
-            None => self.blocks.wanted(bytes),
-            Some(_) => LENGTH_LEN,
+            None => self.blocks.wanted(bytes) <= bytes.len(),
+            Some(passing) => passing.is_whole(bytes),
         }
     }
 
@@ -69,29 +66,36 @@ impl Pieces {
     {
         match self.passing {
             None => None,
-            Some(_) => match of_pcapng(self.blocks.torn()) {
+            Some(passing) => match of_pcapng(self.blocks.torn(passing)) {
                 FrameFault::Capture(fault) => Some(fault),
                 FrameFault::NoMemory => None,
             },
         }
     }
 
-    /// Begins to pass over the block at the front of these bytes, if it is longer than they are and its bytes don't count. Whether
-    /// it does.
-    pub(crate) fn pass_over(&mut self, bytes: &[u8]) -> bool
-        ensures { (more : List ℕ) → reading_at (Pcapng self.new) (bytes.now ++ more)
-            ≡ reading_at (Pcapng self.old) (bytes.now ++ more) }
+    /// Which of these bytes are let go of the next block, or of the one that is passed over.
+    fn next_past(&self, bytes: &[u8]) -> Option<Past>
+        ensures value { result ≡ past_by self.now.passing self.now.blocks bytes.now }
+        ensures held { FewKept (Pcapng self.now) → result ≡ None → IsHeld (Pcapng self.now) bytes.now }
     {
-        let None = self.passing else {
-            return false;
-        };
-        match self.blocks.pass_over(bytes) {
-            Some(passing) => {
-                self.passing = Some(passing);
-                true
-            }
-            None => false,
+        match self.passing {
+            None => self.blocks.pass_over(bytes),
+            Some(passing) => passing.let_go(bytes),
         }
+    }
+
+    /// Which of these bytes, which don't hold all of a block, can be let go. None where none of them can be: then there are few of them.
+    pub(crate) fn let_go(&mut self, bytes: &[u8]) -> Option<Gap>
+        ensures goes { LetsGo (Pcapng self.old) bytes.now result (Pcapng self.new) }
+        ensures kept { FewKept (Pcapng self.old) → FewKept (Pcapng self.new) }
+        ensures held { FewKept (Pcapng self.old) → result ≡ None → IsHeld (Pcapng self.old) bytes.now }
+    {
+        let past = self.next_past(bytes)?;
+        self.passing = Some(past.left);
+        Some(Gap {
+            start: past.start,
+            length: past.length,
+        })
     }
 
     /// Takes the block at the front of the bytes.
@@ -99,7 +103,8 @@ impl Pieces {
         requires some { 0 < length bytes.now }
         requires few { self.old.blocks.number < 2 ^ 64 - 1 }
         requires between { self.old.passing ≡ None }
-        ensures { Takes (Pcapng self.old) bytes.now result (Pcapng self.new) }
+        ensures takes { Takes (Pcapng self.old) bytes.now result (Pcapng self.new) }
+        ensures kept { FewKept (Pcapng self.old) → FewKept (Pcapng self.new) }
     {
         match self.blocks.read(bytes) {
             Ok(block) => Ok(taken_of(&block)),
@@ -107,23 +112,21 @@ impl Pieces {
         }
     }
 
-    /// Takes the block at the front of the bytes, or what they have of one that is passed over. Err where it has a fault, or there is
-    /// no memory for an interface.
+    /// Takes the block at the front of the bytes, or the rest of one that is passed over. Err where it has a fault, or there is no memory
+    /// for an interface.
     pub(crate) fn take(&mut self, bytes: &[u8]) -> Result<Taken, FrameFault>
         requires some { 0 < length bytes.now }
         requires few { self.old.blocks.number < 2 ^ 64 - 1 }
-        ensures { Takes (Pcapng self.old) bytes.now result (Pcapng self.new) }
+        ensures takes { Takes (Pcapng self.old) bytes.now result (Pcapng self.new) }
+        ensures kept { FewKept (Pcapng self.old) → FewKept (Pcapng self.new) }
     {
         let Some(passing) = self.passing else {
             return self.read(bytes);
         };
-        match self.blocks.pass_on(passing, bytes) {
-            Ok(past) => {
-                self.passing = past.left;
-                Ok(Taken {
-                    length: past.length,
-                    frame: None,
-                })
+        match self.blocks.read_rest(passing, bytes) {
+            Ok(block) => {
+                self.passing = None;
+                Ok(taken_of(&block))
             }
             Err(fault) => Err(of_pcapng(fault)),
         }

@@ -1,7 +1,8 @@
 //! A capture file that is read in pieces.
-ghost use Rattle.std.specs.Prelude.{◌≡◌, ◌++◌, true, IfSome};
+ghost use Rattle.std.specs.Prelude.{◌≡◌, ◌++◌, true, IfOk, IfSome};
 ghost use Rattle.std.specs.Io.KnownBytes.{IsAtEnd};
-ghost use Rattle.bench_capture.specs.Windows.{Begins, IsNextSpan, SpanIsWithin, held, reading_on};
+ghost use Rattle.bench_capture.specs.Formats.{FewKept};
+ghost use Rattle.bench_capture.specs.Windows.{Begins, IsBegun, IsNextSpan, SpanIsWithin, held, reading_on};
 
 use crate::fault::ReadFault;
 use crate::format::{Format, wanted_to_open};
@@ -31,7 +32,7 @@ impl<R: Read> Model for FrameReader<R> {
     ghost use Rattle.std.specs.Prelude.{◌≡◌, ◌++◌, true, IfSome, option_map};
     ghost use Rattle.std.specs.Io.KnownBytes.{IsAtEnd};
     ghost use Rattle.bench_capture.specs.Calls.{Position};
-    ghost use Rattle.bench_capture.specs.Formats.{IsWithin, recorded_at};
+    ghost use Rattle.bench_capture.specs.Formats.{FewKept, IsWithin, recorded_at};
     ghost use Rattle.bench_capture.specs.Windows.{reading_on};
 
     ghost Value = { Position };
@@ -42,7 +43,8 @@ impl<R: Read> Model for FrameReader<R> {
     } };
 
     ghost invariant = { λ f. (f.ended ≡ true → IsAtEnd (R.remaining f.reader))
-        × IfSome f.frame (IsWithin f.window.bytes.items) };
+        × IfSome f.frame (IsWithin f.window.bytes.items)
+        × FewKept f.format };
 }
 
 /// What is known of a capture behind its beginning, which is taken from the window.
@@ -56,6 +58,7 @@ fn open_format<R: Read>(
     ensures begins { IfSome (R.remaining reader.old) (λ file.
         Begins (held window.old ++ file) result window.new (R.remaining reader.new)) }
     ensures ended { ended.new ≡ true → IsAtEnd (R.remaining reader.new) }
+    ensures kept { IfOk result FewKept }
 {
     for _ in 0..u64::MAX {
         match Format::open(alloc, window.as_slice()) {
@@ -68,10 +71,47 @@ fn open_format<R: Read>(
                 if *ended || wanted_to_open(bytes) <= bytes.len() {
                     return Err(ReadFault::Capture(fault));
                 }
+                if let Some((format, gap)) = Format::open_long(alloc, bytes) {
+                    window.cut(gap);
+                    return Ok(format);
+                }
             }
         }
         match window.read_more(reader) {
             Ok(more) => *ended = !more,
+            Err(fault) => return Err(fault),
+        }
+    }
+    Err(ReadFault::Unreadable(ErrorKind::FileTooLarge))
+}
+
+/// Passes over a first block that the window doesn't hold all of. Err with the fault that it has.
+fn pass_first<R: Read>(
+    format: &mut Format,
+    reader: &mut R,
+    window: &mut Window,
+    ended: &mut bool,
+) -> Result<(), ReadFault>
+    requires ended { ended.old ≡ true → IsAtEnd (R.remaining reader.old) }
+    requires kept { FewKept format.old }
+    ensures begun { IfSome (R.remaining reader.old) (λ rest.
+        IsBegun (reading_on format.old window.old rest) result format.new window.new
+        (R.remaining reader.new)) }
+    ensures ended { ended.new ≡ true → IsAtEnd (R.remaining reader.new) }
+    ensures kept { FewKept format.new }
+{
+    for _ in 0..u64::MAX {
+        if !format.is_within() {
+            return Ok(());
+        }
+        match take_turn(format, window, *ended) {
+            Ok(Turn::Passed) => continue,
+            Ok(Turn::Wants) => match window.read_more(reader) {
+                Ok(more) => *ended = !more,
+                Err(fault) => return Err(fault),
+            },
+            // A first block holds no packet, and a file doesn't end within it.
+            Ok(Turn::Frame(_) | Turn::End) => break,
             Err(fault) => return Err(fault),
         }
     }
@@ -85,12 +125,14 @@ fn next_span<R: Read>(
     window: &mut Window,
     ended: &mut bool,
 ) -> Result<Option<Span>, ReadFault>
-    requires { ended.old ≡ true → IsAtEnd (R.remaining reader.old) }
+    requires ended { ended.old ≡ true → IsAtEnd (R.remaining reader.old) }
+    requires kept { FewKept format.old }
     ensures next { IfSome (R.remaining reader.old) (λ rest.
         IsNextSpan (reading_on format.old window.old rest) result format.new window.new
         (R.remaining reader.new)) }
     ensures within { SpanIsWithin result window.new }
     ensures ended { ended.new ≡ true → IsAtEnd (R.remaining reader.new) }
+    ensures kept { FewKept format.new }
 {
     for _ in 0..u64::MAX {
         match take_turn(format, window, *ended) {
@@ -124,7 +166,8 @@ impl<R: Read> FrameReader<R> {
         };
         let mut reader = reader;
         let mut ended = false;
-        let format = open_format(alloc, &mut reader, &mut window, &mut ended)?;
+        let mut format = open_format(alloc, &mut reader, &mut window, &mut ended)?;
+        pass_first(&mut format, &mut reader, &mut window, &mut ended)?;
         Ok(FrameReader {
             reader,
             window,

@@ -26,6 +26,15 @@ pub(crate) struct Taken {
     pub(crate) frame: Option<Span>,
 }
 
+/// Bytes that are let go.
+#[derive(Clone, Copy, Debug)]
+pub(crate) struct Gap {
+    /// How many bytes stand in front of them, and are kept.
+    pub(crate) start: usize,
+    /// How many there are.
+    pub(crate) length: usize,
+}
+
 /// The frame that stands there.
 pub(crate) fn frame_at(bytes: &[u8], span: Span) -> RecordedFrame<'_>
     requires { IsWithin bytes.now span }

@@ -1,5 +1,6 @@
 //! One turn of reading on: a record or a block is taken from the bytes that are held, or more bytes are wanted.
-ghost use Rattle.std.specs.Prelude.{◌≡◌, [], false, true, List, ℕ, Ok};
+ghost use Rattle.std.specs.Prelude.{◌≡◌, ◌<◌, [], false, true, List, ℕ, Ok, length};
+ghost use Rattle.bench_capture.specs.Formats.{FewKept};
 ghost use Rattle.bench_capture.specs.Windows.{IsTurn, held};
 ghost use Rattle.bench_capture.specs.declared.window.Window.{Window};
 
@@ -43,9 +44,12 @@ pub(crate) fn take_turn(
     window: &mut Window,
     ended: bool,
 ) -> Result<Turn, ReadFault>
+    requires { FewKept format.old }
     ensures turn { (rest : List ℕ) → (ended ≡ true → rest ≡ [])
         → IsTurn format.old window.old rest result format.new window.new }
     ensures wants { result ≡ Ok Turn.Wants → ended ≡ false }
+    ensures kept { FewKept format.new }
+    ensures room { result ≡ Ok Turn.Wants → length (held window.new) < 262176 }
 {
     let bytes = window.as_slice();
     if bytes.is_empty() {
@@ -68,12 +72,15 @@ pub(crate) fn take_turn(
         }
         Err(FrameFault::NoMemory) => Err(ReadFault::NoMemory),
         Err(FrameFault::Capture(fault)) => {
-            if ended || format.wanted(bytes) <= bytes.len() {
-                Err(ReadFault::Capture(fault))
-            } else if format.pass_over(bytes) {
-                Ok(Turn::Passed)
-            } else {
-                Ok(Turn::Wants)
+            if ended || format.is_enough(bytes) {
+                return Err(ReadFault::Capture(fault));
+            }
+            match format.let_go(bytes) {
+                Some(gap) => {
+                    window.cut(gap);
+                    Ok(Turn::Passed)
+                }
+                None => Ok(Turn::Wants),
             }
         }
     }

@@ -3,13 +3,14 @@ ghost use Rattle.std.specs.Prelude.{◌≡◌, ◌+◌, ◌<◌, ◌≤◌, IfOk
 ghost use Rattle.std.specs.Io.KnownBytes.{Consumes, IsAtEnd, Keeps};
 
 use crate::fault::ReadFault;
+use crate::span::Gap;
 use std::alloc::{AllocError, Global};
 use std::io::{ErrorKind, Read};
 
-/// How many bytes the buffer has at first: over a longest record of the classic format.
-const FIRST_ROOM: usize = 512 * 1024;
+/// How many bytes the buffer has: over a longest record of the classic format, and over those that are held of a block.
+const ROOM: usize = 512 * 1024;
 
-/// A buffer, of which the bytes from the start to the end are held.
+/// A buffer of 524,288 bytes, of which those from the start to the end are held.
 #[derive(Debug, Drop)]
 pub(crate) struct Window {
     pub(crate) bytes: Vec<u8>,
@@ -17,11 +18,13 @@ pub(crate) struct Window {
     pub(crate) end: usize,
     ghost ordered: { start ≤ end },
     ghost within: { end ≤ vec_len bytes },
+    ghost room: { vec_len bytes ≡ 524288 },
 }
 
 impl Window {
-    ghost use Rattle.std.specs.Prelude.{◌≡◌, ◌+◌, ◌-◌, ◌*◌, ◌<◌, ◌≤◌, [], false, IfErr, IfOk, OnErr, OnOk, drop, length, vec_len};
+    ghost use Rattle.std.specs.Prelude.{◌≡◌, ◌+◌, ◌-◌, ◌<◌, ◌≤◌, [], false, IfErr, IfOk, drop, length};
     ghost use Rattle.std.specs.Io.KnownBytes.{IsAtEnd, Keeps, prepend_known};
+    ghost use Rattle.bench_capture.specs.Formats.{cut_of};
     ghost use Rattle.bench_capture.specs.Windows.{IsNoCaptureFault, held};
 
     /// A window that holds nothing.
@@ -29,7 +32,7 @@ impl Window {
         ensures { IfOk result (λ window. held window ≡ []) }
     {
         Ok(Window {
-            bytes: vec![in alloc; 0; FIRST_ROOM]?,
+            bytes: vec![in alloc; 0; ROOM]?,
             start: 0,
             end: 0,
         })
@@ -53,6 +56,21 @@ impl Window {
         self.start += count;
     }
 
+    /// Lets bytes go that stand behind the first ones.
+    pub(crate) fn cut(&mut self, gap: Gap)
+        requires { gap.start + gap.length ≤ length (held self.old) }
+        ensures { held self.new ≡ cut_of gap (held self.old) }
+    {
+        if gap.start == 0 {
+            return self.take(gap.length);
+        }
+        let to = self.start + gap.start;
+        let from = to + gap.length;
+        let end = self.end;
+        self.bytes.copy_within(from..end, to);
+        self.end = end - gap.length;
+    }
+
     /// Moves the bytes that are held to the front of the buffer.
     fn move_to_front(&mut self)
         ensures held { held self.new ≡ held self.old }
@@ -67,30 +85,16 @@ impl Window {
         self.end = end - start;
     }
 
-    /// Makes room behind the bytes that are held. The buffer is grown only where they fill it.
-    fn make_room(&mut self) -> Result<(), AllocError>
-        ensures held { held self.new ≡ held self.old }
-        ensures room { OnOk result (self.new.end < vec_len self.new.bytes) }
-    {
-        self.move_to_front();
-        let len = self.bytes.len();
-        if self.end < len {
-            return Ok(());
-        }
-        self.bytes.resize(len.saturating_mul(2).max(FIRST_ROOM), 0)
-    }
-
-    /// Reads once behind the bytes that are held. Whether more may come: false at the reader's end. Err where there is no memory, or
-    /// the reader fails; then nothing is lost.
+    /// Reads once behind the bytes that are held, which are few enough that there is room. Whether more may come: false at the reader's
+    /// end. Err where the reader fails; then nothing is lost.
     pub(crate) fn read_more<R: Read>(&mut self, reader: &mut R) -> Result<bool, ReadFault>
+        requires { length (held self.old) < 524288 }
         ensures none_lost { Keeps (prepend_known (held self.old) (R.remaining reader.old))
             (prepend_known (held self.new) (R.remaining reader.new)) }
         ensures end { IfOk result (λ more. more ≡ false → IsAtEnd (R.remaining reader.new)) }
         ensures refused { IfErr result IsNoCaptureFault }
     {
-        let Ok(()) = self.make_room() else {
-            return Err(ReadFault::NoMemory);
-        };
+        self.move_to_front();
         let end = self.end;
         match read_behind(reader, &mut self.bytes, end) {
             Ok(count) => {

@@ -41,7 +41,7 @@ number_behind skipped count order xs ys long =
 
 -- ---- the length of a block
 
-order_more : (order : Order) (bytes more : List ℕ) → 12 ≤ length bytes → order_of_block order (bytes ++ more) ≡ order_of_block order bytes
+pub order_more : (order : Order) (bytes more : List ℕ) → 12 ≤ length bytes → order_of_block order (bytes ++ more) ≡ order_of_block order bytes
 unfolding order_of_block
 order_more order bytes more long =
     let kind : number_in 4 order (bytes ++ more) ≡ number_in 4 order bytes = number_append 4 order bytes more (omega (arith, long)) in

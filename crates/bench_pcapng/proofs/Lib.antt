@@ -1,8 +1,13 @@
 pub mod Examples
 pub mod Fronts
+pub mod Held
+pub mod LettingGo
 pub mod Memory
 pub mod OptionWalk
 pub mod PacketPlaces
-pub mod Passings
+pub mod PassedOver
 pub mod Powers
 pub mod Readings
+pub mod Rests
+pub mod Shown
+pub mod Within

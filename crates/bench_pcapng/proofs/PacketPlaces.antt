@@ -84,11 +84,11 @@ not_begun : (found : Option Order) (packet : Captured) → begins found ≡ Ok (
 not_begun None packet is = cc
 not_begun (Some order) packet is = cc
 
-not_described : (found : Option Interface) (packet : Captured) → describes found ≡ Ok (Gives packet) → ⊥
+pub not_described : (found : Option Interface) (packet : Captured) → describes found ≡ Ok (Gives packet) → ⊥
 not_described None packet is = cc
 not_described (Some interface) packet is = cc
 
-effect_behind : (order : Order) (interfaces : List Interface) (time kind : ℕ) (body : List ℕ) (packet : Captured)
+pub effect_behind : (order : Order) (interfaces : List Interface) (time kind : ℕ) (body : List ℕ) (packet : Captured)
     → effect_of order interfaces time kind body ≡ Ok (Gives packet) → IsBehind (data_start kind - 8) body packet
 unfolding effect_of
 effect_behind order interfaces time kind body packet is =
@@ -118,14 +118,14 @@ pub step_given : (known : Progress) (bytes : List ℕ) (total : ℕ) (effect : E
 unfolding step_of
 step_given known bytes total effect whole does = rw (whole, does) refl
 
-gives_packet : (place next : Place) (behind : List ℕ) (effect : Effect) (packet : Captured) → with_effect place behind effect ≡ Yields packet next → effect ≡ Gives packet
+pub gives_packet : (place next : Place) (behind : List ℕ) (effect : Effect) (packet : Captured) → with_effect place behind effect ≡ Yields packet next → effect ≡ Gives packet
 gives_packet place next behind (Section order) packet is = absurd (cc)
 gives_packet place next behind (Describes interface) packet is = absurd (cc)
 gives_packet place next behind (Gives other) packet is = let same : other ≡ packet = cc in ap (λ (p : Captured). Gives p) same
 gives_packet place next behind Nothing packet is = absurd (cc)
 
 -- what is behind so many bytes of a part is what is behind them of the whole
-part_behind : (skipped size count : ℕ) (bytes : List ℕ) → skipped + count ≤ size → take count (drop skipped (take size bytes)) ≡ take count (drop skipped bytes)
+pub part_behind : (skipped size count : ℕ) (bytes : List ℕ) → skipped + count ≤ size → take count (drop skipped (take size bytes)) ≡ take count (drop skipped bytes)
 part_behind skipped size count bytes within =
     let split : size ≡ skipped + (size - skipped) = omega (arith, within) in
     ap (λ (n : ℕ). take count (drop skipped (take n bytes))) split

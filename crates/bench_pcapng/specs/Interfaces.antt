@@ -45,10 +45,12 @@ options_from (suc most) order plain bytes =
 unfoldable pub options_of : Order → Interface → List ℕ → Option Interface
 options_of order plain bytes = options_from (length bytes) order plain bytes
 
--- the interface of a description; without an option its times are in microseconds
+-- the interface of a description that has no options: its times are in microseconds
+abbrev pub plain_of : Order → List ℕ → Interface
+plain_of order body =
+    record { link = number_in 2 order body; snap_length = number_in 4 order (drop 4 body); resolution = 6; offset = 0 }
+
+-- the interface of a description
 unfoldable pub interface_of : Order → List ℕ → Option Interface
 interface_of order body =
-    if nat_lt (length body) 8 then None
-    else options_of order
-    (record { link = number_in 2 order body; snap_length = number_in 4 order (drop 4 body); resolution = 6; offset = 0 })
-    (drop 8 body)
+    if nat_lt (length body) 8 then None else options_of order (plain_of order body) (drop 8 body)

@@ -25,17 +25,21 @@ abbrev pub ComesTo : Step → List ℕ → Option Located → List ℕ → Progr
 ComesTo step bytes None behind new = step ≡ Passes (place_at new behind)
 ComesTo step bytes (Some located) behind new = (step ≡ Yields located.packet (place_at new behind)) × StandsIn bytes located
 
--- the block at the front of the bytes, and what is known behind it
-pub record IsBlock (step : Step) (bytes : List ℕ) (block : Block) (new : Progress) : Type 0 where
-  pub some : 12 ≤ block.length
+-- the block at the front of the bytes, of which there are at least so many, and what is known behind it
+pub record IsBlock (least : ℕ) (step : Step) (bytes : List ℕ) (block : Block) (new : Progress) : Type 0 where
+  pub some : least ≤ block.length
   pub within : block.length ≤ length bytes
   pub comes : ComesTo step bytes block.packet (drop block.length bytes) new
 
--- what reading the first block of these bytes gives; where it has a fault, or memory is wanting, as much is known as before
+-- what reading a block comes to; where it has a fault, or memory is wanting, as much is known as before
+abbrev pub Reads : ℕ → Step → Progress → List ℕ → Result Block PcapngFault → Progress → Type 0
+Reads least step old bytes (Ok block) new = IsBlock least step bytes block new
+Reads least step old bytes (Err NoMemory) new = new ≡ old
+Reads least step old bytes (Err Header) new = (step ≡ Fails Header) × (new ≡ old)
+Reads least step old bytes (Err (Link link)) new = (step ≡ Fails (Link link)) × (new ≡ old)
+Reads least step old bytes (Err (Torn n)) new = (step ≡ Fails (Torn n)) × (new ≡ old)
+Reads least step old bytes (Err (TooLong n)) new = (step ≡ Fails (TooLong n)) × (new ≡ old)
+
+-- what reading the first block of these bytes gives
 abbrev pub IsRead : Progress → List ℕ → Result Block PcapngFault → Progress → Type 0
-IsRead old bytes (Ok block) new = IsBlock (step_of (place_at old bytes)) bytes block new
-IsRead old bytes (Err NoMemory) new = new ≡ old
-IsRead old bytes (Err Header) new = (step_of (place_at old bytes) ≡ Fails Header) × (new ≡ old)
-IsRead old bytes (Err (Link link)) new = (step_of (place_at old bytes) ≡ Fails (Link link)) × (new ≡ old)
-IsRead old bytes (Err (Torn n)) new = (step_of (place_at old bytes) ≡ Fails (Torn n)) × (new ≡ old)
-IsRead old bytes (Err (TooLong n)) new = (step_of (place_at old bytes) ≡ Fails (TooLong n)) × (new ≡ old)
+IsRead old bytes result new = Reads 12 (step_of (place_at old bytes)) old bytes result new

@@ -23,7 +23,7 @@ pub(crate) fn order_by_mark(mark: u32) -> Option<Order>
 
 /// The byte order that the first block is written in: that of the section, but a section header block shows its own.
 #[tactic(auto, unfolding(crate::specs::Blocks::order_of_block))]
-fn order_of_block(order: Order, bytes: &[u8]) -> Option<Order>
+pub(crate) fn order_of_block(order: Order, bytes: &[u8]) -> Option<Order>
     requires { 12 ≤ length bytes.now }
     ensures { result ≡ order_of_block order bytes.now }
 {

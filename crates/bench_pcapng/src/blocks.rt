@@ -58,7 +58,7 @@ impl Model for Blocks {
 }
 
 /// How many bytes of a packet block of this type stand before the packet's own.
-fn data_start(kind: u32) -> usize
+pub(crate) fn data_start(kind: u32) -> usize
     ensures { result ≡ data_start kind }
 {
     if kind == SIMPLE_PACKET { 12 } else { 28 }
@@ -134,7 +134,10 @@ impl Blocks {
     }
 
     /// Passes a block that has this effect. Its packet, if it holds one. Err with `NoMemory` where there is none for its interface.
-    fn apply<'a>(&mut self, effect: Effect<'a>) -> Result<Option<Packet<'a>>, PcapngFault>
+    pub(crate) fn apply<'a>(
+        &mut self,
+        effect: Effect<'a>,
+    ) -> Result<Option<Packet<'a>>, PcapngFault>
         requires { self.old.number < 2 ^ 64 - 1 }
         ensures { IsApplied self.old effect.entry result self.new }
     {

@@ -1,6 +1,6 @@
 //! An interface of a section.
-ghost use Rattle.std.specs.Prelude.{◌≡◌};
-ghost use Rattle.bench_pcapng.specs.Interfaces.{interface_of};
+ghost use Rattle.std.specs.Prelude.{◌≡◌, ◌≤◌, length};
+ghost use Rattle.bench_pcapng.specs.Interfaces.{interface_of, plain_of};
 
 use crate::options::with_options;
 use crate::order::Order;
@@ -24,6 +24,19 @@ pub(crate) struct Interface {
     pub(crate) offset: u64,
 }
 
+/// The interface of a description that has no options.
+pub(crate) fn plain_interface(order: Order, body: &[u8]) -> Interface
+    requires { 8 ≤ length body.now }
+    ensures { result ≡ plain_of order body.now }
+{
+    Interface {
+        link: order.read_u16(body),
+        snap_length: order.read_u32(&body[4..]),
+        resolution: MICROSECONDS,
+        offset: 0,
+    }
+}
+
 /// The interface that a description is of, or None where it is too small for what it holds.
 #[tactic(auto, unfolding(crate::specs::Interfaces::interface_of))]
 pub(crate) fn read_interface(order: Order, body: &[u8]) -> Option<Interface>
@@ -32,11 +45,6 @@ pub(crate) fn read_interface(order: Order, body: &[u8]) -> Option<Interface>
     if body.len() < DESCRIPTION_LEN {
         return None;
     }
-    let plain = Interface {
-        link: order.read_u16(body),
-        snap_length: order.read_u32(&body[4..]),
-        resolution: MICROSECONDS,
-        offset: 0,
-    };
+    let plain = plain_interface(order, body);
     with_options(order, plain, &body[DESCRIPTION_LEN..])
 }

@@ -11,8 +11,9 @@
 //!
 //! **The way.** [`Pcapng::open`] reads the first block, and each [`Pcapng::next_packet`] goes on to the next packet. A packet's bytes
 //! are a slice of the file. Memory is taken for the interfaces of the section alone. [`Blocks`] is the same without the bytes, for a
-//! file that is held in pieces. [`Blocks::pass_over`] says of a long block whose bytes don't count how it is passed over, and
-//! [`Blocks::pass_on`] passes them as they come: what is to be read stays what it would be if the block were held (Passing).
+//! file that is held in pieces. [`Blocks::pass_over`] begins to pass over a long block, [`Passing::let_go`] says which of its bytes are
+//! let go as they come, and [`Blocks::read_rest`] reads its end: what is to be read stays what it would be if the block were held
+//! (Passing). The bytes of its packet are kept until then, and of an interface one option at a time is held.
 #![tactic(auto)]
 
 mod block;
@@ -22,6 +23,7 @@ pub mod fault;
 mod interface;
 mod options;
 mod order;
+mod outcome;
 pub mod packet;
 mod packet_block;
 pub mod passing;

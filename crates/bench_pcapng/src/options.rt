@@ -6,10 +6,10 @@ use crate::interface::Interface;
 use crate::order::Order;
 
 /// How many bytes stand before an option's value: its code and its length.
-const OPTION_HEADER_LEN: usize = 4;
+pub(crate) const OPTION_HEADER_LEN: usize = 4;
 
 /// The code of the option that ends the options.
-const END: u16 = 0;
+pub(crate) const END: u16 = 0;
 
 /// The code of the resolution of the times.
 const RESOLUTION: u16 = 9;
@@ -18,7 +18,7 @@ const RESOLUTION: u16 = 9;
 const OFFSET: u16 = 14;
 
 /// A length made a multiple of four.
-fn padded(length: usize) -> usize
+pub(crate) fn padded(length: usize) -> usize
     requires { length < 2 ^ 16 }
     ensures { result ≡ padded length }
 {
@@ -45,7 +45,11 @@ fn with_option(order: Order, plain: Interface, code: u16, value: &[u8]) -> Optio
 
 /// The interface with the first option, and what stands behind that; None where its value or the padding is cut, or has the wrong length.
 #[tactic(auto, unfolding(crate::specs::Interfaces::first_option, crate::specs::Interfaces::behind_option))]
-fn split_option(order: Order, plain: Interface, bytes: &[u8]) -> Option<(Interface, &[u8])>
+pub(crate) fn split_option(
+    order: Order,
+    plain: Interface,
+    bytes: &[u8],
+) -> Option<(Interface, &[u8])>
     requires { 4 ≤ length bytes.now }
     ensures interface { option_map (λ parts. parts.0) result ≡ first_option order plain bytes.now }
     ensures behind { IfSome result (λ parts. parts.1.now ≡ behind_option order bytes.now) }

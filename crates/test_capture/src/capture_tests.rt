@@ -12,7 +12,7 @@ use std::process::Abort;
 use test_fixtures::{holds, same};
 
 /// The frames of a file in memory, and that its end or its fault comes behind them, and then again.
-fn compare_slice(
+pub(crate) fn compare_slice(
     rt: &impl Abort,
     alloc: Global,
     what: &str,
@@ -36,7 +36,7 @@ fn compare_slice(
 }
 
 /// The same of a reader.
-fn compare_reader<R: Read + Drop>(
+pub(crate) fn compare_reader<R: Read + Drop>(
     rt: &impl Abort,
     alloc: Global,
     what: &str,
@@ -62,7 +62,7 @@ fn compare_reader<R: Read + Drop>(
 }
 
 /// The frame of `FIRST_PACKET` in microseconds.
-const FIRST: Wanted = (1_536_000, 60, &[2, 4, 6, 8, 10]);
+pub(crate) const FIRST: Wanted = (1_536_000, 60, &[2, 4, 6, 8, 10]);
 
 /// Files by their parts, with their frames and their fault.
 const FILES: [(&str, &[&[u8]], &[Wanted], Option<CaptureFault>); 17] = [

@@ -31,6 +31,47 @@ impl<'a> Read for Drip<'a> {
     }
 }
 
+/// Gives one to seven bytes at a time in front of the file's end and from each multiple of 65,536 bytes on, and 4,001 at a time
+/// elsewhere. It is interrupted between any two reads.
+#[derive(Debug, Drop)]
+pub(crate) struct Steps<'a> {
+    left: &'a [u8],
+    taken: usize,
+    turn: u8,
+}
+
+impl<'a> Steps<'a> {
+    pub(crate) fn of(left: &'a [u8]) -> Self {
+        Steps {
+            left,
+            taken: 0,
+            turn: 0,
+        }
+    }
+}
+
+impl<'a> Read for Steps<'a> {
+    fn read(&mut self, buffer: &mut [u8]) -> io::Result<usize> {
+        self.turn = self.turn.wrapping_add(1);
+        if self.turn % 2 == 0 {
+            return Err(io::Error::from(ErrorKind::Interrupted));
+        }
+        let few = self.left.len() < 400 || self.taken % 65_536 < 200;
+        let count = if few {
+            usize::from(self.turn / 2 % 7 + 1)
+        } else {
+            4_001
+        };
+        let count = count.min(self.left.len()).min(buffer.len());
+        let (given, left) = self.left.split_at(count);
+        let (room, _) = buffer.split_at_mut(count);
+        room.copy_from_slice(given);
+        self.left = left;
+        self.taken = self.taken.wrapping_add(count);
+        Ok(count)
+    }
+}
+
 /// Gives ten bytes at a time, and fails each second time.
 #[derive(Debug, Drop)]
 pub(crate) struct Failing<'a> {

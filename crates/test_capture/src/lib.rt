@@ -10,4 +10,6 @@ mod files;
 #[cfg(test)]
 mod long_tests;
 #[cfg(test)]
+mod options_tests;
+#[cfg(test)]
 mod reader_tests;

@@ -1,6 +1,6 @@
 //! Captures in the pcapng format that are made by hand, block by block: each kind of block in either byte order, each resolution of
 //! times, and each fault.
-use bench_pcapng::{Blocks, Packet, Pcapng, PcapngFault, is_pcapng};
+use bench_pcapng::{Blocks, Packet, Past, Pcapng, PcapngFault, is_pcapng};
 use std::alloc::{AllocError, Global};
 use std::process::Abort;
 use std::test::Fail;
@@ -415,4 +415,76 @@ fn blocks_are_read_one_at_a_time(rt: HostRuntime) {
     same!(rt; read_front(&rt, &mut blocks, &LOW_PACKET), Ok((52, Some(28))));
     same!(rt; read_front(&rt, &mut blocks, &LOW_SIMPLE), Ok((20, Some(12))));
     same!(rt; read_front(&rt, &mut blocks, &LOW_SECOND), Err(PcapngFault::Torn(4)));
+}
+
+/// A block of this type and front, filled up to 300,000 bytes and with its length at the end.
+fn filled(alloc: Global, front: &[u8]) -> Result<Vec<u8>, AllocError> {
+    let mut block = Vec::new(alloc);
+    block.extend_from_slice(front)?;
+    block.resize(299_996, 0)?;
+    block.extend_from_slice(&[0xe0, 0x93, 4, 0])?;
+    Ok(block)
+}
+
+/// Bytes without those that are let go of them.
+fn without(alloc: Global, bytes: &[u8], past: &Past) -> Result<Vec<u8>, AllocError> {
+    let start = past.start.min(bytes.len());
+    let (front, behind) = bytes.split_at(start);
+    let (_, back) = behind.split_at(past.length.min(behind.len()));
+    joined(alloc, &[front, back])
+}
+
+/// Of a packet block its packet's bytes are kept: 28 bytes go, then all but 5 of those that are held, and at last its end is read.
+#[test]
+fn a_long_packet_block_is_passed_over(rt: HostRuntime) {
+    let (mut blocks, _) = Blocks::open(rt.alloc(), &LOW_SECTION).expect(&rt, "a section");
+    same!(rt; read_front(&rt, &mut blocks, &LOW_INTERFACE), Ok((20, None)));
+    let mut front = [0; 36];
+    front.copy_from_slice(&LOW_PACKET[..36]);
+    front[4] = 0xe0;
+    front[5] = 0x93;
+    front[6] = 4;
+    let block = filled(rt.alloc(), &front).expect(&rt, "a block");
+    let (few, _) = block.split_at(block.len().min(262_175));
+    holds!(rt; blocks.pass_over(few).is_none());
+    holds!(rt; blocks.pass_over(&block).is_none());
+    let (held, later) = block.split_at(block.len().min(262_176));
+    let begun = blocks.pass_over(held).expect(&rt, "a long block");
+    same!(rt; (begun.start, begun.length), (0, 28));
+    same!(rt; blocks.torn(begun.left), PcapngFault::Torn(2));
+    let rest = without(rt.alloc(), held, &begun).expect(&rt, "bytes");
+    holds!(rt; !begun.left.is_whole(&rest));
+    let gone = begun.left.let_go(&rest).expect(&rt, "options");
+    same!(rt; (gone.start, gone.length), (5, 262_143));
+    let kept = without(rt.alloc(), &rest, &gone).expect(&rt, "bytes");
+    same!(rt; kept.as_slice(), [2, 4, 6, 8, 10].as_slice());
+    holds!(rt; gone.left.let_go(&kept).is_none());
+    assert!(rt; !blocks.is_full(), "one more block can be numbered");
+    same!(rt; blocks.read_rest(gone.left, &kept).err(), Some(PcapngFault::Torn(2)));
+    let end = joined(rt.alloc(), &[&kept, later]).expect(&rt, "bytes");
+    holds!(rt; gone.left.is_whole(&end));
+    assert!(rt; !blocks.is_full(), "one more block can be numbered");
+    let read = blocks.read_rest(gone.left, &end).expect(&rt, "a packet");
+    same!(rt; read.length, 37_829);
+    let located = read.packet.expect(&rt, "a packet");
+    same!(rt; located.start, 0);
+    compare_packet(&rt, "a long block", &located.packet, &FIRST);
+}
+
+/// The first block of a file has a fault of the header.
+#[test]
+fn a_long_first_block_is_passed_over(rt: HostRuntime) {
+    let mut front = [0; 24];
+    front.copy_from_slice(&LOW_SECTION[..24]);
+    front[4] = 0xe0;
+    front[5] = 0x93;
+    front[6] = 4;
+    let block = filled(rt.alloc(), &front).expect(&rt, "a block");
+    holds!(rt; Blocks::pass_over_first(rt.alloc(), &block).is_none());
+    let (held, _) = block.split_at(block.len().min(262_180));
+    let (blocks, begun) = Blocks::pass_over_first(rt.alloc(), held).expect(&rt, "a section");
+    same!(rt; blocks.torn(begun.left), PcapngFault::Header);
+    same!(rt; (begun.start, begun.length), (0, 0));
+    let gone = begun.left.let_go(held).expect(&rt, "options");
+    same!(rt; (gone.start, gone.length), (0, 262_180));
 }

@@ -49,6 +49,7 @@ loop-preserved-in-Ok-Passed g c =
           c.loop.format c.take_turn.new.format c.loop.window c.take_turn.new.window (g.R.Read.remaining c.loop.reader) c.loop.ended c.loop.invariant.ended
           turn c.loop.invariant.leaves;
       ended = c.loop.invariant.ended;
+      kept = c.in-Ok-Passed.ensures.kept;
     }
 
 pub loop-preserved : goal.loop-preserved
@@ -63,4 +64,5 @@ loop-preserved g c =
           read_given first c.args.format.now c.args.window.now c.take_turn.new.format c.take_turn.new.window c.read_more.new.self
           (g.R.Read.remaining c.loop.reader) (g.R.Read.remaining c.read_more.new.reader) c.in-Ok.ensures.none_lost wants;
       ended = λ ends. c.in-Ok.ensures.end (not_true c.in-Ok.more ends);
+      kept = c.in-Ok-Wants.ensures.kept;
     }

@@ -9,7 +9,7 @@ use Rattle.bench_capture.proofs.frames.Frames.next_frame.Goals as goal
 
 pub returns-in-Err : goal.returns-in-Err
 returns-in-Err c =
-    fault_next c.loop-self.self-inside.format c.take.new.self c.loop-self.self-inside.rest.now c.in-Err.fault c.args.self.now c.in-Err.ensures c.loop-self.invariant.reading
+    fault_next c.loop-self.self-inside.format c.take.new.self c.loop-self.self-inside.rest.now c.in-Err.fault c.args.self.now c.in-Err.ensures.takes c.loop-self.invariant.reading
 
 pub returns-in-Some : goal.returns-in-Some
 returns-in-Some c =
@@ -17,7 +17,7 @@ returns-in-Some c =
     let new = c.take.new.self in
     let later = reading_at new (drop c.in-Ok.taken.length bytes) in
     sym c.loop-self.invariant.reading
-    ∙ whole_taken c.loop-self.self-inside.format new bytes c.in-Ok.taken c.in-Ok.ensures
+    ∙ whole_taken c.loop-self.self-inside.format new bytes c.in-Ok.taken c.in-Ok.ensures.takes
     ∙ ap (λ (frame : Option Span). with_span bytes frame later) c.in-Some.is
     ∙ ap (λ (frame : Recorded). with_frame frame later) (sym c.frame_at.ensures)
     ∙ ap (λ (rest : List ℕ). with_frame c.frame_at.result (reading_at new rest)) (sym c.split_at.ensures.back)
@@ -32,7 +32,7 @@ loop-self-preserved c =
     record {
       reading = ap (λ (rest : List ℕ). reading_at new rest) c.split_at.ensures.back
           ∙ sym (ap (λ (frame : Option Span). with_span bytes frame later) c.in_default.is)
-          ∙ sym (whole_taken c.loop-self.self-inside.format new bytes c.in-Ok.taken c.in-Ok.ensures)
+          ∙ sym (whole_taken c.loop-self.self-inside.format new bytes c.in-Ok.taken c.in-Ok.ensures.takes)
           ∙ c.loop-self.invariant.reading;
-      few = omega (arith, c.loop-self.invariant.few, c.in-Ok.ensures.counted, c.in-Ok.ensures.within, left);
+      few = omega (arith, c.loop-self.invariant.few, c.in-Ok.ensures.takes.counted, c.in-Ok.ensures.takes.within, left);
     }

@@ -7,7 +7,7 @@ use Rattle.bench_capture.proofs.frames.Frames.open.Goals as goal
 pub returns-in-Ok : goal.returns-in-Ok
 returns-in-Ok c =
     ap (λ (rest : List ℕ). reading_at c.in-Ok.format rest) c.split_at.ensures.back
-    ∙ whole_opened c.args.file.now c.in-Ok.format c.in-Ok.length c.in-Ok.ensures
+    ∙ whole_opened c.args.file.now c.in-Ok.format c.in-Ok.length c.in-Ok.ensures.opens
 
 pub returns-in-Err : goal.returns-in-Err
-returns-in-Err c = whole_faulty c.args.file.now c.in-Err.fault c.in-Err.ensures
+returns-in-Err c = whole_faulty c.args.file.now c.in-Err.fault c.in-Err.ensures.opens
