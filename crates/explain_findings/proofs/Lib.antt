@@ -1,0 +1,9 @@
+pub mod Lists
+pub mod Reaching
+pub mod Small
+pub mod Tables
+pub mod Walking
+pub mod Dropping
+pub mod Unused
+pub mod Holding
+pub mod Kept

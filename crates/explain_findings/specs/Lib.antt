@@ -1,0 +1,4 @@
+pub mod Reach
+pub mod Drops
+pub mod Findings
+pub mod Claims
