@@ -1,29 +1,27 @@
 -- Ports all of whose frames are dropped, and priorities that no GEM port carries.
-use Rattle.std.proofs.Common.{◌≡◌, ◌==◌, ℕ, zero, suc, ◌+◌, ◌<◌, ◌≤◌, Bool, true, false, ◌&&◌, ◌||◌, List, [], ◌∷◌, Option, Some, None, Result, Ok, Err, length, refl, ap, sym, ◌∙◌, subst, arith}
-use Rattle.std.specs.Prelude.{IfSome, if◌then◌else◌, is_err, is_some, map, min, nat_le, nat_lt, ok_or, option_map}
+use Rattle.std.proofs.Common.{◌≡◌, ◌==◌, ℕ, ◌<◌, ◌≤◌, Bool, true, ◌||◌, List, Option, Some, None, Result, Ok, Err, refl, ap, sym, ◌∙◌, arith}
+use Rattle.std.specs.Prelude.{IfSome, is_err, min, nat_lt, ok_or}
 use Rattle.std.specs.List.{list_all}
-use Rattle.std.specs.Option.{option_and_then}
 use Rattle.std.specs.Result.{result_map_both}
-use Rattle.std.proofs.lemmas.Bool.{and_from, and_parts, false≢true, leb-true, lt-ltb, or_cases, or_left, or_right}
+use Rattle.std.proofs.lemmas.Bool.{false≢true, lt-ltb, or_left, or_right}
 use Rattle.std.proofs.lemmas.List.Folds.{list_all-map}
 use Rattle.tag_view.specs.declared.fault.FrameFault.{FrameFault}
 use Rattle.tag_view.specs.declared.fault.FrameFault.TheVariants as fault
 use Rattle.tag_view.specs.Tag.{TagFields}
-use Rattle.tag_view.specs.Frame.{Reading, frame_of, type_at}
+use Rattle.tag_view.specs.Frame.{Reading, frame_of}
 use Rattle.tag_view.specs.Dscp.{dscp_of}
-use Rattle.vlan_rule.specs.Entry.{refusal_of}
 use Rattle.treatment.specs.Treatment.{treated}
 use Rattle.pmapper.specs.Mapper.{priority_of}
 use Rattle.managed_entity.specs.Instance.{Instance}
 use Rattle.mib_state.specs.Entities.{Entities, find}
-use Rattle.mib_state.specs.Attached.{mapper_of_port}
 use Rattle.frame_meaning.specs.declared.reason.Reason.{Reason}
 use Rattle.frame_meaning.specs.declared.reason.Reason.TheVariants as reason
-use Rattle.frame_meaning.specs.declared.verdict.Verdict.TheVariants.{Drop}
 use Rattle.frame_meaning.specs.Reason.{number_of_reason, reason_of_fault}
 use Rattle.frame_meaning.specs.Meaning.{Table, entry_for, forwarded_by, found_then, gem_port_at, gem_port_of, input_tpid_of, mapper_at, meaning, read_at, table_at, tags_at, tags_by, unmarked_at, verdict_of}
-use Rattle.explain_findings.specs.Drops.{lacks_by, priorities, routes}
-use Rattle.explain_findings.specs.Claims.{AreBytes, ComesTo, DropsPriority, drops, holds_rules, is_by}
+use Rattle.explain_findings.specs.Reach.{priorities}
+use Rattle.explain_findings.specs.Drops.{lacks_by, routes}
+use Rattle.explain_findings.specs.Claims.{AreBytes, DropsPriority, drops, holds_rules, is_by}
+use Rattle.explain_findings.proofs.Priorities.{at_priority}
 use Rattle.explain_findings.proofs.Small.{are_small, priority_small, treated_small}
 use Rattle.explain_findings.proofs.Tables.{accepted_entry, are_rules, rules_at}
 use Rattle.explain_findings.proofs.Walking.{read_frame}
@@ -67,10 +65,12 @@ frame_drops test e port bytes passes lacks = by_read (frame_of (input_tpid_of (t
         → drops test (verdict_of (found_then gem (λ gem. Ok (gem, record frame { tags = tags })))) ≡ true
     by_gem frame tags (Ok gem) lacks = absurd lacks
     by_gem frame tags (Err r) lacks = lacks
+
     by_tags : (frame : Reading) (tags : Result (List TagFields) Reason) → Lacks test (found_then tags (λ tags. gem_port_at e port tags (dscp_of frame.rest)))
         → drops test (verdict_of (found_then tags (λ tags. found_then (gem_port_at e port tags (dscp_of frame.rest)) (λ gem. Ok (gem, record frame { tags = tags }))))) ≡ true
     by_tags frame (Err r) lacks = lacks
     by_tags frame (Ok tags) lacks = by_gem frame tags (gem_port_at e port tags (dscp_of frame.rest)) lacks
+
     by_read : (read : Result Reading FrameFault)
         → ((frame : Reading) → result_map_both (λ frame. frame) reason_of_fault read ≡ Ok frame
         → Lacks test (found_then (tags_at (table_at e port) frame) (λ tags. gem_port_at e port tags (dscp_of frame.rest))))
@@ -111,6 +111,7 @@ drops_by_mapper test e port passes rules lacks bytes fits =
         → Lacks test (found_then (ok_or out reason.RuleDiscard) (λ tags. gem_port_at e port tags (dscp_of frame.rest)))
     by_treated frame None small = passes.discard
     by_treated frame (Some tags) small = lacks tags (dscp_of frame.rest) small
+
     by_entry : (frame : Reading) (table : Table) (used : Option (List ℕ)) → entry_for table frame ≡ used → are_rules table.entries ≡ true → are_small frame.tags ≡ true
         → Lacks test (found_then (found_then (ok_or used reason.NoRule) (λ entry. ok_or (treated entry table.settings frame.tags (dscp_of frame.rest)) reason.RuleDiscard))
         (λ tags. gem_port_at e port tags (dscp_of frame.rest)))
@@ -118,6 +119,7 @@ drops_by_mapper test e port passes rules lacks bytes fits =
     by_entry frame table (Some entry) is rules small =
         by_treated frame (treated entry table.settings frame.tags (dscp_of frame.rest))
         (treated_small entry table.settings frame.tags (dscp_of frame.rest) (accepted_entry table frame entry rules is) small)
+
     by_table : (frame : Reading) (table : Option Table) → IfSome table (λ t. are_rules t.entries ≡ true) → are_small frame.tags ≡ true
         → Lacks test (found_then (tags_at table frame) (λ tags. gem_port_at e port tags (dscp_of frame.rest)))
     by_table frame None rules small = lacks frame.tags (dscp_of frame.rest) small
@@ -129,30 +131,6 @@ pub none_at : (test : Reason → Bool) (e : Entities) (port : ℕ) → mapper_at
     → (tags : List TagFields) (dscp : Option ℕ) → Lacks test (gem_port_at e port tags dscp)
 unfolding gem_port_at
 none_at test e port none passes tags dscp = rw none passes
-
--- what all priorities pass
-at_priority : (test : ℕ → Bool) (p : ℕ) → p < 8 → list_all test priorities ≡ true → test p ≡ true
-at_priority test p small all =
-    let first = and_parts (test 0) _ all in
-    let second = and_parts (test 1) _ first.1 in
-    let third = and_parts (test 2) _ second.1 in
-    let fourth = and_parts (test 3) _ third.1 in
-    let fifth = and_parts (test 4) _ fourth.1 in
-    let sixth = and_parts (test 5) _ fifth.1 in
-    let seventh = and_parts (test 6) _ sixth.1 in
-    let eighth = and_parts (test 7) true seventh.1 in
-    by_number p small first.0 second.0 third.0 fourth.0 fifth.0 sixth.0 seventh.0 eighth.0
-  where
-    by_number : (p : ℕ) → p < 8 → test 0 ≡ true → test 1 ≡ true → test 2 ≡ true → test 3 ≡ true → test 4 ≡ true → test 5 ≡ true → test 6 ≡ true → test 7 ≡ true → test p ≡ true
-    by_number zero small a b c d e f g h = a
-    by_number (suc zero) small a b c d e f g h = b
-    by_number (suc (suc zero)) small a b c d e f g h = c
-    by_number (suc (suc (suc zero))) small a b c d e f g h = d
-    by_number (suc (suc (suc (suc zero)))) small a b c d e f g h = e
-    by_number (suc (suc (suc (suc (suc zero))))) small a b c d e f g h = f
-    by_number (suc (suc (suc (suc (suc (suc zero)))))) small a b c d e f g h = g
-    by_number (suc (suc (suc (suc (suc (suc (suc zero))))))) small a b c d e f g h = h
-    by_number (suc (suc (suc (suc (suc (suc (suc (suc p)))))))) small a b c d e f g h = absurd (omega arith)
 
 pub lacks_at : (test : Reason → Bool) (e : Entities) (port : ℕ) (mapper : Instance) (lacks : Result ℕ Reason → Bool) → mapper_at e port ≡ Some mapper
     → ((route : Result ℕ Reason) → lacks route ≡ true → Lacks test route) → list_all lacks (routes e mapper) ≡ true

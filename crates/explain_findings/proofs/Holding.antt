@@ -1,8 +1,7 @@
 -- Every finding holds what it claims.
-use Rattle.std.proofs.Common.{◌≡◌, ◌≢◌, ◌==◌, ℕ, zero, suc, ◌+◌, ◌<◌, ◌≤◌, Bool, true, false, ◌&&◌, ◌||◌, List, [], ◌∷◌, ◌++◌, Option, Some, None, Result, Ok, Err, length, refl, ap, sym, ◌∙◌, subst, arith, map}
+use Rattle.std.proofs.Common.{◌≡◌, ◌≢◌, ◌==◌, ℕ, Bool, true, false, ◌&&◌, ◌||◌, List, [], ◌∷◌, Option, Some, None, Result, Ok, Err, refl, ap, sym, ◌∙◌, subst, arith}
 use Rattle.std.specs.Prelude.{All, IfSome, if◌then◌else◌, is_err, is_none, is_some, nat_le, ok_or}
-use Rattle.std.specs.Prelude as list
-use Rattle.std.specs.List.{filter_map, list_all}
+use Rattle.std.specs.List.{list_all}
 use Rattle.std.specs.Option.{option_and_then, option_map_or}
 use Rattle.std.proofs.lemmas.Bool.{and_parts, eq-eqb, eqb-false, eqb-true, false≢true, leb-true}
 use Rattle.std.proofs.lemmas.Option.{cond_some}
@@ -23,24 +22,24 @@ use Rattle.managed_entity.specs.Class.{class_number}
 use Rattle.managed_entity.specs.Instance.{Instance, attribute_number}
 use Rattle.mib_state.specs.Entities.{Entities, find, instances_of}
 use Rattle.mib_state.specs.Attached.{association_mapper, mapper_of_port, table_of_port}
-use Rattle.mib_state.proofs.Touched.{either, number_found}
+use Rattle.mib_state.proofs.Touched.{number_found}
 use Rattle.frame_meaning.specs.declared.reason.Reason.{Reason}
 use Rattle.frame_meaning.specs.declared.reason.Reason.TheVariants as reason
 use Rattle.frame_meaning.specs.Reason.{number_of_reason}
-use Rattle.frame_meaning.specs.Meaning.{Table, carries_upstream, entry_for, found_then, gem_port_behind, gem_port_of, mapper_at, meaning, pointers_at, port_id_of, table_at, tags_at, tags_by}
+use Rattle.frame_meaning.specs.Meaning.{Table, carries_upstream, entry_for, found_then, gem_port_of, mapper_at, meaning, pointers_at, table_at, tags_at, tags_by}
 use Rattle.explain.specs.Order.{tried_order}
 use Rattle.explain.specs.Covers.{shadow_of}
 use Rattle.explain.proofs.Orders.{chosen_first}
 use Rattle.explain_findings.specs.declared.finding.Finding.{Finding}
 use Rattle.explain_findings.specs.declared.finding.Finding.TheVariants as finding
-use Rattle.explain_findings.specs.Reach.{numbers, port_of_mapper, port_of_table, reached_gem_ports, reached_mappers, reached_points, reached_tables}
-use Rattle.explain_findings.specs.Drops.{common_reason, discards_all, entries_reason, is_discard, lacks_by, lets_none, port_drops, port_drops_by, priorities, routes, table_reason, uncarried, uncarried_by}
-use Rattle.explain_findings.specs.Findings.{another, class_findings, drops_at_mapper, drops_at_table, findings, findings_of, first_of_port_id, found, gem_port_findings, has_port_id, instance_findings, interwork_findings, is_alone_at, is_number, mapper_findings, missing_gem_port, missing_mapper, not_upstream, port_by_table, priority_finding, priority_finding_by, second_mapper, second_mapper_by, second_table, second_table_by, shared_by, shared_port_id, table_findings, unreached, unused_by, unused_entry}
+use Rattle.explain_findings.specs.Reach.{numbers, port_of_mapper, port_of_table, priorities, reached_gem_ports, reached_mappers, reached_points, reached_tables}
+use Rattle.explain_findings.specs.Drops.{common_reason, discards_all, entries_reason, is_discard, lacks_by, lets_none, port_drops, port_drops_by, routes, table_reason, uncarried, by_common}
+use Rattle.explain_findings.specs.Findings.{another, class_findings, drops_at_mapper, drops_at_table, findings, findings_of, first_of_port_id, gem_port_findings, has_port_id, instance_findings, interwork_findings, is_alone_at, is_number, mapper_findings, missing_gem_port, missing_mapper, not_upstream, port_by_table, pointer_finding, priority_finding, second_mapper, second_mapper_by, second_table, second_table_by, shared_by, shared_port_id, table_findings, uncarried_by, unreached, unused_by, unused_entry}
 use Rattle.explain_findings.specs.Claims.{Claims, DropsBy, drops, holds_rules, is_by}
 use Rattle.explain_findings.proofs.Lists.{all_found, all_given, all_joined, all_mapped, find_all, find_passes, has}
-use Rattle.explain_findings.proofs.Tables.{UsesAt, entry_within}
+use Rattle.explain_findings.proofs.Tables.{entry_within}
 use Rattle.explain_findings.proofs.Walking.{is_unreached, reached_of}
-use Rattle.explain_findings.proofs.Dropping.{Lacks, PassesFaults, by_itself, drops_by_mapper, drops_by_table, drops_priority, early_any, early_by, lacks_any, lacks_at, lacks_by_reason, none_at}
+use Rattle.explain_findings.proofs.Dropping.{Lacks, drops_by_mapper, drops_by_table, drops_priority, early_any, early_by, lacks_any, lacks_at, lacks_by_reason, none_at}
 use Rattle.explain_findings.proofs.Unused.{never_told, not_chosen}
 
 -- ---- parts that findings share
@@ -138,6 +137,7 @@ table_drops e port r is bytes fits = by_table (table_at e port) refl is
         let so = cond_some (discards_all (entry ∷ rest)) reason.RuleDiscard r is in
         subst (λ (r : Reason). drops (is_by r) (meaning e port bytes) ≡ true) so.1
         (drops_by_table (is_by reason.RuleDiscard) e port (record { runt = refl; cut = refl }) (λ frame. rw there (discard_lacks table frame (ap discards_all are ∙ so.0))) bytes)
+
     by_table : (o : Option Table) → table_at e port ≡ o → table_reason o ≡ Some r → drops (is_by r) (meaning e port bytes) ≡ true
     by_table None there is = cc
     by_table (Some table) there is = by_entries table there table.entries refl is
@@ -146,7 +146,7 @@ table_drops e port r is bytes fits = by_table (table_at e port) refl is
 mapper_drops : (e : Entities) (port : ℕ) (mapper : Instance) → holds_rules e ≡ true → mapper_at e port ≡ Some mapper → IfSome (uncarried port (routes e mapper)) (Claims e)
 mapper_drops e port mapper rules there = by_case (common_reason (routes e mapper)) refl
   where
-    by_case : (o : Option Reason) → common_reason (routes e mapper) ≡ o → IfSome (uncarried_by port (routes e mapper) o) (Claims e)
+    by_case : (o : Option Reason) → common_reason (routes e mapper) ≡ o → IfSome (by_common port (routes e mapper) o) (Claims e)
     by_case (Some r) is =
         let lacks = find_passes (λ r. list_all (lacks_by r) (routes e mapper)) (reason.NullPointer ∷ reason.NoInterwork ∷ reason.NoGem ∷ reason.Direction ∷ []) r is in
         let late = find_all (λ r. list_all (lacks_by r) (routes e mapper)) (λ r. nat_le 5 (number_of_reason r)) (reason.NullPointer ∷ reason.NoInterwork ∷ reason.NoGem ∷ reason.Direction ∷ []) r is refl in
@@ -166,25 +166,6 @@ port_holds e port rules = by_case (table_reason (table_at e port)) (mapper_at e 
 
 -- ---- a mapper
 
--- the frames that come to a point aren't dropped for want of it
-other_reason : (e : Entities) (point : Instance) → gem_port_behind e point ≢ Err reason.NoInterwork
-unfolding gem_port_behind port_id_of
-other_reason e point is = by_gem (find (attribute_number 1 point) e.gem_ports) is
-  where
-    by_direction : (gem : Instance) (b : Bool) → (if b then Ok (attribute_number 1 gem) else Err reason.Direction) ≢ Err reason.NoInterwork
-    by_direction gem true is = cc
-    by_direction gem false is = cc
-    by_gem : (o : Option Instance) → found_then (ok_or o reason.NoGem) port_id_of ≢ Err reason.NoInterwork
-    by_gem None is = cc
-    by_gem (Some gem) is = by_direction gem (carries_upstream gem) is
-
-no_point : (e : Entities) (pointer : ℕ) → found_then (ok_or (find pointer e.interworks) reason.NoInterwork) (gem_port_behind e) ≡ Err reason.NoInterwork → find pointer e.interworks ≡ None
-no_point e pointer is = by_case (find pointer e.interworks) is
-  where
-    by_case : (o : Option Instance) → found_then (ok_or o reason.NoInterwork) (gem_port_behind e) ≡ Err reason.NoInterwork → o ≡ None
-    by_case None is = refl
-    by_case (Some point) is = absurd (other_reason e point is)
-
 -- the instance is the one of its number
 module _ (e : Entities) (rules : holds_rules e ≡ true) (i : Instance) where
   second_mapper_holds : find i.number e.mappers ≡ Some i → IfSome (second_mapper e i) (Claims e)
@@ -203,15 +184,21 @@ module _ (e : Entities) (rules : holds_rules e ≡ true) (i : Instance) where
 
   priority_holds : find i.number e.mappers ≡ Some i → (p : ℕ) → IfSome (priority_finding e i p) (Claims e)
   unfolding gem_port_of
-  priority_holds is p = by_case (pointer_of (pointers_at i) p) refl (gem_port_of e i p) refl
+  priority_holds is p = by_pointer (pointer_of (pointers_at i) p) refl
     where
-      by_case : (o : Option ℕ) → pointer_of (pointers_at i) p ≡ o → (r : Result ℕ Reason) → gem_port_of e i p ≡ r → IfSome (priority_finding_by i.number p o r) (Claims e)
-      by_case None points r route =
-          (record { instance = i; found = is; points = points }, drops_priority e i.number p i reason.NullPointer is (rw points refl))
-      by_case (Some pointer) points (Ok id) route = tt
-      by_case (Some pointer) points (Err reason.NoInterwork) route =
-          (record { instance = i; found = is; points = points }, no_point e pointer (rw points at route), drops_priority e i.number p i reason.NoInterwork is route)
-      by_case (Some pointer) points (Err r) route = drops_priority e i.number p i r is route
+      by_route : (r : Result ℕ Reason) → gem_port_of e i p ≡ r → IfSome (uncarried_by i.number p r) (Claims e)
+      by_route (Ok id) route = tt
+      by_route (Err r) route = drops_priority e i.number p i r is route
+
+      by_point : (pointer : ℕ) → pointer_of (pointers_at i) p ≡ Some pointer → (o : Option Instance) → find pointer e.interworks ≡ o
+          → IfSome (if is_none o then Some (finding.MissingInterwork i.number p pointer) else uncarried_by i.number p (gem_port_of e i p)) (Claims e)
+      by_point pointer points None there =
+          (record { instance = i; found = is; points = points }, there, drops_priority e i.number p i reason.NoInterwork is (rw (points, there) refl))
+      by_point pointer points (Some point) there = by_route (gem_port_of e i p) refl
+
+      by_pointer : (o : Option ℕ) → pointer_of (pointers_at i) p ≡ o → IfSome (pointer_finding e i p o) (Claims e)
+      by_pointer None points = (record { instance = i; found = is; points = points }, drops_priority e i.number p i reason.NullPointer is (rw points refl))
+      by_pointer (Some pointer) points = by_point pointer points (find pointer e.interworks) refl
 
   mapper_holds : find i.number e.mappers ≡ Some i → All (Claims e) (mapper_findings e i)
   mapper_holds is =

@@ -1,6 +1,6 @@
 -- Each step leaves tables that hold rules.
-use Rattle.std.proofs.Common.{◌≡◌, ◌==◌, ℕ, Bool, true, false, not, ◌&&◌, List, [], ◌∷◌, ◌++◌, Option, Some, None, Result, Ok, Err, IfOk, IfSome, refl, sym, ap, ◌∙◌, drop, take, length}
-use Rattle.std.specs.Prelude.{if◌then◌else◌, is_none, is_some, nat_le, nat_lt}
+use Rattle.std.proofs.Common.{◌≡◌, ◌==◌, ℕ, Bool, true, not, ◌&&◌, List, [], ◌∷◌, Option, Some, None, Result, Ok, Err, IfOk, refl, ◌∙◌, drop, take, length}
+use Rattle.std.specs.Prelude.{is_none, is_some, nat_le, nat_lt}
 use Rattle.std.specs.List.{list_all}
 use Rattle.std.proofs.lemmas.Bool.{and_from, and_parts}
 use Rattle.std.proofs.lemmas.List.Folds.{list_all-append}
@@ -10,16 +10,16 @@ use Rattle.omci_msg.specs.declared.Action.TheVariants.{Create, Delete, Set, Get,
 use Rattle.vlan_rule.specs.declared.fault.RuleFault.{RuleFault}
 use Rattle.vlan_rule.specs.declared.fault.TableFault.{TableFault}
 use Rattle.vlan_rule.specs.Entry.{key_of, kind_of, number_of, refusal_of, value_of}
-use Rattle.vlan_rule.specs.Table.{Change, changed, delete as delete_entry, holds, is_deletion, overwritten, predefined, put, table_max_size, without, write}
+use Rattle.vlan_rule.specs.Table.{Change, delete as delete_entry, holds, is_deletion, overwritten, predefined, put, table_max_size, without, write}
 use Rattle.managed_entity.specs.declared.attribute.Attribute.{Attribute}
 use Rattle.managed_entity.specs.declared.refusal.Refusal.{Refusal}
 use Rattle.managed_entity.specs.Answer.{left_by}
-use Rattle.managed_entity.specs.Class.{attributes_of, has_table, initial_entries, is_known, room_of}
+use Rattle.managed_entity.specs.Class.{attributes_of, has_table, is_known, room_of}
 use Rattle.managed_entity.specs.Instance.{Instance}
 use Rattle.managed_entity.specs.Mask.{mask_of, named_width, unknown_of, unwritable_of}
 use Rattle.managed_entity.specs.Set.{entries_after, entries_by, entry_at, set_instance, with_entries}
 use Rattle.managed_entity.specs.Write.{created}
-use Rattle.mib_state.specs.Entities.{Entities, find, insert, instances_of, nothing, onu_data, remove, replace, with_instances}
+use Rattle.mib_state.specs.Entities.{Entities, find, insert, instances_of, nothing, remove, replace, with_instances}
 use Rattle.mib_state.specs.Step.{counted, create, create_in, delete, delete_in, left, next_sync, replaced, set, set_found, set_in}
 use Rattle.mib_state.specs.After.{after, after_from}
 use Rattle.mib_state.proofs.Touched.{either}

@@ -1,4 +1,5 @@
 pub mod Lists
+pub mod Priorities
 pub mod Reaching
 pub mod Small
 pub mod Tables
@@ -7,3 +8,4 @@ pub mod Dropping
 pub mod Unused
 pub mod Holding
 pub mod Kept
+pub mod Growing

@@ -1,12 +1,10 @@
 -- Numbers among numbers, and what holds of each of the findings that are put together.
-use Rattle.std.proofs.Common.{◌≡◌, ◌==◌, ℕ, zero, suc, ◌<◌, Bool, true, false, ◌&&◌, ◌||◌, List, [], ◌∷◌, ◌++◌, Option, Some, None, Result, Ok, Err, get_or, length, map, refl, ap, sym, ◌∙◌, subst, arith}
-use Rattle.std.specs.Prelude.{All, IfSome, filter, find, if◌then◌else◌}
+use Rattle.std.proofs.Common.{◌≡◌, ◌==◌, ℕ, Bool, true, false, ◌||◌, List, [], ◌∷◌, ◌++◌, Option, Some, None, map, refl, ap, ◌∙◌, subst}
+use Rattle.std.specs.Prelude.{All, IfSome, find, if◌then◌else◌}
 use Rattle.std.specs.List.{cons_option, filter_map, flat_map, list_all, list_any}
-use Rattle.std.proofs.lemmas.Bool.{and_from, and_parts, eq-eqb, eqb-true, false≢true, or_left, or_right}
-use Rattle.std.proofs.lemmas.List.Folds.{list_any-append, list_any_at}
+use Rattle.std.proofs.lemmas.Bool.{and_parts, eq-eqb, eqb-true, false≢true, or_left, or_right}
+use Rattle.std.proofs.lemmas.List.Folds.{list_any-append}
 use Rattle.std.proofs.lemmas.List.Elements.{All-append, All-cons, All-nil}
-use Rattle.explain_findings.specs.declared.finding.Finding.{Finding}
-use Rattle.explain_findings.specs.Findings.{found}
 
 -- ---- a number among numbers
 
@@ -18,9 +16,6 @@ has_left xs ys n among = list_any-append (λ m. m == n) xs ys ∙ or_left (has x
 
 pub has_right : (xs ys : List ℕ) (n : ℕ) → has ys n ≡ true → has (xs ++ ys) n ≡ true
 has_right xs ys n among = list_any-append (λ m. m == n) xs ys ∙ or_right (has xs n) (has ys n) among
-
-pub has_at : (xs : List ℕ) (i : ℕ) → i < length xs → has xs (get_or xs i 0) ≡ true
-has_at xs i within = list_any_at (λ m. m == get_or xs i 0) xs i 0 within (eq-eqb (get_or xs i 0) (get_or xs i 0) refl)
 
 -- with one more before it
 behind : (o : Option ℕ) (ys : List ℕ) (n : ℕ) → has ys n ≡ true → has (cons_option o ys) n ≡ true
@@ -49,16 +44,6 @@ has_joined f (x ∷ xs) q n among there = by_case (λ later. has_joined f xs q n
     by_case : (has xs q ≡ true → has (flat_map f xs) n ≡ true) → (b : Bool) → (x == q) ≡ b → (b || has xs q) ≡ true → has (f x ++ flat_map f xs) n ≡ true
     by_case later true is among = has_left (f x) (flat_map f xs) n (rw (eqb-true x q is) there)
     by_case later false is among = has_right (f x) (flat_map f xs) n (later among)
-
-pub has_kept : (keep : ℕ → Bool) (xs : List ℕ) (n : ℕ) → has xs n ≡ true → keep n ≡ true → has (filter keep xs) n ≡ true
-has_kept keep [] n among kept = among
-has_kept keep (x ∷ xs) n among kept = by_case (λ later. has_kept keep xs n later kept) (x == n) (keep x) refl refl among
-  where
-    by_case : (has xs n ≡ true → has (filter keep xs) n ≡ true) → (same passes : Bool) → (x == n) ≡ same → keep x ≡ passes → (same || has xs n) ≡ true → has (if passes then x ∷ filter keep xs else filter keep xs) n ≡ true
-    by_case later true true is pass among = or_left (x == n) _ is
-    by_case later true false is pass among = absurd (false≢true (sym pass ∙ ap keep (eqb-true x n is) ∙ kept))
-    by_case later false true is pass among = or_right (x == n) _ (later among)
-    by_case later false false is pass among = later among
 
 -- ---- what is found in a list
 

@@ -1,12 +1,12 @@
 -- Each step of an explanation comes by instances that pointers lead to from a port.
-use Rattle.std.proofs.Common.{◌≡◌, ◌==◌, ℕ, Bool, true, false, ◌&&◌, ◌||◌, List, [], ◌∷◌, Option, Some, None, refl, ap, sym, ◌∙◌}
+use Rattle.std.proofs.Common.{◌≡◌, ◌==◌, ℕ, Bool, true, false, ◌||◌, List, [], ◌∷◌, Option, Some, None, refl, ap}
 use Rattle.std.specs.Prelude.{if◌then◌else◌, filter, map}
 use Rattle.std.specs.List.{filter_map, list_any}
 use Rattle.std.specs.Option.{option_or}
 use Rattle.std.proofs.lemmas.Bool.{and_parts, eqb-true}
 use Rattle.managed_entity.specs.Instance.{Instance, attribute_number}
 use Rattle.mib_state.specs.Entities.{Entities}
-use Rattle.mib_state.specs.Attached.{association_mapper, association_uni, is_mapper_of, is_table_of, least_instance, least_of, mapper_of_port, table_of_mapper, table_of_port, tp_type_uni}
+use Rattle.mib_state.specs.Attached.{association_uni, is_mapper_of, is_table_of, least_instance, least_of, mapper_of_port, table_of_mapper, table_of_port, tp_type_uni}
 use Rattle.explain_findings.specs.Reach.{port_of_mapper, port_of_table, ports, reached_mappers, reached_tables}
 use Rattle.explain_findings.proofs.Lists.{has, has_given, has_left, has_mapped, has_right}
 

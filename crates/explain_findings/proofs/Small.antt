@@ -1,6 +1,6 @@
 -- The priority of each frame that comes to a mapper is under 8.
-use Rattle.std.proofs.Common.{◌≡◌, ◌==◌, ℕ, zero, suc, ◌+◌, ◌-◌, ◌*◌, ◌/◌, ◌%◌, ◌^◌, ◌<◌, Bool, true, false, ◌&&◌, List, [], ◌∷◌, ◌++◌, Option, Some, None, Ok, Err, get_or, length, drop, refl, ap, sym, ◌∙◌, subst, arith, inl, inr, ⊎_elim}
-use Rattle.std.specs.Prelude.{All, IfSome, if◌then◌else◌, min, nat_lt, slice_index}
+use Rattle.std.proofs.Common.{◌≡◌, ◌==◌, ℕ, zero, suc, ◌+◌, ◌-◌, ◌/◌, ◌%◌, ◌^◌, ◌<◌, Bool, true, false, List, [], ◌∷◌, ◌++◌, Option, Some, None, Ok, length, drop, refl, ◌∙◌, subst, arith, ⊎_elim}
+use Rattle.std.specs.Prelude.{IfSome, if◌then◌else◌, min, nat_lt, slice_index}
 use Rattle.std.specs.List.{list_all}
 use Rattle.std.proofs.lemmas.Bool.{and_from, and_parts, cases_lt, lt-ltb, ltb-true}
 use Rattle.std.proofs.lemmas.List.{get_or_past}
@@ -17,13 +17,12 @@ use Rattle.vlan_rule.specs.declared.settings.TableSettings.{TableSettings}
 use Rattle.vlan_rule.specs.declared.treatment.AddedTag.{AddedTag}
 use Rattle.vlan_rule.specs.declared.treatment.PrioritySource.{PrioritySource}
 use Rattle.vlan_rule.specs.declared.treatment.PrioritySource.TheVariants as from_priority
-use Rattle.vlan_rule.specs.declared.treatment.Retag.{Retag}
 use Rattle.vlan_rule.specs.declared.treatment.Treatment.{Treatment}
 use Rattle.vlan_rule.specs.declared.treatment.Treatment.TheVariants as treatment
 use Rattle.vlan_rule.specs.Entry.{refusal_of}
 use Rattle.vlan_rule.specs.Meaning.{addition_fits, priority_fits, treatment_fits, treatment_of}
 use Rattle.vlan_rule.proofs.Fits.{treatment-fits}
-use Rattle.treatment.specs.Treatment.{addition_from, additions_from, dscp_priority, inner_of, left_of, outer_of, priority_from, tag_from, treated, treated_by}
+use Rattle.treatment.specs.Treatment.{addition_from, additions_from, dscp_priority, inner_of, left_of, outer_of, priority_from, treated, treated_by}
 use Rattle.pmapper.specs.Mapper as mapper
 use Rattle.pmapper.specs.Mapper.{Unmarked, priority_of, unmarked_priority_by, unmarked_priority_of}
 use Rattle.mib_state.proofs.Touched.{either}

@@ -1,5 +1,5 @@
 -- The tables of entities that hold rules, and the entries that are used.
-use Rattle.std.proofs.Common.{◌≡◌, ◌==◌, ℕ, zero, suc, ◌<◌, ◌≤◌, Bool, true, false, List, [], ◌∷◌, Option, Some, None, get_or, length, refl, ap, sym, ◌∙◌, subst, arith}
+use Rattle.std.proofs.Common.{◌≡◌, ◌==◌, ℕ, zero, suc, ◌<◌, Bool, true, false, List, [], ◌∷◌, Option, Some, None, length, refl, subst, arith}
 use Rattle.std.specs.Prelude.{IfSome, if◌then◌else◌, is_none, option_map}
 use Rattle.std.specs.List.{list_all}
 use Rattle.std.specs.Option.{option_and_then}
@@ -41,6 +41,7 @@ entry_within table frame entry used = by_case (choice test table.entries) refl u
   where
     test : List ℕ → Bool
     test = matches table.settings.input_tpid frame.tags (type_at 0 frame.rest)
+
     by_case : (o : Option ℕ) → choice (matches table.settings.input_tpid frame.tags (type_at 0 frame.rest)) table.entries ≡ o
         → option_map (entry_at table.entries) o ≡ Some entry → IsChoice (matches table.settings.input_tpid frame.tags (type_at 0 frame.rest)) table.entries o → UsesAt table frame entry
     by_case None of used is = cc
@@ -70,6 +71,7 @@ table_found e port table is = by_case (table_of_port e port) refl is
         → (n : ℕ) × (i : Instance) × (table_of_port e port ≡ Some n) × (find n e.vlans ≡ Some i) × (table_of i ≡ table)
     by_instance n None of found is = cc
     by_instance n (Some i) of found is = (n, i, of, found, cc)
+
     by_case : (o : Option ℕ) → table_of_port e port ≡ o → option_map table_of (option_and_then (λ n. find n e.vlans) o) ≡ Some table
         → (n : ℕ) × (i : Instance) × (table_of_port e port ≡ Some n) × (find n e.vlans ≡ Some i) × (table_of i ≡ table)
     by_case None of is = cc

@@ -1,9 +1,7 @@
 -- Entries that are never used.
-use Rattle.std.proofs.Common.{◌≡◌, ◌≢◌, ◌==◌, ℕ, zero, suc, ◌+◌, ◌<◌, ◌≤◌, Bool, true, false, ◌&&◌, List, [], ◌∷◌, ◌++◌, Option, Some, None, Result, Ok, Err, get_or, length, refl, ap, sym, ◌∙◌, subst, arith}
+use Rattle.std.proofs.Common.{◌≡◌, ◌≢◌, ℕ, ◌<◌, Bool, true, false, List, [], ◌∷◌, ◌++◌, Option, Some, None, Result, Ok, Err, length, refl, sym, ◌∙◌, subst}
 use Rattle.std.specs.Prelude.{All, if◌then◌else◌, nat_lt, ok_or, option_map}
 use Rattle.std.specs.Prelude as list
-use Rattle.std.specs.List.{list_all}
-use Rattle.std.specs.Option.{option_and_then}
 use Rattle.std.proofs.lemmas.Bool.{and_parts}
 use Rattle.std.proofs.lemmas.List.Elements.{All-head, All-tail}
 use Rattle.tag_view.specs.Frame.{Reading, type_at}
@@ -101,6 +99,7 @@ table_tells e port table frame =
   where
     next : List ℕ → List Step
     next entry = then_step (ok_or (outgoing entry table.settings frame.tags (dscp_of frame.rest)) RuleDiscard) (from_tags e port frame)
+
     by_choice : (o : Option ℕ) → told_used (tries_of table frame) ≡ o
         → told_used (tries_of table frame ++ then_step (ok_or (option_map (entry_at table.entries) o) NoRule) next) ≡ o
     by_choice None is = told_behind (tries_of table frame) (dropped NoRule) is
@@ -117,5 +116,6 @@ never_told e n place other i found shadow port bytes force =
     by_read : (r : Result Reading Reason) → told_used (then_step r (from_read e port (Some (table_of i)))) ≢ Some place
     by_read (Err r) = λ is. cc
     by_read (Ok frame) = λ is. not_chosen (table_of i) frame place other shadow (sym (table_tells e port (table_of i) frame) ∙ is)
+
     by_table : (o : Option Table) → o ≡ Some (table_of i) → told_used (then_step (read_at o bytes) (from_read e port o)) ≢ Some place
     by_table o is = rw is (by_read (read_at (Some (table_of i)) bytes))

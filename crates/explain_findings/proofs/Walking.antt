@@ -1,17 +1,15 @@
 -- Each step of an explanation comes by what pointers lead to from a port.
-use Rattle.std.proofs.Common.{◌≡◌, ◌==◌, ℕ, zero, suc, ◌<◌, Bool, true, false, not, List, [], ◌∷◌, ◌++◌, Option, Some, None, Result, Ok, Err, get_or, length, refl, ap, sym, ◌∙◌, subst, arith}
-use Rattle.std.specs.Prelude.{All, IfSome, if◌then◌else◌, filter, is_none, map, ok_or, option_map, slice_index}
+use Rattle.std.proofs.Common.{◌≡◌, ◌==◌, ℕ, ◌<◌, Bool, true, false, List, [], ◌∷◌, Option, Some, None, Result, Ok, Err, refl, ap, sym, ◌∙◌}
+use Rattle.std.specs.Prelude.{All, IfSome, is_none, ok_or}
 use Rattle.std.specs.List.{list_all}
 use Rattle.std.specs.Option.{option_and_then, option_or}
 use Rattle.std.specs.Result.{result_map_both}
-use Rattle.std.proofs.lemmas.Bool.{eqb-true, false≢true, not-true}
+use Rattle.std.proofs.lemmas.Bool.{eqb-true, false≢true}
 use Rattle.std.proofs.lemmas.List.Elements.{All-append, All-cons, All-nil, All-weaker}
 use Rattle.tag_view.specs.declared.fault.FrameFault.{FrameFault}
-use Rattle.tag_view.specs.Tag.{TagFields}
-use Rattle.tag_view.specs.Frame.{Reading, frame_of, type_at}
+use Rattle.tag_view.specs.Frame.{Reading, frame_of}
 use Rattle.tag_view.specs.Dscp.{dscp_of}
 use Rattle.vlan_rule.specs.Entry.{refusal_of}
-use Rattle.vlan_rule.specs.Choice.{choice, entry_at, matches}
 use Rattle.treatment.specs.Treatment.{treated}
 use Rattle.pmapper.specs.Mapper.{pointer_of, priority_of}
 use Rattle.managed_entity.specs.declared.class.Class.{Class}
@@ -24,7 +22,7 @@ use Rattle.frame_meaning.specs.declared.reason.Reason.{Reason}
 use Rattle.frame_meaning.specs.declared.reason.Reason.TheVariants.{NoRule, RuleDiscard, NoMapper, NullPointer, NoInterwork, NoGem}
 use Rattle.frame_meaning.specs.declared.verdict.Verdict.TheVariants.{Forward}
 use Rattle.frame_meaning.specs.Reason.{reason_of_fault}
-use Rattle.frame_meaning.specs.Meaning.{Table, entry_for, input_tpid_of, mapper_at, pointers_at, port_id_of, read_at, table_at, table_of, unmarked_at}
+use Rattle.frame_meaning.specs.Meaning.{Table, entry_for, input_tpid_of, mapper_at, pointers_at, port_id_of, read_at, table_at, unmarked_at}
 use Rattle.explain.specs.declared.force.TableInForce.{TableInForce}
 use Rattle.explain.specs.declared.force.TableInForce.TheVariants.{NoTable, OfPort, OfMapper}
 use Rattle.explain.specs.declared.mismatch.Mismatch.{Mismatch}
@@ -36,12 +34,13 @@ use Rattle.explain.specs.Outgoing.{kept_after, outgoing, plain}
 use Rattle.explain.specs.Priority.{priority_origin}
 use Rattle.explain.specs.Steps.{explained, from_gem_port, from_interwork, from_mapper, from_pointer, from_read, from_table, from_tags, mismatch_at, then_step, tried, tries, tries_of}
 use Rattle.explain.proofs.Origins.{plain-outgoing, plain-unchanged}
-use Rattle.explain_findings.specs.Reach.{gem_port_pointer, pointers_of, reached_gem_ports, reached_mappers, reached_points, reached_tables, set_pointers}
+use Rattle.explain_findings.specs.Reach.{gem_port_pointer, pointers_of, priorities, reached_gem_ports, reached_mappers, reached_points, reached_tables}
 use Rattle.explain_findings.specs.Claims.{AreBytes, IsUnreached, holds_rules, is_table, names}
-use Rattle.explain_findings.proofs.Lists.{find_all, has, has_at, has_joined, has_kept, has_mapped}
+use Rattle.explain_findings.proofs.Lists.{has, has_joined, has_mapped}
+use Rattle.explain_findings.proofs.Priorities.{has_priority}
 use Rattle.explain_findings.proofs.Reaching.{mapper_is_reached, table_is_reached}
 use Rattle.explain_findings.proofs.Small.{are_small, priority_small, read_small, treated_small}
-use Rattle.explain_findings.proofs.Tables.{accepted_entry, entry_within, rules_at}
+use Rattle.explain_findings.proofs.Tables.{accepted_entry, rules_at}
 
 -- ---- what a step comes by is reached
 
@@ -97,25 +96,12 @@ pointer_leads e leaving pointer reached =
     All-cons (Leads e) _ _ reached
     (found_leads e (find pointer e.interworks) NoInterwork (from_interwork e leaving) (λ point found. interwork_leads e leaving pointer point reached found))
 
--- a pointer that isn't null
-set_there : (pointers : List ℕ) (p x : ℕ) → p < length pointers → pointer_of pointers p ≡ Some x → has (filter (λ pointer. not (pointer == 0xFFFF)) pointers) x ≡ true
-unfolding pointer_of
-set_there pointers p x within is = by_case (slice_index pointers p == 0xFFFF) refl is
-  where
-    by_case : (b : Bool) → (slice_index pointers p == 0xFFFF) ≡ b → (if b then None else Some (slice_index pointers p)) ≡ Some x
-        → has (filter (λ pointer. not (pointer == 0xFFFF)) pointers) x ≡ true
-    by_case true null is = cc
-    by_case false set is =
-        let same : slice_index pointers p ≡ x = cc in
-        subst (λ (y : ℕ). has (filter (λ pointer. not (pointer == 0xFFFF)) pointers) y ≡ true) same
-        (has_kept (λ pointer. not (pointer == 0xFFFF)) pointers (slice_index pointers p) (has_at pointers p within) (rw set refl))
-
 -- a pointer of a mapper that is reached
 pointer_reached : (e : Entities) (n priority pointer : ℕ) (mapper : Instance) → has (reached_mappers e) n ≡ true → find n e.mappers ≡ Some mapper → priority < 8
     → pointer_of (pointers_at mapper) priority ≡ Some pointer → has (reached_points e) pointer ≡ true
 unfolding reached_points
 pointer_reached e n priority pointer mapper reached is small set =
-    has_joined (pointers_of e) (reached_mappers e) n pointer reached (rw is (set_there (pointers_at mapper) priority pointer small set))
+    has_joined (pointers_of e) (reached_mappers e) n pointer reached (rw is (has_mapped (pointer_of (pointers_at mapper)) priorities priority pointer (has_priority priority small) set))
 
 mapper_leads : (e : Entities) (leaving : Reading) (dscp : Option ℕ) (n : ℕ) (mapper : Instance) → are_small leaving.tags ≡ true → has (reached_mappers e) n ≡ true
     → find n e.mappers ≡ Some mapper → All (Leads e) (from_mapper e leaving dscp mapper)
@@ -188,6 +174,7 @@ force_number e port = by_case (least_instance (is_table_of association_uni port)
     by_mapper : (m : ℕ) (t : Option ℕ) → number_in_force (of_mapper m t) ≡ t
     by_mapper m None = refl
     by_mapper m (Some t) = refl
+
     by_case : (own mapper : Option ℕ) → number_in_force (in_force_by e own mapper) ≡ option_or own (table_of_mapper e mapper)
     by_case (Some t) mapper = refl
     by_case None None = refl

@@ -13,6 +13,7 @@ use Rattle.frame_meaning.specs.Reason.{number_of_reason}
 use Rattle.frame_meaning.specs.Meaning.{Table, gem_port_of, mapper_at, table_at}
 use Rattle.explain.specs.Order.{tried_order}
 use Rattle.explain.specs.Covers.{shadow_of}
+use Rattle.explain_findings.specs.Reach.{priorities}
 use Rattle.explain_findings.specs.declared.finding.Finding.{Finding}
 use Rattle.explain_findings.specs.declared.finding.Finding.TheVariants as finding
 
@@ -41,9 +42,6 @@ table_reason (Some table) = entries_reason table.entries
 
 -- ---- by its mapper
 
-abbrev pub priorities : List ℕ
-priorities = 0 ∷ 1 ∷ 2 ∷ 3 ∷ 4 ∷ 5 ∷ 6 ∷ 7 ∷ []
-
 -- the GEM port of each priority of a mapper, or why there is none
 abbrev pub routes : Entities → Instance → List (Result ℕ Reason)
 routes e mapper = map (gem_port_of e mapper) priorities
@@ -58,12 +56,12 @@ abbrev pub common_reason : List (Result ℕ Reason) → Option Reason
 common_reason routes = find (λ reason. list_all (lacks_by reason) routes) (NullPointer ∷ NoInterwork ∷ NoGem ∷ Direction ∷ [])
 
 -- what is found of a port by the routes of its mapper, and by the reason that they have in common
-abbrev pub uncarried_by : ℕ → List (Result ℕ Reason) → Option Reason → Option Finding
-uncarried_by port routes (Some reason) = Some (finding.PortDrops port reason)
-uncarried_by port routes None = if list_all is_err routes then Some (finding.PortCarriesNone port) else None
+abbrev pub by_common : ℕ → List (Result ℕ Reason) → Option Reason → Option Finding
+by_common port routes (Some reason) = Some (finding.PortDrops port reason)
+by_common port routes None = if list_all is_err routes then Some (finding.PortCarriesNone port) else None
 
 abbrev pub uncarried : ℕ → List (Result ℕ Reason) → Option Finding
-uncarried port routes = uncarried_by port routes (common_reason routes)
+uncarried port routes = by_common port routes (common_reason routes)
 
 -- ---- both
 

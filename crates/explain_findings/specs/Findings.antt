@@ -11,14 +11,13 @@ use Rattle.managed_entity.specs.Instance.{Instance, attribute_number}
 use Rattle.mib_state.specs.Entities.{Entities, find, instances_of}
 use Rattle.mib_state.specs.Attached.{association_mapper, association_uni, is_table_of, least_instance, mapper_of_port, table_of_port}
 use Rattle.frame_meaning.specs.declared.reason.Reason.{Reason}
-use Rattle.frame_meaning.specs.declared.reason.Reason.TheVariants.{NoInterwork}
 use Rattle.frame_meaning.specs.Meaning.{carries_upstream, gem_port_of, pointers_at}
 use Rattle.explain.specs.Order.{tried_order}
 use Rattle.explain.specs.Covers.{shadow_of}
 use Rattle.explain_findings.specs.declared.finding.Finding.{Finding}
 use Rattle.explain_findings.specs.declared.finding.Finding.TheVariants as finding
-use Rattle.explain_findings.specs.Reach.{numbers, port_of_mapper, port_of_table, reached_gem_ports, reached_mappers, reached_points, reached_tables}
-use Rattle.explain_findings.specs.Drops.{port_drops, priorities}
+use Rattle.explain_findings.specs.Reach.{numbers, port_of_mapper, port_of_table, priorities, reached_gem_ports, reached_mappers, reached_points, reached_tables}
+use Rattle.explain_findings.specs.Drops.{port_drops}
 
 -- those that there are
 abbrev pub found : List (Option Finding) → List Finding
@@ -54,16 +53,20 @@ abbrev pub drops_at_mapper : Entities → Instance → Option Finding
 drops_at_mapper e mapper =
     option_and_then (λ port. if is_number mapper.number (mapper_of_port e port) then port_drops e port else None) (port_of_mapper mapper)
 
--- why the frames of a priority are dropped, by its pointer and where that leads to
-abbrev pub priority_finding_by : ℕ → ℕ → Option ℕ → Result ℕ Reason → Option Finding
-priority_finding_by n priority None route = Some (finding.NullPointer n priority)
-priority_finding_by n priority (Some pointer) (Ok id) = None
-priority_finding_by n priority (Some pointer) (Err NoInterwork) = Some (finding.MissingInterwork n priority pointer)
-priority_finding_by n priority (Some pointer) (Err reason) = Some (finding.UncarriedPriority n priority reason)
+-- there is no GEM port for the frames of a priority
+abbrev pub uncarried_by : ℕ → ℕ → Result ℕ Reason → Option Finding
+uncarried_by n priority (Ok id) = None
+uncarried_by n priority (Err reason) = Some (finding.UncarriedPriority n priority reason)
+
+-- why the frames of a priority are dropped, by its pointer
+abbrev pub pointer_finding : Entities → Instance → ℕ → Option ℕ → Option Finding
+pointer_finding e mapper priority None = Some (finding.NullPointer mapper.number priority)
+pointer_finding e mapper priority (Some pointer) =
+    if is_none (find pointer e.interworks) then Some (finding.MissingInterwork mapper.number priority pointer)
+    else uncarried_by mapper.number priority (gem_port_of e mapper priority)
 
 abbrev pub priority_finding : Entities → Instance → ℕ → Option Finding
-priority_finding e mapper priority =
-    priority_finding_by mapper.number priority (pointer_of (pointers_at mapper) priority) (gem_port_of e mapper priority)
+priority_finding e mapper priority = pointer_finding e mapper priority (pointer_of (pointers_at mapper) priority)
 
 abbrev pub mapper_findings : Entities → Instance → List Finding
 mapper_findings e mapper =

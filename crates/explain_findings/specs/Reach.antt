@@ -1,7 +1,8 @@
 -- Which instances the pointers of the managed entities lead to from a port (ITU-T G.988, clauses 9.3.13, 9.3.10, 9.2.4 and 9.2.3).
-use Rattle.std.specs.Prelude.{ℕ, Bool, not, List, [], ◌++◌, Option, Some, None, if◌then◌else◌, ◌==◌, filter, map, option_map}
+use Rattle.std.specs.Prelude.{ℕ, List, [], ◌∷◌, ◌++◌, Option, Some, None, if◌then◌else◌, ◌==◌, map, option_map}
 use Rattle.std.specs.List.{filter_map, flat_map}
 use Rattle.std.specs.Option.{option_map_or}
+use Rattle.pmapper.specs.Mapper.{pointer_of}
 use Rattle.managed_entity.specs.Instance.{Instance, attribute_number}
 use Rattle.mib_state.specs.Entities.{Entities, find}
 use Rattle.mib_state.specs.Attached.{association_uni, mapper_of_port, table_of_port, tp_type_uni}
@@ -27,9 +28,12 @@ reached_mappers e = filter_map (mapper_of_port e) (ports e)
 unfoldable pub reached_tables : Entities → List ℕ
 reached_tables e = filter_map (table_of_port e) (ports e)
 
+abbrev pub priorities : List ℕ
+priorities = 0 ∷ 1 ∷ 2 ∷ 3 ∷ 4 ∷ 5 ∷ 6 ∷ 7 ∷ []
+
 -- the pointers of a mapper that aren't null
 abbrev pub set_pointers : Instance → List ℕ
-set_pointers mapper = filter (λ pointer. not (pointer == 0xFFFF)) (pointers_at mapper)
+set_pointers mapper = filter_map (pointer_of (pointers_at mapper)) priorities
 
 abbrev pub pointers_of : Entities → ℕ → List ℕ
 pointers_of e mapper = option_map_or set_pointers (find mapper e.mappers) []

@@ -18,11 +18,19 @@ pub enum Finding {
         in_force: u16,
     },
     /// All frames of the port are dropped: each for this reason, or before, as it is read or by the port's table.
-    PortDrops { port: u16, reason: Reason },
+    PortDrops {
+        port: u16,
+        reason: Reason,
+    },
     /// All frames of the port are dropped: its mapper has no priority that a GEM port carries. The reasons differ.
-    PortCarriesNone { port: u16 },
+    PortCarriesNone {
+        port: u16,
+    },
     /// The mapper's pointer for the priority is null, so its frames are dropped.
-    NullPointer { mapper: u16, priority: u8 },
+    NullPointer {
+        mapper: u16,
+        priority: u8,
+    },
     /// The mapper's pointer for the priority leads to no GEM interworking termination point, so its frames are dropped.
     MissingInterwork {
         mapper: u16,
@@ -37,7 +45,10 @@ pub enum Finding {
         reason: Reason,
     },
     /// The table's association type is a mapper, and its pointer leads to none.
-    MissingMapper { table: u16, pointer: u16 },
+    MissingMapper {
+        table: u16,
+        pointer: u16,
+    },
     /// The entry at this place of the table is used for no frame: the one at the other place is tried before it, and admits all
     /// that it admits.
     UnusedEntry {
@@ -46,9 +57,15 @@ pub enum Finding {
         shadow: usize,
     },
     /// The pointer of the GEM interworking termination point leads to no GEM port network CTP.
-    MissingGemPort { interwork: u16, pointer: u16 },
+    MissingGemPort {
+        interwork: u16,
+        pointer: u16,
+    },
     /// The GEM port network CTP doesn't carry frames upstream: its direction is neither 1 nor 3.
-    NotUpstream { gem_port: u16, direction: u8 },
+    NotUpstream {
+        gem_port: u16,
+        direction: u8,
+    },
     /// The GEM port network CTP has the port-ID of another one, which comes first among those that have it.
     SharedPortId {
         gem_port: u16,
@@ -56,5 +73,8 @@ pub enum Finding {
         first: u16,
     },
     /// No frame of any port comes by the instance.
-    Unreached { class: Class, instance: u16 },
+    Unreached {
+        class: Class,
+        instance: u16,
+    },
 }

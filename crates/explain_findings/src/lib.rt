@@ -12,8 +12,17 @@
 //! the pointer.
 #![tactic(auto)]
 
+mod append;
+mod drops;
 mod finding;
+mod gathering;
+mod gem_port;
+mod interwork;
 mod laws;
+mod mapper;
+mod reach;
+mod table;
 
 pub use finding::Finding;
+pub use gathering::findings;
 pub use laws::law_of_findings;
