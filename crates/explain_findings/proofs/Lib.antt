@@ -9,3 +9,4 @@ pub mod Unused
 pub mod Holding
 pub mod Kept
 pub mod Growing
+mod Examples
