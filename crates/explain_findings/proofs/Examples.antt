@@ -1,5 +1,5 @@
 -- Worked examples, computed.
-use Rattle.std.proofs.Common.{◌≡◌, ℕ, List, [], ◌∷◌, ◌++◌, map, refl, true}
+use Rattle.std.proofs.Common.{◌≡◌, ℕ, List, [], ◌∷◌, ◌++◌, map, refl, true, false, None}
 use Rattle.omci_msg.specs.declared.Request.{Request}
 use Rattle.omci_msg.specs.declared.Action.{Action}
 use Rattle.omci_msg.specs.declared.Action.TheVariants.{Create, Delete}
@@ -14,6 +14,8 @@ use Rattle.explain_findings.specs.declared.finding.Finding.TheVariants.{MissingG
 use Rattle.explain_findings.specs.Reach.{ports, priorities, reached_gem_ports, reached_mappers, reached_points, reached_tables}
 use Rattle.explain_findings.specs.Drops.{port_drops}
 use Rattle.explain_findings.specs.Findings.{class_findings, findings, instance_findings}
+use Rattle.explain_findings.specs.declared.graph.NodeKind.TheVariants as kind
+use Rattle.explain_findings.specs.Graph.{distinct, edges, graph_node, node, nodes, plain_edge, priorities_to, shown_of}
 
 -- ---- the entities
 
@@ -66,3 +68,23 @@ second : findings (and_then (and_then led (mapper 0x0600 1 0x05 0x99 0x05 0x01))
     ∷ NotUpstream 0x0402 2 ∷ SharedPortId 0x0402 1024 0x0401 ∷ Unreached class.GemPort 0x0402 ∷ []
 unfolding findings class_findings instance_findings port_drops ports reached_mappers reached_tables reached_points reached_gem_ports create create_in mapper_at table_at pointer_of gem_port_of gem_port_behind port_id_of carries_upstream
 second = refl
+
+-- ---- the graph
+
+abbrev two_mappers : Entities
+two_mappers = and_then led (mapper 0x0600 1 0x05 0x99 0x05 0x01)
+
+-- an edge for each pointer, those that lead to one point joined, and one that leads nowhere; the second mapper isn't in force
+drawn : (nodes two_mappers (shown_of two_mappers None)
+    ≡ graph_node two_mappers kind.Port 257
+    ∷ record { node = node kind.Mapper 0x0600; in_force = true } ∷ record { node = node kind.Mapper 0x0601; in_force = false }
+    ∷ record { node = node kind.Interwork 0x0501; in_force = true } ∷ record { node = node kind.GemPort 0x0401; in_force = true } ∷ [])
+    × (edges two_mappers (shown_of two_mappers None)
+    ≡ plain_edge (node kind.Mapper 0x0600) (node kind.Port 257) false
+    ∷ record { from = node kind.Mapper 0x0600; to = node kind.Interwork 0x0599; priorities = record { items = 0 ∷ [] }; is_missing = true }
+    ∷ record { from = node kind.Mapper 0x0600; to = node kind.Interwork 0x0501; priorities = record { items = 1 ∷ 2 ∷ 3 ∷ 4 ∷ 5 ∷ 6 ∷ 7 ∷ [] }; is_missing = false }
+    ∷ plain_edge (node kind.Mapper 0x0601) (node kind.Port 257) false
+    ∷ record { from = node kind.Mapper 0x0601; to = node kind.Interwork 0x0501; priorities = record { items = priorities }; is_missing = false }
+    ∷ plain_edge (node kind.Interwork 0x0501) (node kind.GemPort 0x0401) false ∷ [])
+unfolding nodes edges distinct priorities_to ports reached_mappers create create_in pointer_of
+drawn = (refl, refl)

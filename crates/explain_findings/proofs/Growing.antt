@@ -1,6 +1,6 @@
 -- Lists that grow by what one item after another gives.
-use Rattle.std.proofs.Common.{◌≡◌, ℕ, zero, suc, ◌+◌, ◌^◌, ◌<◌, ◌≤◌, Bool, true, false, List, [], ◌∷◌, ◌++◌, Option, Some, None, get_or, length, map, take, refl, ap, sym, ◌∙◌, append_assoc, append-nil, arith}
-use Rattle.std.specs.Prelude.{if◌then◌else◌, is_none, option_map, slice_get}
+use Rattle.std.proofs.Common.{◌≡◌, ℕ, zero, suc, ◌+◌, ◌^◌, ◌<◌, ◌≤◌, Bool, true, false, not, List, [], ◌∷◌, ◌++◌, Option, Some, None, get_or, length, map, take, refl, ap, sym, ◌∙◌, append_assoc, append-nil, arith}
+use Rattle.std.specs.Prelude.{if◌then◌else◌, is_none, is_some, option_map, slice_get}
 use Rattle.std.specs.Prelude as list
 use Rattle.std.specs.Bool.{then_some}
 use Rattle.std.specs.List.{cons_option, filter_map, flat_map}
@@ -19,7 +19,7 @@ use Rattle.mib_state.specs.Entities.{Entities, find, instances_of}
 use Rattle.mib_state.specs.Attached.{mapper_of_port, table_of_port}
 use Rattle.frame_meaning.specs.Meaning.{pointers_at}
 use Rattle.frame_meaning.proofs.Numbers.{gem_port_pointer_number}
-use Rattle.explain_findings.specs.Reach.{gem_port_pointer, numbers, pointers_of, ports, priorities, reached, reached_gem_ports, reached_mappers, reached_points, reached_tables, set_pointers}
+use Rattle.explain_findings.specs.Reach.{gem_port_pointer, numbers, pointers_of, ports, priorities, reach_from, reached, reached_gem_ports, reached_mappers, reached_points, reached_tables, set_pointers}
 use Rattle.explain_findings.specs.Findings.{another, findings_of, has_port_id, instance_findings, shared_by, shared_port_id}
 
 -- ---- one more item
@@ -110,12 +110,16 @@ pointers_there e n mapper pointers there are =
     ap (filter_map (λ o. o)) are ∙ filter_map_mapped (pointer_of (pointers_at mapper)) priorities
     ∙ ap (λ found. option_map_or set_pointers found []) there
 
--- what pointers lead to, one part after another
-pub reach_is : (e : Entities) (at tables mappers points gem_ports all : List ℕ) → at ≡ ports e → tables ≡ filter_map (table_of_port e) at
+-- what pointers lead to from ports, one part after another
+pub from_ports_is : (e : Entities) (at tables mappers points gem_ports all : List ℕ) → tables ≡ filter_map (table_of_port e) at
     → mappers ≡ filter_map (mapper_of_port e) at → points ≡ flat_map (pointers_of e) mappers → gem_ports ≡ filter_map (gem_port_pointer e) points → all ≡ numbers e.gem_ports
-    → record { tables = tables; mappers = mappers; points = points; gem_ports = gem_ports; all_gem_ports = all } ≡ reached e
-unfolding reached reached_tables reached_mappers reached_points reached_gem_ports
-reach_is e at tables mappers points gem_ports all a b c d f g = rw (g, f, d, c, b, a) refl
+    → record { tables = tables; mappers = mappers; points = points; gem_ports = gem_ports; all_gem_ports = all } ≡ reach_from e at
+unfolding reach_from
+from_ports_is e at tables mappers points gem_ports all b c d f g = rw (g, f, d, c, b) refl
+
+pub reached_is : (e : Entities) → reach_from e (ports e) ≡ reached e
+unfolding reach_from reached reached_tables reached_mappers reached_points reached_gem_ports
+reached_is e = refl
 
 -- the findings of an instance that is found
 pub instance_is : (e : Entities) (c : Class) (n : ℕ) (i : Instance) → Some i ≡ find n (instances_of e (class_number c)) → findings_of e c i ≡ instance_findings e c n
@@ -134,3 +138,11 @@ is_none-mapped f (Some x) = refl
 pub shared_is : (e : Entities) (gem : Instance) (id : ℕ) (all : List ℕ) (first o : Option ℕ) → id ≡ attribute_number 1 gem → all ≡ numbers e.gem_ports
     → first ≡ list.find (has_port_id e id) all → o ≡ another first gem.number → shared_by gem.number id o ≡ shared_port_id e gem
 shared_is e gem id all first o is are found other = rw (other, found, are, is) refl
+
+-- whether nothing is found, by the call that looks
+pub is_none-found : {X Y : Type 0} (f : X → Y) (o : Option X) (found : Option Y) (none : Bool) → is_some o ≡ not none → option_map f o ≡ found → none ≡ is_none found
+is_none-found f o found none some is = back none (is_some o) some ∙ sym (is_none-mapped f o) ∙ ap is_none is
+  where
+    back : (b c : Bool) → c ≡ not b → b ≡ not c
+    back true c is = rw is refl
+    back false c is = rw is refl

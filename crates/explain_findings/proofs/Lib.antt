@@ -9,4 +9,5 @@ pub mod Unused
 pub mod Holding
 pub mod Kept
 pub mod Growing
+pub mod Edges
 mod Examples

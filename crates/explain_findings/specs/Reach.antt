@@ -70,3 +70,16 @@ reached e =
       gem_ports = reached_gem_ports e;
       all_gem_ports = numbers e.gem_ports;
     }
+
+-- the same of what pointers lead to from these ports
+unfoldable pub reach_from : Entities → List ℕ → Reached
+reach_from e at =
+    let mappers = filter_map (mapper_of_port e) at in
+    let points = flat_map (pointers_of e) mappers in
+    record {
+      tables = filter_map (table_of_port e) at;
+      mappers = mappers;
+      points = points;
+      gem_ports = filter_map (gem_port_pointer e) points;
+      all_gem_ports = numbers e.gem_ports;
+    }

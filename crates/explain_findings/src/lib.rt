@@ -13,16 +13,22 @@
 #![tactic(auto)]
 
 mod append;
+mod drawing;
 mod drops;
+mod edge;
 mod finding;
 mod gathering;
 mod gem_port;
+mod graph;
 mod interwork;
 mod laws;
 mod mapper;
 mod reach;
+mod shown;
 mod table;
 
+pub use drawing::draw;
 pub use finding::Finding;
 pub use gathering::findings;
+pub use graph::{Edge, Graph, GraphNode, Node, NodeKind};
 pub use laws::law_of_findings;

@@ -9,7 +9,7 @@ ghost use Rattle.mib_state.specs.Entities.{instances_of};
 ghost use Rattle.mib_state.specs.Attached.{mapper_of_port, table_of_port};
 ghost use Rattle.pmapper.specs.Mapper.{pointer_of};
 ghost use Rattle.frame_meaning.specs.Meaning.{pointers_at};
-ghost use Rattle.explain_findings.specs.Reach.{gem_port_pointer, numbers, pointers_of, port_of_mapper, port_of_table, ports, priorities, reached};
+ghost use Rattle.explain_findings.specs.Reach.{gem_port_pointer, numbers, pointers_of, port_of_mapper, port_of_table, ports, priorities, reach_from, reached};
 
 use frame_meaning::pointer_of;
 use managed_entity::{Class, VlanConfig};
@@ -53,13 +53,19 @@ impl Model for Reach {
 
 impl Reach {
     /// What pointers lead to among the managed entities.
-    #[tactic(auto, unfolding(crate::specs::Reach::reached))]
     pub(crate) fn of(alloc: Global, mib: &Mib) -> Result<Self, AllocError>
         ensures { IfOk result (λ reach. reach ≡ reached mib.now.entities) }
     {
         let ports = ports(alloc, mib)?;
-        let tables = tables_at(alloc, mib, &ports)?;
-        let mappers = mappers_at(alloc, mib, &ports)?;
+        Self::from_ports(alloc, mib, &ports)
+    }
+
+    /// What pointers lead to from these ports.
+    pub(crate) fn from_ports(alloc: Global, mib: &Mib, ports: &[u16]) -> Result<Self, AllocError>
+        ensures { IfOk result (λ reach. reach ≡ reach_from mib.now.entities ports.now) }
+    {
+        let tables = tables_at(alloc, mib, ports)?;
+        let mappers = mappers_at(alloc, mib, ports)?;
         let points = points_of(alloc, mib, &mappers)?;
         let gem_ports = gem_ports_of(alloc, mib, &points)?;
         let all_gem_ports = numbers(alloc, mib, Class::GemPort)?;
@@ -89,7 +95,7 @@ pub(crate) fn port_of_table(vlan: &VlanConfig) -> Option<u16>
 
 /// The ports that a mapper or a table points to.
 #[tactic(auto, unfolding(crate::specs::Reach::ports))]
-fn ports(alloc: Global, mib: &Mib) -> Result<Vec<u16>, AllocError>
+pub(crate) fn ports(alloc: Global, mib: &Mib) -> Result<Vec<u16>, AllocError>
     ensures { IfOk result (λ list. list.items ≡ ports mib.now.entities) }
 {
     let mut list = Vec::new(alloc);
@@ -191,7 +197,7 @@ fn append_all(list: &mut Vec<u16>, numbers: &[Option<u16>]) -> Result<(), AllocE
 }
 
 /// The pointer of each priority of a mapper, or None where it is null.
-fn pointers(mapper: &Mapper) -> [Option<u16>; 8]
+pub(crate) fn pointers(mapper: &Mapper) -> [Option<u16>; 8]
     ensures { (n : ℕ)
         → result ≡ map (pointer_of (pointers_at (mapper_instance n mapper.now))) priorities }
 {
