@@ -1,0 +1,8 @@
+use Rattle.std.proofs.Common.{refl}
+use Rattle.explain_findings.proofs.edge.port_edge.Goals as goal
+
+pub returns-in-Some : goal.returns-in-Some
+returns-in-Some c = rw (c.plain_edge.ensures, c.node.ensures, c.node-in-Some.ensures, ← c.in-Some.ensures c.args.number) refl
+
+pub returns-in-None : goal.returns-in-None
+returns-in-None c = rw (← c.in-None.ensures c.args.number) refl

@@ -1,0 +1,14 @@
+use Rattle.std.proofs.Common.{◌≡◌, ◌++◌, ◌-◌, ◌≤◌, take}
+use Rattle.std.specs.List.{filter_map}
+use Rattle.managed_entity.specs.Class.{vlan_class, room_of}
+use Rattle.explain_findings.specs.Reach.{port_of_table}
+use Rattle.explain_findings.proofs.reach.append_ports_of_tables.Given as goal
+
+abbrev pub invariant-each : goal.invariant-each
+invariant-each l = record {
+  so_far : l.list.items ≡ l.fn.list.items ++ filter_map port_of_table (take l.place l.mib.entities.vlans);
+  few : l.place ≤ room_of vlan_class;
+}
+
+abbrev pub decreases-each : goal.decreases-each
+decreases-each l = room_of vlan_class - l.place

@@ -1,0 +1,5 @@
+pub mod Reach
+pub mod Drops
+pub mod Findings
+pub mod Graph
+pub mod Claims
