@@ -61,7 +61,7 @@ def explained(unit: Unit, sent: bytes) -> str:
     """Which entry of the port's table is used for a frame."""
     for step in unit.explain(PORT, sent):
         if step["step"] == "used":
-            return "entry %d is used: %s -> %s" % (step["number"], step["filter"], step["treatment"])
+            return "entry %d is used: %s -> %s" % (step["number"], step["filter_words"], step["treatment_words"])
     return "no entry is used"
 
 

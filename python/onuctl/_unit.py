@@ -106,8 +106,8 @@ class Unit:
         self._refuse()
 
     def explain(self, port: int, frame: bytes) -> List[Dict[str, Any]]:
-        """Why a frame that is sent into a port goes where it goes, step by step, as ``onuctl explain --json`` writes it: the last step is
-        the verdict. Nothing changes."""
+        """Why a frame that is sent into a port goes where it goes: the ``steps`` that ``onuctl explain --json`` writes (docs/FORMATS.md). The
+        last step is the verdict. Nothing changes."""
         if not 0 <= port <= 0xFFFF:
             raise ValueError("a port is a number from 0 to 65535, not %d" % port)
         numbers = []
@@ -121,7 +121,8 @@ class Unit:
             self._refuse()
         if numbers[-1] != 0:
             raise MemoryError("no memory for an explanation")
-        return json.loads(text)
+        steps: List[Dict[str, Any]] = json.loads(text)["steps"]
+        return steps
 
     def close(self) -> None:
         """Gives the unit's memory back. A closed unit stays closed."""

@@ -390,13 +390,13 @@ static void a_history_is_judged(void) {
     size_t written = 0, needed = 0;
     uint64_t line = 7;
     CHECK(onu_judge(bytes, 0, 0, room, sizeof room, &written, &line) == 1 && line == 0);
-    CHECK(says(room, written, "{\"explained\":true,\"messages\":0,\"accepted\":0,\"replies\":0,"
+    CHECK(says(room, written, "{\"format\":1,\"explained\":true,\"messages\":0,\"accepted\":0,\"replies\":0,"
                               "\"frames\":{\"forwarded\":0,\"dropped\":0,\"open\":0},\"versions\":[]}"));
     /* The first frame has the new tag, and the second hasn't: no right unit goes back. */
     put_history(history, "g 0 1024 " AD "8100006408004500\ng 1 1024 " U "\n");
     memset(room, 0xee, sizeof room);
     CHECK(onu_judge((uint8_t *)history, strlen(history), 0, room, sizeof room, &written, &line) == 0 && line == 13);
-    CHECK(says(room, written, "{\"explained\":false,\"line\":13,\"frame\":{\"number\":1,\"port\":257,\"sent_line\":11,"
+    CHECK(says(room, written, "{\"format\":1,\"explained\":false,\"line\":13,\"frame\":{\"number\":1,\"port\":257,\"sent_line\":11,"
                               "\"seen\":{\"gem\":1024,\"frame\":\"" U "\"},\"at_least\":5,\"at_most\":5,\"versions\":["
                               "{\"from\":5,\"to\":5,\"gem\":1024,\"frame\":\"" AD "8100006408004500\"}]}}"));
     CHECK(room[written] == 0xee);

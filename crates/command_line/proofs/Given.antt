@@ -7,7 +7,7 @@ use Rattle.clap.specs.Words.{ReadsOne, Row, Text, first_of, first_value, one_tex
 use Rattle.clap.specs.declared.parser.matches.Found.{Found}
 use Rattle.clap.proofs.WalkLemmas.{first_value-rows, one_text-rows}
 use Rattle.command_line.specs.Asked.{IsExplain, IsForward, IsFrame, IsMib, IsNumber, IsOptionalNumber, IsRules, IsRun, IsTrace}
-use Rattle.command_line.specs.Range.{AreInRange, IsFrameInRange, IsIdentifier, IsLine}
+use Rattle.command_line.specs.Range.{AreInRange, IsFrameInRange, IsShort, IsLine}
 use Rattle.run_settings.specs.Settings.{AreInLimits}
 use Rattle.command_line.specs.declared.words.RunWords.{RunWords}
 use Rattle.command_line.specs.declared.words.MibWords.{MibWords}
@@ -92,24 +92,13 @@ module _ (f : Found) where
       let short = number_same (codes "batch") (rows_of f) words.settings.batch batch is.batch read_batch in
       out (subst (λ n. AreInLimits n batch) few (subst (λ n. AreInLimits words.settings.lanes n) short fits.limits))
 
-  -- a mib without a trace
-  pub mib_missing : first_value f (codes "trace") ≡ None → (words : MibWords) → IsMib (rows_of f) words → ⊥
-  mib_missing none words is = missing f (codes "trace") words.trace.now none is.trace
-
-  pub rules_missing : first_value f (codes "trace") ≡ None → (words : RulesWords) → IsRules (rows_of f) words → words.port ≤ 65535 → ⊥
-  rules_missing none words is fits = missing f (codes "trace") words.trace.now none is.trace
-
   pub rules_unread : ((text : Text) → one_text f (codes "port") ≡ Some text → ReadsOne (Reads 16) text None)
-      → (words : RulesWords) → IsRules (rows_of f) words → words.port ≤ 65535 → ⊥
-  rules_unread value words is fits = number_unread 16 f (codes "port") words.port value is.port (omega (arith, fits))
-
-  pub explain_missing : first_value f (codes "trace") ≡ None
-      → (words : ExplainWords) → IsExplain (rows_of f) words → words.port ≤ 65535 → IsFrameInRange words.frame → ⊥
-  explain_missing none words is fits frame = missing f (codes "trace") words.trace.now none is.trace
+      → (words : RulesWords) → IsRules (rows_of f) words → words.port ≤ 65535 → IsLine words.trace.until → ⊥
+  rules_unread value words is fits line = number_unread 16 f (codes "port") words.port value is.port (omega (arith, fits))
 
   pub explain_unread : ((text : Text) → one_text f (codes "port") ≡ Some text → ReadsOne (Reads 16) text None)
-      → (words : ExplainWords) → IsExplain (rows_of f) words → words.port ≤ 65535 → IsFrameInRange words.frame → ⊥
-  explain_unread value words is fits frame = number_unread 16 f (codes "port") words.port value is.port (omega (arith, fits))
+      → (words : ExplainWords) → IsExplain (rows_of f) words → words.port ≤ 65535 → IsFrameInRange words.frame → IsLine words.trace.until → ⊥
+  explain_unread value words is fits frame line = number_unread 16 f (codes "port") words.port value is.port (omega (arith, fits))
 
   -- a frame given by bytes and by a capture, or by neither
   pub captured_unread : ((text : Text) → one_text f (codes "frame") ≡ Some text → ReadsOne (Reads 32) text None)
@@ -143,12 +132,12 @@ module _ (f : Found) where
   optional_unread name text some value None is fits = given name text some is
   optional_unread name text some value (Some n) is fits = number_unread 32 f name n value is (omega (arith, fits))
 
-  -- likewise the identifier of the first message
-  pub identifier_unread : (text : Text) → first_value f (codes "id") ≡ Some text
-      → ((text : Text) → one_text f (codes "id") ≡ Some text → ReadsOne (Reads 16) text None)
-      → (n : Option ℕ) → IsOptionalNumber (codes "id") (rows_of f) n → IsIdentifier n → ⊥
-  identifier_unread text some value None is fits = given (codes "id") text some is
-  identifier_unread text some value (Some n) is fits = number_unread 16 f (codes "id") n value is (omega (arith, fits))
+  -- likewise one of 16 bits
+  pub short_unread : (name : Text) (text : Text) → first_value f name ≡ Some text
+      → ((text : Text) → one_text f name ≡ Some text → ReadsOne (Reads 16) text None)
+      → (n : Option ℕ) → IsOptionalNumber name (rows_of f) n → IsShort n → ⊥
+  short_unread name text some value None is fits = given name text some is
+  short_unread name text some value (Some n) is fits = number_unread 16 f name n value is (omega (arith, fits))
 
   pub trace_file_missing : first_value f (codes "trace") ≡ None → (words : TraceWords) → IsTrace (rows_of f) words → IsLine words.until → ⊥
   trace_file_missing none words is fits = missing f (codes "trace") words.file.now none is.file

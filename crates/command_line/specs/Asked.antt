@@ -13,6 +13,7 @@ use Rattle.command_line.specs.declared.words.FrameWords.TheVariants.{Bytes, Capt
 use Rattle.command_line.specs.declared.words.TraceWords.{TraceWords}
 use Rattle.command_line.specs.declared.words.ForwardWords.{ForwardWords}
 use Rattle.command_line.specs.declared.words.RecordWords.{RecordWords}
+use Rattle.command_line.specs.declared.words.ReplayWords.{ReplayWords}
 use Rattle.command_line.specs.declared.words.DecodeWords.{DecodeWords}
 use Rattle.command_line.specs.declared.words.EncodeWords.{EncodeWords}
 use Rattle.command_line.specs.declared.words.Words.{Words}
@@ -35,6 +36,10 @@ pub record IsFlag (name : Text) (rows : List Row) (given : Bool) : Type 0 where
   pub with : one_of name rows ≡ Some (codes "true") → given ≡ true
   pub without : one_of name rows ≡ Some (codes "false") → given ≡ false
 
+-- those behind `replay`
+pub record IsReplay (rows : List Row) (words : ReplayWords) : Type 0 where
+  pub json : IsFlag (codes "json") rows words.json
+
 -- the values of the options behind `run`
 pub record IsRun (rows : List Row) (words : RunWords) : Type 0 where
   pub trace : first_of (codes "trace") rows ≡ Some words.trace.now
@@ -43,15 +48,22 @@ pub record IsRun (rows : List Row) (words : RunWords) : Type 0 where
   pub lanes : IsNumber (codes "lanes") rows words.settings.lanes
   pub batch : IsNumber (codes "batch") rows words.settings.batch
   pub after : IsFlag (codes "after") rows words.settings.after
+  pub json : IsFlag (codes "json") rows words.json
+
+-- which messages are applied
+pub record IsTrace (rows : List Row) (words : TraceWords) : Type 0 where
+  pub file : first_of (codes "trace") rows ≡ Some words.file.now
+  pub until : IsOptionalNumber (codes "until") rows words.until
+  pub strict : IsFlag (codes "strict") rows words.strict
 
 -- those behind `mib`
 pub record IsMib (rows : List Row) (words : MibWords) : Type 0 where
-  pub trace : first_of (codes "trace") rows ≡ Some words.trace.now
+  pub trace : IsTrace rows words.trace
   pub json : IsFlag (codes "json") rows words.json
 
 -- those behind `rules`
 pub record IsRules (rows : List Row) (words : RulesWords) : Type 0 where
-  pub trace : first_of (codes "trace") rows ≡ Some words.trace.now
+  pub trace : IsTrace rows words.trace
   pub port : IsNumber (codes "port") rows words.port
   pub json : IsFlag (codes "json") rows words.json
 
@@ -68,8 +80,9 @@ IsFrame rows (Captured file number) =
 
 -- those behind `explain`
 pub record IsExplain (rows : List Row) (words : ExplainWords) : Type 0 where
-  pub trace : first_of (codes "trace") rows ≡ Some words.trace.now
+  pub trace : IsTrace rows words.trace
   pub port : IsNumber (codes "port") rows words.port
+  pub all : IsFlag (codes "all") rows words.all
   pub json : IsFlag (codes "json") rows words.json
   pub frame : IsFrame rows words.frame
 
@@ -79,12 +92,6 @@ pub record IsJudge (rows : List Row) (words : JudgeWords) : Type 0 where
   pub modelled : IsFlag (codes "modelled") rows words.modelled
   pub unordered : IsFlag (codes "unordered") rows words.unordered
   pub json : IsFlag (codes "json") rows words.json
-
--- which messages are applied
-pub record IsTrace (rows : List Row) (words : TraceWords) : Type 0 where
-  pub file : first_of (codes "trace") rows ≡ Some words.file.now
-  pub until : IsOptionalNumber (codes "until") rows words.until
-  pub strict : IsFlag (codes "strict") rows words.strict
 
 -- those behind `forward`
 pub record IsForward (rows : List Row) (words : ForwardWords) : Type 0 where
@@ -115,6 +122,7 @@ pub record IsRecord (rows : List Row) (words : RecordWords) : Type 0 where
 -- those behind `decode`
 pub record IsDecode (rows : List Row) (words : DecodeWords) : Type 0 where
   pub source : IsFlag (codes "source") rows words.source
+  pub json : IsFlag (codes "json") rows words.json
 
 -- those behind `encode`
 pub record IsEncode (rows : List Row) (words : EncodeWords) : Type 0 where
@@ -124,7 +132,7 @@ pub record IsEncode (rows : List Row) (words : EncodeWords) : Type 0 where
 -- what a subcommand asks for, by its name and the values of its options
 abbrev pub IsAskedBy : Option (Text × List Row) → Words → Type 0
 IsAskedBy None words = ⊥
-IsAskedBy (Some (name, rows)) Replay = name ≡ codes "replay"
+IsAskedBy (Some (name, rows)) (Replay words) = (name ≡ codes "replay") × IsReplay rows words
 IsAskedBy (Some (name, rows)) (Run words) = (name ≡ codes "run") × IsRun rows words
 IsAskedBy (Some (name, rows)) (Decode words) = (name ≡ codes "decode") × IsDecode rows words
 IsAskedBy (Some (name, rows)) (Mib words) = (name ≡ codes "mib") × IsMib rows words
@@ -137,7 +145,7 @@ IsAskedBy (Some (name, rows)) (Encode words) = (name ≡ codes "encode") × IsEn
 
 -- all but `record`
 abbrev pub IsNoRecord : Words → Type 0
-IsNoRecord Replay = Unit {0}
+IsNoRecord (Replay words) = Unit {0}
 IsNoRecord (Run words) = Unit {0}
 IsNoRecord (Decode words) = Unit {0}
 IsNoRecord (Mib words) = Unit {0}
@@ -147,3 +155,16 @@ IsNoRecord (Judge words) = Unit {0}
 IsNoRecord (Forward words) = Unit {0}
 IsNoRecord (Record words) = ⊥
 IsNoRecord (Encode words) = Unit {0}
+
+-- what looks at the entities after a trace
+abbrev pub IsLook : Words → Type 0
+IsLook (Replay words) = ⊥
+IsLook (Run words) = ⊥
+IsLook (Decode words) = ⊥
+IsLook (Mib words) = Unit {0}
+IsLook (Rules words) = Unit {0}
+IsLook (Explain words) = Unit {0}
+IsLook (Judge words) = ⊥
+IsLook (Forward words) = ⊥
+IsLook (Record words) = ⊥
+IsLook (Encode words) = ⊥

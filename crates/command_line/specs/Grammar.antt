@@ -112,14 +112,14 @@ history = record (new_rule (codes "history")) {
 }
 
 abbrev pub replay : App
-replay = new_app (codes "replay")
+replay = with_rule (new_app (codes "replay")) json
 
 -- what names the two files and a port
 abbrev pub over_files : Text → App
 over_files name = with_rule (with_rule (with_rule (new_app name) trace) (file (codes "frames"))) port
 
 abbrev pub run : App
-run = with_rule (with_rule (with_rule (over_files (codes "run")) lanes) batch) after
+run = with_rule (with_rule (with_rule (with_rule (over_files (codes "run")) lanes) batch) after) json
 
 -- what names the files that are written
 abbrev pub to_files : App
@@ -132,20 +132,36 @@ abbrev pub source : Rule
 source = flag (codes "source")
 
 abbrev pub decode : App
-decode = with_rule (new_app (codes "decode")) source
+decode = with_rule (with_rule (new_app (codes "decode")) source) json
+
+-- what names a trace, how far it is read, and whether each message has to be carried out
+abbrev pub over_trace : Text → App
+over_trace name = with_rule (with_rule (with_rule (new_app name) trace) until) strict
+
+-- whether objects are shown, too
+abbrev pub shown_after : Text → App
+shown_after name = with_rule (over_trace name) json
 
 abbrev pub mib : App
-mib = with_rule (with_rule (new_app (codes "mib")) trace) json
+mib = shown_after (codes "mib")
 
--- what names a trace and a port, and whether objects are shown
+-- what names a port, too
 abbrev pub at_port : Text → App
-at_port name = with_rule (with_rule (with_rule (new_app name) trace) port) json
+at_port name = with_rule (shown_after name) port
 
 abbrev pub rules : App
 rules = at_port (codes "rules")
 
+-- whether each entry is shown that fails
+abbrev pub all : Rule
+all = flag (codes "all")
+
+-- what names a frame by its bytes
+abbrev pub of_bytes : App
+of_bytes = with_rule (with_rule (at_port (codes "explain")) all) bytes
+
 abbrev pub explain : App
-explain = with_rule (with_rule (with_rule (at_port (codes "explain")) bytes) (optional (codes "frames") NonEmptyString)) (numbered (codes "frame"))
+explain = with_rule (with_rule of_bytes (optional (codes "frames") NonEmptyString)) (numbered (codes "frame"))
 
 abbrev pub judge : App
 judge = with_rule (with_rule (with_rule (with_rule (new_app (codes "judge")) modelled) unordered) json) history
@@ -187,6 +203,9 @@ with_doing app = with_subcommand (with_subcommand app replay.top) run.top
 abbrev pub with_looking : App → App
 with_looking app = with_subcommand (with_subcommand (with_subcommand (with_subcommand app decode.top) mib.top) rules.top) explain.top
 
+-- what judges, makes captures and reads them, and what makes scripts
+abbrev pub with_captures : App → App
+with_captures app = with_subcommand (with_subcommand (with_subcommand (with_subcommand app judge.top) forward.top) recording.top) encode.top
+
 abbrev pub onuctl : App
-onuctl =
-    with_subcommand (with_subcommand (with_subcommand (with_subcommand (with_looking (with_doing alone)) judge.top) forward.top) recording.top) encode.top
+onuctl = with_captures (with_looking (with_doing alone))

@@ -13,8 +13,8 @@ pub record AreInRange (settings : RunSettings) : Type 0 where
   pub limits : CanRun settings
 
 -- a transaction correlation identifier is a number of 16 bits
-abbrev pub IsIdentifier : Option ℕ → Type 0
-IsIdentifier number = IfSome number (λ n. n ≤ 65535)
+abbrev pub IsShort : Option ℕ → Type 0
+IsShort number = IfSome number (λ n. n ≤ 65535)
 
 -- the number of a line, or of milliseconds, is one of 32 bits
 abbrev pub IsLine : Option ℕ → Type 0
@@ -27,13 +27,13 @@ IsFrameInRange (Captured file number) = number ≤ 4294967295
 
 -- a port is one of 16 bits
 abbrev pub IsInRange : Words → Type 0
-IsInRange Replay = Unit {0}
+IsInRange (Replay words) = Unit {0}
 IsInRange (Run words) = AreInRange words.settings
 IsInRange (Decode words) = Unit {0}
-IsInRange (Mib words) = Unit {0}
-IsInRange (Rules words) = words.port ≤ 65535
-IsInRange (Explain words) = (words.port ≤ 65535) × IsFrameInRange words.frame
+IsInRange (Mib words) = IsLine words.trace.until
+IsInRange (Rules words) = (words.port ≤ 65535) × IsLine words.trace.until
+IsInRange (Explain words) = (words.port ≤ 65535) × IsFrameInRange words.frame × IsLine words.trace.until
 IsInRange (Judge words) = Unit {0}
 IsInRange (Forward words) = (words.port ≤ 65535) × IsLine words.trace.until
 IsInRange (Record words) = IsLine words.wait × IsLine words.lost
-IsInRange (Encode words) = IsIdentifier words.identifier
+IsInRange (Encode words) = IsShort words.identifier

@@ -4,7 +4,7 @@ ghost use Rattle.std.specs.Prelude.{◌≡◌, IfOk, Ok, Some, false, codes};
 ghost use Rattle.clap.specs.Words.{App, Rule, Text, app_of, new_app, rule_of, with_rule, with_subcommand};
 ghost use Rattle.clap.specs.declared.builder.command.Command.TheViews.{out-Command as fields_of};
 ghost use Rattle.clap.specs.declared.builder.value_parser.ValueParser.TheVariants.{NonEmptyString};
-ghost use Rattle.command_line.specs.Grammar.{IsCommand, after, at_port, batch, bytes, decode, encode, explain, forward, history, identifier, json, judge, lanes, mib, milliseconds, modelled, numbered, of_captures, onuctl, optional, out, over_files, port, recording, replay, rules, run, several, source, strict, text, trace, until, unordered, valued, verdicts};
+ghost use Rattle.command_line.specs.Grammar.{IsCommand, after, all, at_port, batch, bytes, decode, encode, explain, forward, history, identifier, json, judge, lanes, mib, milliseconds, modelled, numbered, of_bytes, of_captures, onuctl, optional, out, over_files, over_trace, port, recording, replay, rules, run, several, shown_after, source, strict, text, trace, until, unordered, valued, verdicts};
 
 use clap::builder::ValueParser;
 use clap::{Arg, ArgAction, Command, value_parser};
@@ -160,11 +160,10 @@ fn after<'a>(alloc: Global) -> Arg<'a>
 fn replay<'a>(alloc: Global) -> Result<Command<'a>, AllocError>
     ensures { IsCommand result replay }
 {
-    Ok(
-        Command::new(alloc, "replay")
-            .about("Answer the script on standard input, line by line, on standard output")
-            .after_help("Example: onuctl replay < examples/one_frame.script"),
-    )
+    let alone = Command::new(alloc, "replay")
+        .about("Answer the script on standard input, line by line, on standard output")
+        .after_help("Example: onuctl replay < examples/one_frame.script");
+    with_arg(Ok(alone), json(alloc))
 }
 
 /// The command that names a trace, a capture and a port.
@@ -192,7 +191,8 @@ fn run<'a>(alloc: Global) -> Result<Command<'a>, AllocError>
         );
     let on_lanes = with_arg(over_files(alloc, alone), lanes(alloc));
     let in_batches = with_arg(on_lanes, batch(alloc));
-    with_arg(in_batches, after(alloc))
+    let in_order = with_arg(in_batches, after(alloc));
+    with_arg(in_order, json(alloc))
 }
 
 /// Whether objects are shown in place of lines.
@@ -237,7 +237,26 @@ fn decode<'a>(alloc: Global) -> Result<Command<'a>, AllocError>
     let alone = Command::new(alloc, "decode")
         .about("Say what each line of the script or of the answers on standard input means")
         .after_help("Example: onuctl decode < examples/one_frame.script");
-    with_arg(Ok(alone), source(alloc))
+    let of_words = with_arg(Ok(alone), source(alloc));
+    with_arg(of_words, json(alloc))
+}
+
+/// The command that names a trace, how far it is read, and whether each message has to be carried out.
+fn over_trace<'a>(alloc: Global, command: Command<'a>) -> Result<Command<'a>, AllocError>
+    ensures { (name : Text) → IsCommand (Ok command.entry) (new_app name)
+        → IsCommand result (over_trace name) }
+{
+    let of_trace = with_arg(Ok(command), trace(alloc));
+    let up_to = with_arg(of_trace, until(alloc));
+    with_arg(up_to, strict(alloc))
+}
+
+/// The same, and whether objects are shown.
+fn shown_after<'a>(alloc: Global, command: Command<'a>) -> Result<Command<'a>, AllocError>
+    ensures { (name : Text) → IsCommand (Ok command.entry) (new_app name)
+        → IsCommand result (shown_after name) }
+{
+    with_arg(over_trace(alloc, command), json(alloc))
 }
 
 fn mib<'a>(alloc: Global) -> Result<Command<'a>, AllocError>
@@ -246,18 +265,15 @@ fn mib<'a>(alloc: Global) -> Result<Command<'a>, AllocError>
     let alone = Command::new(alloc, "mib")
         .about("Show the managed entities after a trace")
         .after_help("Example: onuctl mib --trace up.script");
-    let over_trace = with_arg(Ok(alone), trace(alloc));
-    with_arg(over_trace, json(alloc))
+    shown_after(alloc, alone)
 }
 
-/// The command that names a trace and a port, and whether objects are shown.
+/// The same, and a port.
 fn at_port<'a>(alloc: Global, command: Command<'a>) -> Result<Command<'a>, AllocError>
     ensures { (name : Text) → IsCommand (Ok command.entry) (new_app name)
         → IsCommand result (at_port name) }
 {
-    let over_trace = with_arg(Ok(command), trace(alloc));
-    let at_port = with_arg(over_trace, port(alloc));
-    with_arg(at_port, json(alloc))
+    with_arg(shown_after(alloc, command), port(alloc))
 }
 
 fn rules<'a>(alloc: Global) -> Result<Command<'a>, AllocError>
@@ -269,14 +285,33 @@ fn rules<'a>(alloc: Global) -> Result<Command<'a>, AllocError>
     at_port(alloc, alone)
 }
 
-fn explain<'a>(alloc: Global) -> Result<Command<'a>, AllocError>
-    ensures { IsCommand result explain }
+/// Whether each entry is shown that fails.
+fn all<'a>(alloc: Global) -> Arg<'a>
+    ensures rule { rule_of result ≡ all }
+    ensures local { result.global ≡ false }
+{
+    Arg::new(alloc, "all")
+        .long("all")
+        .action(ArgAction::SetTrue)
+        .help("Show each entry that fails, not only how many; has no value [example: --all]")
+}
+
+/// The command that names a frame by its bytes.
+fn of_bytes<'a>(alloc: Global) -> Result<Command<'a>, AllocError>
+    ensures { IsCommand result of_bytes }
 {
     let alone = Command::new(alloc, "explain")
         .about("Say step by step what becomes of one frame after a trace")
         .after_help(
             "The frame is given by its bytes, or by a capture and its number there.\nExample: onuctl explain --trace up.script --port 257 0200000000010200000000028100a0640800\nExample: onuctl explain --trace up.script --port 257 --frames up.pcap --frame 7",
         );
+    let each = with_arg(at_port(alloc, alone), all(alloc));
+    with_arg(each, bytes(alloc))
+}
+
+fn explain<'a>(alloc: Global) -> Result<Command<'a>, AllocError>
+    ensures { IsCommand result explain }
+{
     let frames = optional(
         alloc,
         "frames",
@@ -290,8 +325,7 @@ fn explain<'a>(alloc: Global) -> Result<Command<'a>, AllocError>
         "NUMBER",
         "Number of the frame in the capture, from 1 [example: 7]",
     );
-    let of_bytes = with_arg(at_port(alloc, alone), bytes(alloc));
-    let of_capture = with_arg(of_bytes, frames);
+    let of_capture = with_arg(of_bytes(alloc), frames);
     with_arg(of_capture, frame)
 }
 
@@ -553,6 +587,9 @@ pub fn onuctl<'a>(alloc: Global) -> Result<Command<'a>, AllocError>
     let alone = Command::new(alloc, "onuctl")
         .version(VERSION)
         .about("Answer OMCI messages and forward Ethernet frames, as an optical network unit does")
+        .after_help(
+            "Numbers in words: onuctl help reasons, onuctl help results, onuctl help faults",
+        )
         .subcommand_required(true)
         .arg_required_else_help(true);
     let answering = with_sub(Ok(alone), replay(alloc));

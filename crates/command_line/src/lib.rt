@@ -12,5 +12,5 @@ pub use reading::read_words;
 pub use report::report_words;
 pub use words::{
     DecodeWords, EncodeWords, ExplainWords, ForwardWords, FrameWords, JudgeWords, MibWords,
-    RecordWords, RulesWords, RunWords, TraceWords, Words,
+    RecordWords, ReplayWords, RulesWords, RunWords, TraceWords, Words,
 };

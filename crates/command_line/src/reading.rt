@@ -2,7 +2,7 @@
 ghost use Rattle.std.specs.Prelude.{◌≡◌, ◌≤◌, ℕ, Option, codes, IfErr, IfNone, IfOk, IfSome};
 ghost use Rattle.clap.specs.Words.{app_of, found_of, rows_of, subcommand_of, subcommand_rows_of};
 ghost use Rattle.clap.specs.Walk.{texts};
-ghost use Rattle.command_line.specs.Asked.{AreTexts, IsAskedBy, IsDecode, IsEncode, IsExplain, IsForward, IsFrame, IsJudge, IsMib, IsNoRecord, IsOptionalNumber, IsRecord, IsRules, IsRun, IsTrace};
+ghost use Rattle.command_line.specs.Asked.{AreTexts, IsAskedBy, IsDecode, IsEncode, IsExplain, IsForward, IsFrame, IsJudge, IsLook, IsMib, IsNoRecord, IsOptionalNumber, IsRecord, IsReplay, IsRules, IsRun, IsTrace};
 ghost use Rattle.command_line.specs.Refused.{IsRightlyRefused};
 ghost use Rattle.command_line.specs.declared.words.Words.{Words};
 ghost use Rattle.command_line.specs.declared.words.RecordWords.{RecordWords};
@@ -15,17 +15,26 @@ ghost use Rattle.command_line.specs.declared.words.ForwardWords.{ForwardWords};
 ghost use Rattle.command_line.specs.declared.words.FrameWords.{FrameWords};
 ghost use Rattle.command_line.specs.declared.words.TraceWords.{TraceWords};
 ghost use Rattle.command_line.specs.Grammar.{onuctl};
-ghost use Rattle.command_line.specs.Range.{AreInRange, IsFrameInRange, IsIdentifier, IsInRange, IsLine};
+ghost use Rattle.command_line.specs.Range.{AreInRange, IsFrameInRange, IsShort, IsInRange, IsLine};
 
 use crate::grammar::onuctl;
 use crate::words::{
     DecodeWords, EncodeWords, ExplainWords, ForwardWords, FrameWords, JudgeWords, MibWords,
-    RecordWords, RulesWords, RunWords, TraceWords, Words,
+    RecordWords, ReplayWords, RulesWords, RunWords, TraceWords, Words,
 };
 use clap::error::ErrorKind;
 use clap::{ArgMatches, Command, Error};
 use run_settings::RunSettings;
 use std::alloc::{AllocError, Global};
+
+/// What the words behind `replay` ask for.
+fn read_replay(given: &ArgMatches<'_>) -> ReplayWords
+    ensures { IsReplay (rows_of (found_of given.now)) result }
+{
+    ReplayWords {
+        json: given.get_flag("json"),
+    }
+}
 
 /// What the options behind `run` ask for; None where one is missing, or no number in its range.
 fn read_run<'a>(given: &ArgMatches<'a>) -> Option<RunWords<'a>>
@@ -42,31 +51,6 @@ fn read_run<'a>(given: &ArgMatches<'a>) -> Option<RunWords<'a>>
         trace: given.get_str("trace")?,
         frames: given.get_str("frames")?,
         settings: RunSettings::new(port, lanes, batch, after)?,
-    })
-}
-
-/// What the options behind `mib` ask for; None where one is missing.
-fn read_mib<'a>(given: &ArgMatches<'a>) -> Option<MibWords<'a>>
-    ensures asked { IfSome result (IsMib (rows_of (found_of given.now))) }
-    ensures none { IfNone result ((words : MibWords) → IsMib (rows_of (found_of given.now)) words
-        → ⊥) }
-{
-    Some(MibWords {
-        trace: given.get_str("trace")?,
-        json: given.get_flag("json"),
-    })
-}
-
-/// What the options behind `rules` ask for; None where one is missing, or the port has over 16 bits.
-fn read_rules<'a>(given: &ArgMatches<'a>) -> Option<RulesWords<'a>>
-    ensures asked { IfSome result (IsRules (rows_of (found_of given.now))) }
-    ensures range { IfSome result (λ words. words.port ≤ 65535) }
-    ensures none { IfNone result ((words : RulesWords)
-        → IsRules (rows_of (found_of given.now)) words → words.port ≤ 65535 → ⊥) }
-{
-    Some(RulesWords {
-        trace: given.get_str("trace")?,
-        port: given.get_one("port")?,
         json: given.get_flag("json"),
     })
 }
@@ -77,6 +61,19 @@ fn read_optional(given: &ArgMatches<'_>, name: &str) -> Option<Option<u32>>
     ensures range { IfSome result IsLine }
     ensures none { IfNone result ((n : Option ℕ)
         → IsOptionalNumber name.now (rows_of (found_of given.now)) n → IsLine n → ⊥) }
+{
+    if given.get_str(name).is_none() {
+        return Some(None);
+    }
+    Some(Some(given.get_one(name)?))
+}
+
+/// The number of an option that may be left out; None where it is given, and no number of 16 bits.
+fn read_short(given: &ArgMatches<'_>, name: &str) -> Option<Option<u16>>
+    ensures asked { IfSome result (IsOptionalNumber name.now (rows_of (found_of given.now))) }
+    ensures range { IfSome result IsShort }
+    ensures none { IfNone result ((n : Option ℕ)
+        → IsOptionalNumber name.now (rows_of (found_of given.now)) n → IsShort n → ⊥) }
 {
     if given.get_str(name).is_none() {
         return Some(None);
@@ -103,22 +100,6 @@ fn read_frame<'a>(given: &ArgMatches<'a>) -> Option<FrameWords<'a>>
     })
 }
 
-/// What the words behind `explain` ask for; None where one is missing or too much, or the port has over 16 bits.
-fn read_explain<'a>(given: &ArgMatches<'a>) -> Option<ExplainWords<'a>>
-    ensures asked { IfSome result (IsExplain (rows_of (found_of given.now))) }
-    ensures range { IfSome result (λ words. (words.port ≤ 65535) × IsFrameInRange words.frame) }
-    ensures none { IfNone result ((words : ExplainWords)
-        → IsExplain (rows_of (found_of given.now)) words
-        → words.port ≤ 65535 → IsFrameInRange words.frame → ⊥) }
-{
-    Some(ExplainWords {
-        trace: given.get_str("trace")?,
-        port: given.get_one("port")?,
-        frame: read_frame(given)?,
-        json: given.get_flag("json"),
-    })
-}
-
 /// Which messages are to be applied; None where the file is missing, or the line's number has over 32 bits.
 fn read_trace<'a>(given: &ArgMatches<'a>) -> Option<TraceWords<'a>>
     ensures asked { IfSome result (IsTrace (rows_of (found_of given.now))) }
@@ -130,6 +111,52 @@ fn read_trace<'a>(given: &ArgMatches<'a>) -> Option<TraceWords<'a>>
         file: given.get_str("trace")?,
         until: read_optional(given, "until")?,
         strict: given.get_flag("strict"),
+    })
+}
+
+/// What the options behind `mib` ask for; None where one is missing, or the line's number has over 32 bits.
+fn read_mib<'a>(given: &ArgMatches<'a>) -> Option<MibWords<'a>>
+    ensures asked { IfSome result (IsMib (rows_of (found_of given.now))) }
+    ensures range { IfSome result (λ words. IsLine words.trace.until) }
+    ensures none { IfNone result ((words : MibWords) → IsMib (rows_of (found_of given.now)) words
+        → IsLine words.trace.until → ⊥) }
+{
+    Some(MibWords {
+        trace: read_trace(given)?,
+        json: given.get_flag("json"),
+    })
+}
+
+/// What the options behind `rules` ask for; None where one is missing, the port has over 16 bits, or the line's number over 32.
+fn read_rules<'a>(given: &ArgMatches<'a>) -> Option<RulesWords<'a>>
+    ensures asked { IfSome result (IsRules (rows_of (found_of given.now))) }
+    ensures range { IfSome result (λ words. (words.port ≤ 65535) × IsLine words.trace.until) }
+    ensures none { IfNone result ((words : RulesWords)
+        → IsRules (rows_of (found_of given.now)) words
+        → words.port ≤ 65535 → IsLine words.trace.until → ⊥) }
+{
+    Some(RulesWords {
+        trace: read_trace(given)?,
+        port: given.get_one("port")?,
+        json: given.get_flag("json"),
+    })
+}
+
+/// What the words behind `explain` ask for; None where one is missing or too much, the port has over 16 bits, or the line's number over 32.
+fn read_explain<'a>(given: &ArgMatches<'a>) -> Option<ExplainWords<'a>>
+    ensures asked { IfSome result (IsExplain (rows_of (found_of given.now))) }
+    ensures range { IfSome result (λ words.
+        (words.port ≤ 65535) × IsFrameInRange words.frame × IsLine words.trace.until) }
+    ensures none { IfNone result ((words : ExplainWords)
+        → IsExplain (rows_of (found_of given.now)) words
+        → words.port ≤ 65535 → IsFrameInRange words.frame → IsLine words.trace.until → ⊥) }
+{
+    Some(ExplainWords {
+        trace: read_trace(given)?,
+        port: given.get_one("port")?,
+        frame: read_frame(given)?,
+        all: given.get_flag("all"),
+        json: given.get_flag("json"),
     })
 }
 
@@ -169,32 +196,20 @@ fn read_decode(given: &ArgMatches<'_>) -> DecodeWords
 {
     DecodeWords {
         source: given.get_flag("source"),
+        json: given.get_flag("json"),
     }
-}
-
-/// The identifier behind `--id`, which may be left out; None where it is given, and no number of 16 bits.
-fn read_identifier(given: &ArgMatches<'_>) -> Option<Option<u16>>
-    ensures asked { IfSome result (IsOptionalNumber (codes "id") (rows_of (found_of given.now))) }
-    ensures range { IfSome result IsIdentifier }
-    ensures none { IfNone result ((n : Option ℕ)
-        → IsOptionalNumber (codes "id") (rows_of (found_of given.now)) n → IsIdentifier n → ⊥) }
-{
-    if given.get_str("id").is_none() {
-        return Some(None);
-    }
-    Some(Some(given.get_one("id")?))
 }
 
 /// What the words behind `encode` ask for; None where the identifier has over 16 bits.
 fn read_encode<'a>(given: &ArgMatches<'a>) -> Option<EncodeWords<'a>>
     ensures asked { IfSome result (IsEncode (rows_of (found_of given.now))) }
-    ensures range { IfSome result (λ words. IsIdentifier words.identifier) }
+    ensures range { IfSome result (λ words. IsShort words.identifier) }
     ensures none { IfNone result ((words : EncodeWords)
-        → IsEncode (rows_of (found_of given.now)) words → IsIdentifier words.identifier → ⊥) }
+        → IsEncode (rows_of (found_of given.now)) words → IsShort words.identifier → ⊥) }
 {
     Some(EncodeWords {
         file: given.get_str("text"),
-        identifier: read_identifier(given)?,
+        identifier: read_short(given, "id")?,
     })
 }
 
@@ -240,6 +255,24 @@ fn read_record<'a>(
     }))
 }
 
+/// What a parse asks for that looks at the entities after a trace; None where it is nothing of that, a value is missing, or no number in
+/// its range.
+fn read_look<'a>(matches: &ArgMatches<'a>) -> Option<Words<'a>>
+    ensures asked { IfSome result (IsAskedBy (subcommand_rows_of matches.now)) }
+    ensures range { IfSome result IsInRange }
+    ensures none { IfNone result ((words : Words) → IsAskedBy (subcommand_rows_of matches.now) words
+        → IsInRange words → IsLook words → ⊥) }
+{
+    if let Some(given) = matches.subcommand_matches("mib") {
+        return Some(Words::Mib(read_mib(given)?));
+    }
+    if let Some(given) = matches.subcommand_matches("rules") {
+        return Some(Words::Rules(read_rules(given)?));
+    }
+    let given = matches.subcommand_matches("explain")?;
+    Some(Words::Explain(read_explain(given)?))
+}
+
 /// What a parse asks for, but for `record`; None where it is that, a value is missing, or no number in its range.
 fn read_others<'a>(matches: &ArgMatches<'a>) -> Option<Words<'a>>
     ensures asked { IfSome result (IsAskedBy (subcommand_rows_of matches.now)) }
@@ -247,8 +280,8 @@ fn read_others<'a>(matches: &ArgMatches<'a>) -> Option<Words<'a>>
     ensures none { IfNone result ((words : Words) → IsAskedBy (subcommand_rows_of matches.now) words
         → IsInRange words → IsNoRecord words → ⊥) }
 {
-    if matches.subcommand_matches("replay").is_some() {
-        return Some(Words::Replay);
+    if let Some(given) = matches.subcommand_matches("replay") {
+        return Some(Words::Replay(read_replay(given)));
     }
     if let Some(given) = matches.subcommand_matches("decode") {
         return Some(Words::Decode(read_decode(given)));
@@ -259,20 +292,13 @@ fn read_others<'a>(matches: &ArgMatches<'a>) -> Option<Words<'a>>
     if let Some(given) = matches.subcommand_matches("run") {
         return Some(Words::Run(read_run(given)?));
     }
-    if let Some(given) = matches.subcommand_matches("mib") {
-        return Some(Words::Mib(read_mib(given)?));
-    }
-    if let Some(given) = matches.subcommand_matches("rules") {
-        return Some(Words::Rules(read_rules(given)?));
-    }
-    if let Some(given) = matches.subcommand_matches("explain") {
-        return Some(Words::Explain(read_explain(given)?));
-    }
     if let Some(given) = matches.subcommand_matches("judge") {
         return Some(Words::Judge(read_judge(given)));
     }
-    let given = matches.subcommand_matches("forward")?;
-    Some(Words::Forward(read_forward(given)?))
+    if let Some(given) = matches.subcommand_matches("forward") {
+        return Some(Words::Forward(read_forward(given)?));
+    }
+    read_look(matches)
 }
 
 /// What a parse asks for; None where a value is missing, or no number in its range.

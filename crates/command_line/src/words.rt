@@ -5,7 +5,7 @@ use run_settings::RunSettings;
 #[derive(Debug, Drop, PartialEq, Eq)]
 pub enum Words<'a> {
     /// A replay of the script on standard input.
-    Replay,
+    Replay(ReplayWords),
     /// A run over two files.
     Run(RunWords<'a>),
     /// What each line on standard input means.
@@ -26,11 +26,20 @@ pub enum Words<'a> {
     Encode(EncodeWords<'a>),
 }
 
+/// How `replay` is to answer.
+#[derive(Clone, Copy, Debug, PartialEq, Eq)]
+pub struct ReplayWords {
+    /// Whether the answers are shown as JSON.
+    pub json: bool,
+}
+
 /// How `decode` is to say what lines mean.
 #[derive(Clone, Copy, Debug, PartialEq, Eq)]
 pub struct DecodeWords {
     /// Whether it says them in the words that `encode` reads.
     pub source: bool,
+    /// Whether it says them as JSON.
+    pub json: bool,
 }
 
 /// What `encode` is to make a script of.
@@ -51,13 +60,15 @@ pub struct RunWords<'a> {
     pub frames: &'a str,
     /// How the frames are forwarded.
     pub settings: RunSettings,
+    /// Whether what comes of it is shown as JSON.
+    pub json: bool,
 }
 
 /// What `mib` is to show.
 #[derive(Clone, Copy, Debug, PartialEq, Eq)]
 pub struct MibWords<'a> {
-    /// The file with the messages that are applied.
-    pub trace: &'a str,
+    /// The messages that are applied.
+    pub trace: TraceWords<'a>,
     /// Whether it is shown as JSON.
     pub json: bool,
 }
@@ -65,8 +76,8 @@ pub struct MibWords<'a> {
 /// What `rules` is to show.
 #[derive(Clone, Copy, Debug, PartialEq, Eq)]
 pub struct RulesWords<'a> {
-    /// The file with the messages that are applied.
-    pub trace: &'a str,
+    /// The messages that are applied.
+    pub trace: TraceWords<'a>,
     /// The port whose table is shown.
     pub port: u16,
     /// Whether it is shown as JSON.
@@ -90,12 +101,14 @@ pub enum FrameWords<'a> {
 /// What `explain` is to explain.
 #[derive(Clone, Copy, Debug, PartialEq, Eq)]
 pub struct ExplainWords<'a> {
-    /// The file with the messages that are applied.
-    pub trace: &'a str,
+    /// The messages that are applied.
+    pub trace: TraceWords<'a>,
     /// The port at which the frame comes in.
     pub port: u16,
     /// The frame.
     pub frame: FrameWords<'a>,
+    /// Whether each entry that fails is shown, and not their number alone.
+    pub all: bool,
     /// Whether it is shown as JSON.
     pub json: bool,
 }

@@ -6,7 +6,7 @@ ghost use Rattle.onu_texts.specs.Room.{IsWrittenUpTo, Refuses};
 use crate::room::put;
 use onu_cell::{CLOSED, Cell, NO_MEMORY, SMALL};
 use std::alloc::Global;
-use text_explanations::write_explanation_json;
+use text_explanations::{Incoming, Traced, write_explanation_json};
 
 /// Explains what becomes of a frame that comes in at a port of the unit in a cell, and puts the explanation to the front of a room, as
 /// JSON: 0. `written` is how many bytes it has, also where the room is too small for it, [`SMALL`]. The unit stays as it is.
@@ -29,7 +29,12 @@ pub fn explain_into(
     };
     *written = 0;
     let mut text = Vec::new(alloc);
-    let made = write_explanation_json(alloc, unit.mib(), port, frame, &mut text);
+    let traced = Traced {
+        mib: unit.mib(),
+        accepted: &[],
+    };
+    let incoming = Incoming { port, bytes: frame };
+    let made = write_explanation_json(alloc, &traced, &incoming, &mut text);
     *cell = Cell::holding(unit);
     if made.is_err() {
         return NO_MEMORY;

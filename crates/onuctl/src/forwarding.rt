@@ -1,11 +1,11 @@
 //! The frames of a capture, forwarded after a trace.
 use crate::captures::{Naming, report_capture, report_cut};
-use crate::files::{read_whole, report_file, report_unread};
+use crate::files::{report_file, report_unread};
+use crate::traces::{apply_trace, without_memory};
 use bench_capture::{FrameReader, ReadFault};
 use bench_forward::{ForwardFault, Forwarded, Outputs, Totals, forward_frames};
-use command_line::{ForwardWords, TraceWords};
+use command_line::ForwardWords;
 use mib_state::Mib;
-use script_trace::{Applied, ScriptFault, apply_script};
 use std::alloc::Global;
 use std::fs;
 use std::fs::File;
@@ -14,60 +14,8 @@ use std::rt::Files;
 use text_forwarding::{write_totals, write_totals_json};
 use text_writing::{LookFault, TextFault, report_look};
 
-/// The status where messages of a trace aren't carried out that have to be.
-const REFUSED: u8 = 2;
-
-/// How many lines are named at most.
-const NAMED: usize = 10;
-
 /// How many bytes are gathered before a file gets them.
 const GATHERED: usize = 1 << 18;
-
-/// Says that there is no memory, and gives the status.
-fn without_memory<E: Write>(err: &mut E) -> u8 {
-    report_look(&Err(LookFault::NoMemory), err)
-}
-
-/// Says how many messages weren't carried out, and in which lines they stand; nothing where each was.
-fn report_lines<E: Write>(lines: &[u64], what: &str, err: &mut E) {
-    if lines.is_empty() {
-        return;
-    }
-    let _ = write!(err, "{} {what}: lines", lines.len());
-    for (place, line) in lines.iter().take(NAMED).enumerate() {
-        let comma = if place == 0 { "" } else { "," };
-        let _ = write!(err, "{comma} {line}");
-    }
-    let more = if lines.len() > NAMED { ", .." } else { "" };
-    let _ = writeln!(err, "{more}");
-}
-
-/// Carries out the messages of a trace, and says which weren't; or gives the status where a line is bad, or one wasn't carried out that
-/// has to be.
-fn apply_trace<R: Files + Alloc<A = Global>, E: Write>(
-    rt: &R,
-    words: &TraceWords<'_>,
-    err: &mut E,
-) -> Result<Applied, u8> {
-    let script = match read_whole(rt, words.file) {
-        Ok(script) => script,
-        Err(error) => return Err(report_unread(&error, b"cannot read trace\n", words.file, err)),
-    };
-    let applied = match apply_script(rt.alloc(), &script, words.until.map(u64::from)) {
-        Ok(applied) => applied,
-        Err(ScriptFault::BadLine(line)) => {
-            return Err(report_look(&Err(LookFault::BadTrace(line)), err));
-        }
-        Err(ScriptFault::NoMemory) => return Err(without_memory(err)),
-    };
-    report_lines(&applied.faulty, "messages have a fault", err);
-    report_lines(&applied.refused, "messages were refused", err);
-    let all = applied.faulty.is_empty() && applied.refused.is_empty();
-    if words.strict && !all {
-        return Err(REFUSED);
-    }
-    Ok(applied)
-}
 
 /// A file that is written, if one is named, or the status where it can't be.
 fn create<R: Files + Alloc<A = Global>, E: Write>(

@@ -1,67 +1,38 @@
 //! What looks inside: the managed entities after a trace, a table, and what becomes of one frame.
 use crate::captures::{next_frame, open_frames, report_cut};
 use crate::files::{read_whole, report_unread};
+use crate::traces::apply_trace;
 use command_line::{ExplainWords, FrameWords, MibWords, RulesWords};
 use mib_state::Mib;
-use run_trace::{TraceFault, apply_requests, read_requests};
+use script_trace::Applied;
 use std::alloc::Global;
 use std::io::{Read, Write};
 use std::rt::Files;
 use text_entities::{write_mib, write_mib_json};
-use text_explanations::{write_explanation, write_explanation_json, write_rules, write_rules_json};
-use text_messages::decode;
+use text_explanations::{
+    Incoming, Traced, write_explanation, write_explanation_json, write_rules, write_rules_json,
+};
+use text_messages::{decode, decode_json};
 use text_writing::{DecodeFault, LookFault, TextFault, report_look};
 
-/// Why a trace isn't read.
-fn trace_fault(fault: TraceFault) -> LookFault {
-    match fault {
-        TraceFault::BadLine(line) => LookFault::BadTrace(line),
-        TraceFault::NoMemory => LookFault::NoMemory,
-    }
-}
-
 /// Says how a text ended, and gives the status.
-fn report_text<E: Write>(outcome: Result<(), TextFault>, err: &mut E) -> u8 {
+pub fn report_text<E: Write>(outcome: Result<(), TextFault>, err: &mut E) -> u8 {
     report_look(&outcome.map_err(LookFault::from), err)
 }
 
-/// The managed entities after a trace.
-fn mib_after(alloc: Global, trace: &[u8]) -> Result<Mib, LookFault> {
-    let requests = match read_requests(alloc, trace) {
-        Ok(requests) => requests,
-        Err(fault) => return Err(trace_fault(fault)),
-    };
-    let Ok(mut mib) = Mib::new(alloc) else {
-        return Err(LookFault::NoMemory);
-    };
-    apply_requests(&mut mib, &requests);
-    Ok(mib)
-}
-
-/// The managed entities after the trace in a file, or the status where there are none; why is written to `err`.
-fn entities_after<R: Files + Alloc<A = Global>, E: Write>(
-    rt: &R,
-    path: &str,
-    err: &mut E,
-) -> Result<Mib, u8> {
-    let trace = match read_whole(rt, path) {
-        Ok(trace) => trace,
-        Err(error) => return Err(report_unread(&error, b"cannot read trace\n", path, err)),
-    };
-    match mib_after(rt.alloc(), &trace) {
-        Ok(mib) => Ok(mib),
-        Err(fault) => Err(report_look(&Err(fault), err)),
-    }
-}
-
-/// Writes what each line of the input means to `out`, and why not all of them to `err`. It gives the status.
+/// Writes what each line of the input means to `out`, as text or as JSON, and why not all of them to `err`. It gives the status.
 pub fn decode_lines<I: Read, O: Write, E: Write>(
     alloc: Global,
+    json: bool,
     reader: &mut I,
     out: &mut O,
     err: &mut E,
 ) -> u8 {
-    let outcome = decode(alloc, reader, out);
+    let outcome = if json {
+        decode_json(alloc, reader, out)
+    } else {
+        decode(alloc, reader, out)
+    };
     report_decoding(outcome, err)
 }
 
@@ -95,9 +66,17 @@ pub fn show_mib<R: Files + Alloc<A = Global>, O: Write, E: Write>(
     out: &mut O,
     err: &mut E,
 ) -> u8 {
-    match entities_after(rt, words.trace, err) {
-        Ok(mib) => report_text(write_entities(rt.alloc(), words, &mib, out), err),
+    match apply_trace(rt, &words.trace, err) {
+        Ok(applied) => report_text(write_entities(rt.alloc(), words, &applied.mib, out), err),
         Err(status) => status,
+    }
+}
+
+/// What a trace left, as texts show it.
+fn traced(applied: &Applied) -> Traced<'_> {
+    Traced {
+        mib: &applied.mib,
+        accepted: &applied.accepted,
     }
 }
 
@@ -105,13 +84,13 @@ pub fn show_mib<R: Files + Alloc<A = Global>, O: Write, E: Write>(
 fn write_table<O: Write>(
     alloc: Global,
     words: &RulesWords,
-    mib: &Mib,
+    applied: &Applied,
     out: &mut O,
 ) -> Result<(), TextFault> {
     if words.json {
-        write_rules_json(alloc, mib, words.port, out)
+        write_rules_json(alloc, &traced(applied), words.port, out)
     } else {
-        write_rules(alloc, mib, words.port, out)
+        write_rules(alloc, &traced(applied), words.port, out)
     }
 }
 
@@ -122,8 +101,8 @@ pub fn show_rules<R: Files + Alloc<A = Global>, O: Write, E: Write>(
     out: &mut O,
     err: &mut E,
 ) -> u8 {
-    match entities_after(rt, words.trace, err) {
-        Ok(mib) => report_text(write_table(rt.alloc(), words, &mib, out), err),
+    match apply_trace(rt, &words.trace, err) {
+        Ok(applied) => report_text(write_table(rt.alloc(), words, &applied, out), err),
         Err(status) => status,
     }
 }
@@ -189,14 +168,18 @@ fn frame_asked<R: Files + Alloc<A = Global>, E: Write>(
 fn write_steps<O: Write>(
     alloc: Global,
     words: &ExplainWords,
-    mib: &Mib,
+    applied: &Applied,
     frame: &[u8],
     out: &mut O,
 ) -> Result<(), TextFault> {
+    let incoming = Incoming {
+        port: words.port,
+        bytes: frame,
+    };
     if words.json {
-        write_explanation_json(alloc, mib, words.port, frame, out)
+        write_explanation_json(alloc, &traced(applied), &incoming, out)
     } else {
-        write_explanation(alloc, mib, words.port, frame, out)
+        write_explanation(alloc, &traced(applied), &incoming, words.all, out)
     }
 }
 
@@ -212,8 +195,8 @@ pub fn explain_frame<R: Files + Alloc<A = Global>, O: Write, E: Write>(
         Ok(frame) => frame,
         Err(status) => return status,
     };
-    match entities_after(rt, words.trace, err) {
-        Ok(mib) => report_text(write_steps(alloc, words, &mib, &frame, out), err),
+    match apply_trace(rt, &words.trace, err) {
+        Ok(applied) => report_text(write_steps(alloc, words, &applied, &frame, out), err),
         Err(status) => status,
     }
 }

@@ -5,16 +5,20 @@ mod captures;
 mod encoding;
 mod files;
 mod forwarding;
+mod json_lines;
 mod judge_progress;
 mod judging;
 mod looking;
 mod pieces;
 mod recording;
 mod running;
+mod topics;
+mod traces;
 
 use command_line::{Words, read_words, report_words};
 use encoding::{decode_into_words, encode_text};
 use forwarding::forward;
+use json_lines::{replay_as_json, run_as_json};
 use judging::judge_history;
 use looking::{decode_lines, explain_frame, show_mib, show_rules};
 use recording::record;
@@ -28,6 +32,7 @@ use std::rt::{Clock, Env, Files};
 use std::sync::Wait;
 use std::thread::Threads;
 use std::{env, io};
+use topics::{show_topic, topic_of};
 
 /// The words of the command line, the program's name first.
 fn words(rt: &(impl Env + Alloc<A = Global>)) -> io::Result<Vec<String>> {
@@ -65,14 +70,19 @@ fn answer<
     E: Write + IsTerminal + Send,
 >(rt: &R, words: &[&str], input: &mut I, out: &mut O, err: &mut E) -> u8 {
     let alloc = rt.alloc();
+    if let Some(topic) = topic_of(words) {
+        return show_topic(alloc, topic, out, err);
+    }
     match read_words(alloc, words) {
-        Ok(Words::Replay) => {
+        Ok(Words::Replay(words)) if words.json => replay_as_json(alloc, input, out, err),
+        Ok(Words::Replay(_)) => {
             let outcome = replay(alloc, input, out);
             report_replay(&outcome, err)
         }
+        Ok(Words::Run(words)) if words.json => run_as_json(rt, &words, out, err),
         Ok(Words::Run(words)) => run(rt, &words, out, err),
         Ok(Words::Decode(words)) if words.source => decode_into_words(alloc, input, out, err),
-        Ok(Words::Decode(_)) => decode_lines(alloc, input, out, err),
+        Ok(Words::Decode(words)) => decode_lines(alloc, words.json, input, out, err),
         Ok(Words::Encode(words)) => encode_text(rt, &words, input, out, err),
         Ok(Words::Mib(words)) => show_mib(rt, &words, out, err),
         Ok(Words::Rules(words)) => show_rules(rt, &words, out, err),

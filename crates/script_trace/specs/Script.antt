@@ -1,5 +1,5 @@
 -- What the messages of a script leave, and what was wrong with them.
-use Rattle.std.specs.Prelude.{◌≡◌, ℕ, ◌+◌, ◌&&◌, ⊤, Bool, true, false, not, List, [], ◌∷◌, ◌++◌, Option, Some, None, Result, Ok, Err, if◌then◌else◌, is_some, nat_lt, take}
+use Rattle.std.specs.Prelude.{◌≡◌, ℕ, ◌+◌, ◌&&◌, ⊤, Bool, true, not, List, [], ◌∷◌, ◌++◌, Option, Some, None, Result, Ok, Err, if◌then◌else◌, is_some, nat_lt, take}
 use Rattle.omci_msg.specs.Message.{request_of}
 use Rattle.omci_msg.specs.declared.Request.{Request}
 use Rattle.omci_msg.specs.declared.fault.MsgFault.{MsgFault}
@@ -8,16 +8,20 @@ use Rattle.mib_state.specs.Entities.{State, nothing, unlatched}
 use Rattle.mib_state.specs.Step.{step}
 use Rattle.script_lines.specs.Line.{Asked, Message, Frame, Nothing, asked_by}
 use Rattle.script_lines.specs.Text.{lines_of}
-use Rattle.script_trace.specs.declared.apply.Applied.{Applied}
+use Rattle.script_trace.specs.declared.applied.Accepted.{Accepted}
+use Rattle.script_trace.specs.declared.applied.Applied.{Applied}
+use Rattle.script_trace.specs.declared.applied.Faulty.{Faulty}
+use Rattle.script_trace.specs.declared.applied.Refused.{Refused}
 use Rattle.script_trace.specs.declared.fault.ScriptFault.{ScriptFault}
 use Rattle.script_trace.specs.declared.fault.ScriptFault.TheVariants.{BadLine, NoMemory}
 
--- the entities so far, the requests that were accepted, and the numbers, from 1, of the lines whose messages have a fault or are refused
+-- the entities so far; the requests that were accepted; the messages that have a fault; and the requests that are refused, with their replies;
+-- each with the number, from 1, of its line
 pub record Told : Type 0 where
   pub state : State
-  pub accepted : List Request
-  pub faulty : List ℕ
-  pub refused : List ℕ
+  pub accepted : List Accepted
+  pub faulty : List Faulty
+  pub refused : List Refused
 
 -- what is left when messages were carried out
 abbrev pub told_by : Applied → Told
@@ -29,17 +33,29 @@ is_refused s q = not (is_accepted s.entities q) && may_change q.action
 
 -- ---- line by line
 
+-- a request on a line is accepted
+abbrev pub accepted_at : ℕ → Request → Accepted
+accepted_at n q = record { line = n; request = q }
+
+-- one on a line is refused, and this is its reply
+abbrev pub refused_at : ℕ → State → Request → Refused
+refused_at n s q = record { line = n; request = q; reply = (step s q).0 }
+
 abbrev pub after_request : ℕ → Request → Told → Told
 after_request n q told = record {
   state = (step told.state q).1;
-  accepted = told.accepted ++ (if is_accepted told.state.entities q then q ∷ [] else []);
+  accepted = told.accepted ++ (if is_accepted told.state.entities q then accepted_at n q ∷ [] else []);
   faulty = told.faulty;
-  refused = told.refused ++ (if is_refused told.state q then n ∷ [] else []);
+  refused = told.refused ++ (if is_refused told.state q then refused_at n told.state q ∷ [] else []);
 }
+
+-- a message on a line has a fault
+abbrev pub faulty_at : ℕ → MsgFault → Faulty
+faulty_at n fault = record { line = n; fault = fault }
 
 abbrev pub after_message : ℕ → Result Request MsgFault → Told → Told
 after_message n (Ok q) told = after_request n q told
-after_message n (Err fault) told = record told { faulty = told.faulty ++ n ∷ [] }
+after_message n (Err fault) told = record told { faulty = told.faulty ++ faulty_at n fault ∷ [] }
 
 abbrev pub after_line : ℕ → Option Asked → Told → Told
 after_line n None told = told

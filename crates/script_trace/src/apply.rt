@@ -5,24 +5,12 @@ ghost use Rattle.mib_state.specs.After.{may_change};
 ghost use Rattle.script_lines.specs.Line.{asked_by};
 ghost use Rattle.script_trace.specs.Script.{IsBadLine, IsGood, IsWhyNotApplied, after_line, after_message, after_request, after_script, first_bad, goes_on, told_by};
 
+use crate::applied::{Accepted, Applied, Faulty, Refused};
 use crate::fault::ScriptFault;
 use mib_state::Mib;
 use omci_msg::{Action, Request, read};
 use script_lines::{Line, MOST_SPELLED, first_line, read_line};
 use std::alloc::{AllocError, Global};
-
-/// What is left when the messages of a script were carried out.
-#[derive(Drop)]
-pub struct Applied {
-    /// The managed entities.
-    pub mib: Mib,
-    /// The requests that were accepted, in order. They alone lead to these entities.
-    pub accepted: Vec<Request>,
-    /// The numbers, from 1, of the lines with a message that has a fault, in order. It is passed over.
-    pub faulty: Vec<u64>,
-    /// Those of the lines with a message that is to change entities and is refused. It changes nothing.
-    pub refused: Vec<u64>,
-}
 
 /// Whether an action may change the entities.
 fn may_change(action: Action) -> bool
@@ -51,10 +39,16 @@ impl Applied {
             ≡ after_request number request.now (told_by self.old)) }
     {
         let carried = self.mib.carry_out(request);
+        let (line, request) = (number, *request);
         if carried.accepted {
-            self.accepted.push(*request)?;
+            self.accepted.push(Accepted { line, request })?;
         } else if may_change(request.action) {
-            self.refused.push(number)?;
+            let reply = carried.reply;
+            self.refused.push(Refused {
+                line,
+                request,
+                reply,
+            })?;
         }
         Ok(())
     }
@@ -64,11 +58,14 @@ impl Applied {
         ensures { IfOk result (λ _. told_by self.new
             ≡ after_message number (request_of bytes.now) (told_by self.old)) }
     {
-        let Ok(request) = read(bytes) else {
-            self.faulty.push(number)?;
-            return Ok(());
-        };
-        self.carry_out(number, &request)
+        match read(bytes) {
+            Ok(request) => self.carry_out(number, &request),
+            Err(fault) => {
+                let line = number;
+                self.faulty.push(Faulty { line, fault })?;
+                Ok(())
+            }
+        }
     }
 
     /// Does what a line asks for.
@@ -92,7 +89,7 @@ impl Applied {
 }
 
 /// Carries out the messages of a script, as a unit does that begins with no instances: up to a line, from 1, if one is given, and else all.
-/// Frames are passed over, messages with a fault too.
+/// Frames are passed over, messages with a fault too. What has a fault and what is refused is told with its line and why.
 ///
 /// [`ScriptFault::BadLine`] comes exactly where one of those lines is bad, with the number of the first, unless memory was wanting before.
 pub fn apply_script(

@@ -116,7 +116,7 @@ fn each_run_of_versions_has_a_line(rt: HostRuntime) -> Result<(), Fail> {
     Ok(())
 }
 
-const EACH_RUN_JSON: &str = "{\"explained\":false,\"line\":30,\
+const EACH_RUN_JSON: &str = "{\"format\":1,\"explained\":false,\"line\":30,\
     \"frame\":{\"number\":7,\"port\":65535,\"sent_line\":20,\
     \"seen\":{\"gem\":9,\"frame\":\"abcdef\"},\"at_least\":2,\"at_most\":9,\"versions\":[\n\
     {\"from\":2,\"to\":4,\"reason\":5},\n\
@@ -146,7 +146,7 @@ fn where_no_version_is_left_the_bounds_say_so(rt: HostRuntime) {
     same!(rt; text.as_slice(), NO_VERSION.as_bytes());
 }
 
-const NO_VERSION_JSON: &str = "{\"explained\":false,\"line\":30,\
+const NO_VERSION_JSON: &str = "{\"format\":1,\"explained\":false,\"line\":30,\
     \"frame\":{\"number\":7,\"port\":65535,\"sent_line\":20,\
     \"seen\":{\"gem\":9,\"frame\":\"abcdef\"},\"at_least\":6,\"at_most\":5,\"versions\":[\n]}}\n";
 

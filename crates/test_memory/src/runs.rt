@@ -142,6 +142,7 @@ fn is_asked(read: &Result<Words<'_>, Error>) -> bool {
                     trace: "T",
                     frames: "F",
                     settings: SETTINGS,
+                    json: false,
                 })
         }
         Err(_) => false,

@@ -3,8 +3,8 @@
 use clap::Error;
 use command_line::{
     DecodeWords, EncodeWords, ExplainWords, ForwardWords, FrameWords, JudgeWords, MibWords,
-    NumberedFile, RulesWords, RunWords, TraceWords, Words, read_numbered, read_tpid, read_words,
-    report_words,
+    NumberedFile, ReplayWords, RulesWords, RunWords, TraceWords, Words, read_numbered, read_tpid,
+    read_words, report_words,
 };
 use run_settings::RunSettings;
 use std::alloc::AllocError;
@@ -32,6 +32,8 @@ Commands:
 Options:
   -h, --help     Print help
   -V, --version  Print version
+
+Numbers in words: onuctl help reasons, onuctl help results, onuctl help faults
 ";
 
 /// A run's words as far as its batch, with three values that a case gives.
@@ -52,12 +54,25 @@ fn run(port: u16, lanes: u16, batch: u32, after: bool) -> RunWords<'static> {
             batch,
             after,
         },
+        json: false,
     }
 }
 
+/// A whole trace, whatever becomes of its messages.
+const TRACE: TraceWords<'static> = TraceWords {
+    file: "t",
+    until: None,
+    strict: false,
+};
+
 #[test]
 fn words_ask_for_a_replay_or_a_run(rt: HostRuntime) -> Result<(), Fail> {
-    same!(rt; read_words(rt.alloc(), &["onuctl", "replay"])?, Words::Replay);
+    for (words, json) in [
+        (&["onuctl", "replay"][..], false),
+        (&["onuctl", "replay", "--json"][..], true),
+    ] {
+        same!(rt; read_words(rt.alloc(), words)?, Words::Replay(ReplayWords { json }));
+    }
     for (what, words, asked) in [
         (
             "a run",
@@ -98,77 +113,119 @@ fn words_ask_for_a_replay_or_a_run(rt: HostRuntime) -> Result<(), Fail> {
 }
 
 #[test]
-fn words_ask_to_look_inside(rt: HostRuntime) -> Result<(), Fail> {
+fn words_ask_to_decode(rt: HostRuntime) -> Result<(), Fail> {
+    for (words, source, json) in [
+        (&["onuctl", "decode"][..], false, false),
+        (&["onuctl", "decode", "--source"][..], true, false),
+        (&["onuctl", "decode", "--json"][..], false, true),
+    ] {
+        let asked = Words::Decode(DecodeWords { source, json });
+        same!(rt; read_words(rt.alloc(), words)?, asked, "{words:?}");
+    }
+    Ok(())
+}
+
+#[test]
+fn words_ask_for_entities_and_a_table(rt: HostRuntime) -> Result<(), Fail> {
+    let mib = MibWords {
+        trace: TRACE,
+        json: false,
+    };
+    let up_to_20 = TraceWords {
+        until: Some(20),
+        strict: true,
+        ..TRACE
+    };
+    let rules = RulesWords {
+        trace: up_to_20,
+        port: 65_535,
+        json: true,
+    };
+    for (words, asked) in [
+        (&["onuctl", "mib", "--trace", "t"][..], Words::Mib(mib)),
+        (
+            &[
+                "onuctl",
+                "mib",
+                "--json",
+                "--trace",
+                "t",
+                "--until=20",
+                "--strict",
+            ][..],
+            Words::Mib(MibWords {
+                trace: up_to_20,
+                json: true,
+            }),
+        ),
+        (
+            &[
+                "onuctl", "rules", "--strict", "--until", "20", "--trace", "t", "--json", "--port",
+                "65535",
+            ][..],
+            Words::Rules(rules),
+        ),
+    ] {
+        same!(rt; read_words(rt.alloc(), words)?, asked, "{words:?}");
+    }
+    Ok(())
+}
+
+#[test]
+fn words_ask_for_an_explanation(rt: HostRuntime) -> Result<(), Fail> {
+    let plain = ExplainWords {
+        trace: TRACE,
+        port: 257,
+        frame: FrameWords::Bytes("0800"),
+        all: false,
+        json: false,
+    };
     for (words, asked) in [
         (
-            &["onuctl", "decode"][..],
-            Words::Decode(DecodeWords { source: false }),
-        ),
-        (
-            &["onuctl", "decode", "--source"][..],
-            Words::Decode(DecodeWords { source: true }),
-        ),
-        (
-            &["onuctl", "mib", "--trace", "t"][..],
-            Words::Mib(MibWords {
-                trace: "t",
-                json: false,
-            }),
-        ),
-        (
-            &["onuctl", "mib", "--json", "--trace", "t"][..],
-            Words::Mib(MibWords {
-                trace: "t",
-                json: true,
-            }),
-        ),
-        (
-            &["onuctl", "rules", "--trace", "t", "--port", "65535"][..],
-            Words::Rules(RulesWords {
-                trace: "t",
-                port: 65_535,
-                json: false,
-            }),
-        ),
-        (
             &["onuctl", "explain", "0800", "--trace=t", "--port=257"][..],
-            Words::Explain(ExplainWords {
-                trace: "t",
-                port: 257,
-                frame: FrameWords::Bytes("0800"),
-                json: false,
-            }),
+            plain,
         ),
         (
-            &["onuctl", "explain", "--json", "--trace=t", "--port=0", "f"][..],
-            Words::Explain(ExplainWords {
-                trace: "t",
-                port: 0,
-                frame: FrameWords::Bytes("f"),
+            &[
+                "onuctl",
+                "explain",
+                "--json",
+                "--trace=t",
+                "--port=257",
+                "0800",
+                "--all",
+            ][..],
+            ExplainWords {
+                all: true,
                 json: true,
-            }),
+                ..plain
+            },
         ),
         (
             &[
                 "onuctl",
                 "explain",
                 "--trace=t",
+                "--until=1",
                 "--port=1",
                 "--frames=f",
                 "--frame=7",
             ][..],
-            Words::Explain(ExplainWords {
-                trace: "t",
+            ExplainWords {
+                trace: TraceWords {
+                    until: Some(1),
+                    ..TRACE
+                },
                 port: 1,
                 frame: FrameWords::Captured {
                     file: "f",
                     number: 7,
                 },
-                json: false,
-            }),
+                ..plain
+            },
         ),
     ] {
-        same!(rt; read_words(rt.alloc(), words)?, asked, "{words:?}");
+        same!(rt; read_words(rt.alloc(), words)?, Words::Explain(asked), "{words:?}");
     }
     Ok(())
 }
@@ -245,11 +302,7 @@ fn words_ask_to_encode(rt: HostRuntime) -> Result<(), Fail> {
 #[test]
 fn words_ask_to_forward(rt: HostRuntime) -> Result<(), Fail> {
     let plain = ForwardWords {
-        trace: TraceWords {
-            file: "t",
-            until: None,
-            strict: false,
-        },
+        trace: TRACE,
         frames: "f",
         port: 257,
         out: None,

@@ -1,5 +1,5 @@
 //! Scripts carried out as traces.
-use script_trace::{Applied, ScriptFault, apply_script};
+use script_trace::{ScriptFault, apply_script, setting_line};
 use std::alloc::{AllocError, Global};
 use std::test::Fail;
 use test_fixtures::{push_message, same};
@@ -18,31 +18,36 @@ fn script(alloc: Global) -> Result<String, AllocError> {
     Ok(text)
 }
 
-/// How many requests of a script were accepted, and the lines of those that have a fault and of those that were refused.
-fn told(
-    alloc: Global,
-    script: &[u8],
-    until: Option<u64>,
-) -> Result<(usize, Vec<u64>, Vec<u64>), ScriptFault> {
-    let Applied {
-        mib: _,
-        accepted,
-        faulty,
-        refused,
-    } = apply_script(alloc, script, until)?;
-    Ok((accepted.len(), faulty, refused))
+/// The lines of the requests that were accepted, of the messages that have a fault, each with the fault's number, and of the requests that
+/// were refused, each with its result.
+type Told = (Vec<u64>, Vec<(u64, u8)>, Vec<(u64, u8)>);
+
+fn told(alloc: Global, script: &[u8], until: Option<u64>) -> Result<Told, ScriptFault> {
+    let applied = apply_script(alloc, script, until)?;
+    let (mut lines, mut faulty, mut refused) = (Vec::new(alloc), Vec::new(alloc), Vec::new(alloc));
+    for accepted in &applied.accepted {
+        lines.push(accepted.line)?;
+    }
+    for message in &applied.faulty {
+        faulty.push((message.line, message.fault.code()))?;
+    }
+    for request in &applied.refused {
+        refused.push((request.line, request.result()))?;
+    }
+    Ok((lines, faulty, refused))
 }
 
 #[test]
 fn a_script_is_carried_out_up_to_a_line(rt: HostRuntime) -> Result<(), Fail> {
     let script = script(rt.alloc())?;
+    // The device identifier is fault 4, and an instance that exists result 7.
     for (until, accepted, faulty, refused) in [
-        (Some(6), 2, &[4][..], &[3][..]),
-        (Some(2), 1, &[][..], &[][..]),
-        (Some(0), 0, &[][..], &[][..]),
+        (Some(6), &[1, 6][..], &[(4, 4)][..], &[(3, 7)][..]),
+        (Some(2), &[1][..], &[][..], &[][..]),
+        (Some(0), &[][..], &[][..], &[][..]),
     ] {
-        let (count, faults, refusals) = told(rt.alloc(), script.as_bytes(), until)?;
-        same!(rt; count, accepted, "{until:?}");
+        let (lines, faults, refusals) = told(rt.alloc(), script.as_bytes(), until)?;
+        same!(rt; lines.as_slice(), accepted, "{until:?}");
         same!(rt; faults.as_slice(), faulty, "{until:?}");
         same!(rt; refusals.as_slice(), refused, "{until:?}");
     }
@@ -57,6 +62,39 @@ fn a_script_is_refused_by_its_first_bad_line(rt: HostRuntime) -> Result<(), Fail
             Ok(_) => return Err(Fail::from("it is carried out")),
             Err(fault) => same!(rt; fault, ScriptFault::BadLine(7), "{until:?}"),
         }
+    }
+    Ok(())
+}
+
+/// Two tables; entries for VLAN 100 in the one and in the other; in the first another for VLAN 100; and in the second one for VLAN 101.
+fn table_script(alloc: Global) -> Result<String, AllocError> {
+    let mut text = String::new(alloc);
+    for message in [
+        "0001440a 00ab0701 02 0101",
+        "0002440a 00ab0702 02 0102",
+        "0003480a 00ab0701 0400 f800000080320000 400f000000080644",
+        "0004480a 00ab0702 0400 f800000080320000 400f000000080644",
+        "0005480a 00ab0701 0400 f800000080320000 400f000000080964",
+        "0006480a 00ab0702 0400 f800000080328000 400f000000080c84",
+    ] {
+        push_message(&mut text, "o ", message)?;
+    }
+    Ok(text)
+}
+
+#[test]
+fn the_line_that_set_an_entry_is_told(rt: HostRuntime) -> Result<(), Fail> {
+    let script = table_script(rt.alloc())?;
+    let applied = apply_script(rt.alloc(), script.as_bytes(), None)?;
+    for (instance, key, line) in [
+        (0x0701, 0xf800_0000_8032_0000, Some(5)),
+        (0x0702, 0xf800_0000_8032_0000, Some(4)),
+        (0x0702, 0xf800_0000_8032_8000, Some(6)),
+        (0x0702, 0xf000_0000_f000_0000, Some(2)),
+        (0x0703, 0xf000_0000_f000_0000, None),
+    ] {
+        let told = setting_line(&applied.accepted, instance, key);
+        same!(rt; told, line, "{instance:04x} {key:016x}");
     }
     Ok(())
 }

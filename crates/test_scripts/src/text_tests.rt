@@ -9,7 +9,7 @@ use std::process::Abort;
 use std::test::Fail;
 use test_fixtures::{holds, same};
 use text_entities::write_mib;
-use text_explanations::{write_explanation, write_rules};
+use text_explanations::{Incoming, Traced, write_explanation, write_rules};
 use text_messages::decode;
 use text_writing::{DecodeFault, TextFault};
 
@@ -31,10 +31,15 @@ enum Text {
 
 /// Writes a text.
 fn write(alloc: Global, mib: &Mib, text: Text, mut writer: &mut [u8]) -> Result<(), TextFault> {
+    let traced = Traced { mib, accepted: &[] };
+    let incoming = Incoming {
+        port: 5,
+        bytes: &CUT,
+    };
     match text {
         Text::Mib => write_mib(alloc, mib, &mut writer),
-        Text::Rules => write_rules(alloc, mib, 5, &mut writer),
-        Text::Explanation => write_explanation(alloc, mib, 5, &CUT, &mut writer),
+        Text::Rules => write_rules(alloc, &traced, 5, &mut writer),
+        Text::Explanation => write_explanation(alloc, &traced, &incoming, false, &mut writer),
     }
 }
 

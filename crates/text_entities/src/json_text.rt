@@ -5,6 +5,9 @@ use std::fmt::Display;
 use std::io::Write;
 use text_writing::{TextFault, write_whole};
 
+/// The front of each object that a command writes: the number of the format of its keys.
+pub const FORMAT: &str = "{\"format\":1,";
+
 /// Objects of JSON that are written into one array, a line each.
 #[derive(Drop)]
 pub struct JsonText {
@@ -66,6 +69,12 @@ pub fn put_number(object: &mut Writer, key: &str, number: u64) -> Result<(), All
 pub fn put_text(object: &mut Writer, key: &str, text: &str) -> Result<(), AllocError> {
     object.key(key)?;
     object.string(text)
+}
+
+/// Puts a member that is true or false.
+pub fn put_flag(object: &mut Writer, key: &str, flag: bool) -> Result<(), AllocError> {
+    object.key(key)?;
+    object.boolean(flag)
 }
 
 /// Puts a member that is what is displayed.

@@ -1,5 +1,5 @@
 //! What a MIB holds, as JSON.
-use crate::json_text::{JsonText, put_number, put_text};
+use crate::json_text::{FORMAT, JsonText, put_number, put_text};
 use crate::rule_json::put_table_entry;
 use crate::value::{mapping_of, number_of};
 use json::Writer;
@@ -12,15 +12,15 @@ use text_writing::TextFault;
 /// The most instances that a class may have.
 const MOST_INSTANCES: usize = 256;
 
-/// Writes what a MIB holds as one object of JSON (RFC 8259): `mib_data_sync`, and `entities`, an array with an object for each
+/// Writes what a MIB holds as one object of JSON (RFC 8259): `format`, 1; `mib_data_sync`; and `entities`, an array with an object for each
 /// instance on a line of its own, by ascending class and number. Its members are `class`, `class_name`, `instance` and
 /// `attributes`, an object whose members are the attributes by their names. A number, a pointer or a TPID is a number, a DSCP to
 /// P-bit mapping an array of 64 priorities, and a table an array with an object for each entry: `place` from 0, `rank`, `entry`
-/// in hexadecimal, `filter` and `treatment` in words.
+/// in hexadecimal, and its rule as [`put_rule`](crate::put_rule) puts it.
 pub fn write_mib_json<W: Write>(alloc: Global, mib: &Mib, writer: &mut W) -> Result<(), TextFault> {
     let mut text = JsonText::new(alloc);
     let sync = mib.sync();
-    let front = format!(in alloc; "{{\"mib_data_sync\":{sync},\"entities\":")?;
+    let front = format!(in alloc; "{FORMAT}\"mib_data_sync\":{sync},\"entities\":")?;
     text.begin(writer, &front)?;
     for class in Class::ALL {
         write_class(alloc, mib, class.number(), &mut text, writer)?;
@@ -82,7 +82,7 @@ fn put_attribute(
 ) -> Result<(), AllocError> {
     if let Some(bytes) = mib.attribute(held.class(), held.number(), n) {
         object.key(description.name)?;
-        put_value(object, description.kind, &bytes)?;
+        put_value_json(object, description.kind, &bytes)?;
     } else if description.kind == AttributeKind::Table {
         object.key(description.name)?;
         object.begin_array()?;
@@ -94,8 +94,12 @@ fn put_attribute(
     Ok(())
 }
 
-/// Puts the value of an attribute.
-fn put_value(object: &mut Writer, kind: AttributeKind, bytes: &[u8]) -> Result<(), AllocError> {
+/// Puts the value of an attribute: a number, or a DSCP to P-bit mapping as an array of 64 priorities.
+pub fn put_value_json(
+    object: &mut Writer,
+    kind: AttributeKind,
+    bytes: &[u8],
+) -> Result<(), AllocError> {
     let (AttributeKind::DscpMapping, Some(map)) = (kind, mapping_of(bytes)) else {
         return object.u64(number_of(bytes));
     };

@@ -53,7 +53,7 @@ pub(crate) fn mapping_of(bytes: &[u8]) -> Option<DscpMap> {
 }
 
 /// The entry that 16 bytes are.
-fn entry_of(bytes: &[u8]) -> Option<Entry> {
+pub(crate) fn entry_of(bytes: &[u8]) -> Option<Entry> {
     if bytes.len() != 16 {
         return None;
     }

@@ -3,16 +3,19 @@
 //! What is said here is found by the crate `explain`, whose contracts tie it to the meaning of frames; this crate writes it.
 #![tactic(auto)]
 
+mod failures;
 mod rules;
 mod rules_json;
 mod steps;
 mod steps_json;
+mod traced;
 mod verdict;
 mod words;
 
 pub use rules::write_rules;
 pub use rules_json::write_rules_json;
-pub use steps::write_explanation;
+pub use steps::{Incoming, write_explanation};
 pub use steps_json::write_explanation_json;
+pub use traced::Traced;
 pub use verdict::VerdictWords;
 pub use words::{MismatchWords, OriginWords};

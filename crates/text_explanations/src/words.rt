@@ -4,6 +4,16 @@ use managed_entity::Class;
 use std::fmt;
 use text_entities::{AddedTagWords, EntityWords};
 
+/// Which way a GEM port carries frames (ITU-T G.988, clause 9.2.3).
+pub(crate) fn direction_words(direction: u8) -> &'static str {
+    match direction {
+        1 => "direction 1 (upstream)",
+        2 => "direction 2 (downstream)",
+        3 => "direction 3 (both)",
+        _ => "no direction",
+    }
+}
+
 /// An instance of a class in words.
 pub(crate) fn entity_of(class: Class, instance: u16) -> EntityWords {
     let class = class.number();
@@ -30,6 +40,20 @@ fn field_words(field: TagField) -> &'static str {
         TagField::Priority => "priority",
         TagField::Vid => "VID",
         TagField::Tpid => "TPID or DEI",
+    }
+}
+
+/// What that field is called in JSON.
+pub(crate) fn mismatch_name(field: Mismatch) -> &'static str {
+    match field {
+        Mismatch::TagCount => "tags",
+        Mismatch::Outer(TagField::Priority) => "outer_priority",
+        Mismatch::Outer(TagField::Vid) => "outer_vid",
+        Mismatch::Outer(TagField::Tpid) => "outer_tpid",
+        Mismatch::Inner(TagField::Priority) => "inner_priority",
+        Mismatch::Inner(TagField::Vid) => "inner_vid",
+        Mismatch::Inner(TagField::Tpid) => "inner_tpid",
+        Mismatch::Ethertype => "type",
     }
 }
 

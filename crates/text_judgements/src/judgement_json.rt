@@ -9,7 +9,7 @@ use json::Writer;
 use std::alloc::{AllocError, Global};
 use std::fmt;
 use std::io::Write;
-use text_entities::{HexWords, JsonText, put_number, put_words};
+use text_entities::{FORMAT, HexWords, JsonText, put_flag, put_number, put_words};
 use text_writing::{TextFault, write_whole};
 
 /// Writes what a history shows as one object of JSON (RFC 8259), whose member `explained` says whether a right unit may have behaved
@@ -38,7 +38,7 @@ fn write_explanation<W: Write>(
 ) -> Result<(), TextFault> {
     let mut text = JsonText::new(alloc);
     let counts = CountMembers(&explanation.counts);
-    let front = format!(in alloc; "{{\"explained\":true,{counts},\"versions\":")?;
+    let front = format!(in alloc; "{FORMAT}\"explained\":true,{counts},\"versions\":")?;
     text.begin(writer, &front)?;
     for step in &explanation.steps {
         write_step(&mut text, step, writer)?;
@@ -112,8 +112,8 @@ fn reply_object(
 ) -> Result<Vec<u8>, AllocError> {
     let mut object = Writer::new(Vec::new(alloc));
     object.begin_object()?;
-    object.key("explained")?;
-    object.boolean(false)?;
+    put_number(&mut object, "format", 1)?;
+    put_flag(&mut object, "explained", false)?;
     put_number(&mut object, "line", line as u64)?;
     object.key("reply")?;
     object.begin_object()?;
@@ -160,7 +160,7 @@ fn write_frame<W: Write>(
     let mut text = JsonText::new(alloc);
     let frame = FrameMembers(wrong);
     let front = format!(in alloc;
-        "{{\"explained\":false,\"line\":{line},\"frame\":{{{frame},\"versions\":"
+        "{FORMAT}\"explained\":false,\"line\":{line},\"frame\":{{{frame},\"versions\":"
     )?;
     text.begin(writer, &front)?;
     for run in &wrong.runs {

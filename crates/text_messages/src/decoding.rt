@@ -40,7 +40,7 @@ pub fn decode<R: Read, W: Write>(
 }
 
 /// Why a read failed.
-fn read_fault(error: &io::Error) -> DecodeFault {
+pub(crate) fn read_fault(error: &io::Error) -> DecodeFault {
     match error.kind() {
         ErrorKind::OutOfMemory => DecodeFault::NoMemory,
         _ => DecodeFault::Read,
@@ -155,9 +155,17 @@ const REASONS: [Reason; 9] = [
     Reason::Direction,
 ];
 
+/// The reason of a number.
+pub fn reason_of(number: u8) -> Option<Reason> {
+    REASONS
+        .iter()
+        .find(|reason| reason.code() == number)
+        .copied()
+}
+
 /// Puts why a frame is dropped.
 fn put_drop(text: &mut String, number: u8) -> Result<(), AllocError> {
-    match REASONS.iter().find(|reason| reason.code() == number) {
+    match reason_of(number) {
         Some(reason) => writeln!(text, "dropped, reason {number}: {reason}"),
         None => writeln!(text, "dropped, reason {number}, which no reason has"),
     }

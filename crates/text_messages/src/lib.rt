@@ -9,18 +9,24 @@
 #![tactic(auto)]
 
 mod attributes;
+mod attributes_json;
 mod decoding;
+mod decoding_json;
 mod frame;
+mod frame_json;
 mod line;
 mod lines;
+mod messages_json;
 mod mistake;
 mod names;
 mod reply;
 mod request;
 mod table_parts;
 
-pub use decoding::decode;
+pub use decoding::{decode, reason_of};
+pub use decoding_json::decode_json;
 pub use frame::{put_frame, put_view};
+pub use frame_json::{put_tag_json, put_view_json};
 pub use line::{ScriptLine, read_script_line};
 pub use lines::LineReader;
 pub use mistake::find_mistake;

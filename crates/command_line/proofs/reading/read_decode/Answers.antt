@@ -11,4 +11,8 @@ returns c =
         with = λ e. c.get_flag.ensures.value (one_text-rows found (codes "source") ∙ e);
         without = λ e. c.get_flag.ensures.other (one_text-rows found (codes "source") ∙ e);
       };
+      json = record {
+        with = λ e. c.get_flag-2.ensures.value (one_text-rows found (codes "json") ∙ e);
+        without = λ e. c.get_flag-2.ensures.other (one_text-rows found (codes "json") ∙ e);
+      };
     }

@@ -8,5 +8,5 @@ returns-clause-asked c =
     let found = found_of c.args.given.now in
     record {
       file = sym (first_value-rows found (codes "text")) ∙ sym c.get_str.ensures;
-      identifier = c.in_ok-read_identifier.ensures.asked;
+      identifier = c.in_ok-read_short.ensures.asked;
     }

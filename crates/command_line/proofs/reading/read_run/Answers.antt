@@ -17,6 +17,10 @@ returns-clause-asked c =
         with = λ e. c.get_flag-after.ensures.value (one_text-rows found (codes "after") ∙ e);
         without = λ e. c.get_flag-after.ensures.other (one_text-rows found (codes "after") ∙ e);
       };
+      json = record {
+        with = λ e. c.get_flag.ensures.value (one_text-rows found (codes "json") ∙ e);
+        without = λ e. c.get_flag.ensures.other (one_text-rows found (codes "json") ∙ e);
+      };
     })
 
 pub returns-in_err-port-clause-none : goal.returns-in_err-port-clause-none

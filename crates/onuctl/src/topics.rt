@@ -1,0 +1,101 @@
+//! The numbers that the program writes, in words.
+use std::alloc::{AllocError, Global};
+use std::io::Write;
+use text_messages::{message_fault_words, reason_of, result_name};
+use text_writing::{LookFault, report_look, write_whole};
+
+/// Which numbers are said in words.
+#[derive(Clone, Copy)]
+pub enum Topic {
+    /// The reasons for which frames are dropped.
+    Reasons,
+    /// The results of replies.
+    Results,
+    /// The faults of messages and of captures.
+    Faults,
+}
+
+/// The faults of a capture, from 1.
+const CAPTURE_FAULTS: [&str; 5] = [
+    "it has no magic number of a capture",
+    "its header is cut, or of another version",
+    "its link type isn't Ethernet",
+    "a record or a block is cut",
+    "a frame has over 262144 bytes",
+];
+
+/// The numbers that words ask for behind `help`, or None where they ask for something else.
+pub fn topic_of(words: &[&str]) -> Option<Topic> {
+    match words {
+        [_, help, topic] if *help == "help" => match *topic {
+            "reasons" => Some(Topic::Reasons),
+            "results" => Some(Topic::Results),
+            "faults" => Some(Topic::Faults),
+            _ => None,
+        },
+        _ => None,
+    }
+}
+
+/// Puts the reasons.
+fn put_reasons(text: &mut String) -> Result<(), AllocError> {
+    text.push_str("Why a frame is dropped: `d N` of replay, `drop N` of run and forward\n")?;
+    for number in 1..=9 {
+        if let Some(reason) = reason_of(number) {
+            writeln!(text, "  {number}  {reason}")?;
+        }
+    }
+    Ok(())
+}
+
+/// Puts the results.
+fn put_results(text: &mut String) -> Result<(), AllocError> {
+    text.push_str(
+        "The result of a reply, the first byte of its contents (ITU-T G.988, annex A)\n",
+    )?;
+    for number in 0..=9 {
+        if number != 8 {
+            let name = result_name(number);
+            writeln!(text, "  {number}  {name}")?;
+        }
+    }
+    Ok(())
+}
+
+/// Puts the faults.
+fn put_faults(text: &mut String) -> Result<(), AllocError> {
+    text.push_str("Why a message has no effect: `m N` of replay\n")?;
+    for number in 1..=4 {
+        if let Some(words) = message_fault_words(number) {
+            writeln!(text, "  {number}  {words}")?;
+        }
+    }
+    text.push_str(
+        "Why a capture isn't read: `capture fault N` of run, forward, record and explain\n",
+    )?;
+    for (place, words) in CAPTURE_FAULTS.iter().enumerate() {
+        let number = place.wrapping_add(1);
+        writeln!(text, "  {number}  {words}")?;
+    }
+    Ok(())
+}
+
+/// What is said of a topic.
+fn text_of(alloc: Global, topic: Topic) -> Result<String, AllocError> {
+    let mut text = String::new(alloc);
+    match topic {
+        Topic::Reasons => put_reasons(&mut text)?,
+        Topic::Results => put_results(&mut text)?,
+        Topic::Faults => put_faults(&mut text)?,
+    }
+    Ok(text)
+}
+
+/// Writes the numbers of a topic in words to `out`, and why not, or not all, to `err`. It gives the status.
+pub fn show_topic<O: Write, E: Write>(alloc: Global, topic: Topic, out: &mut O, err: &mut E) -> u8 {
+    let outcome = match text_of(alloc, topic) {
+        Ok(text) => write_whole(out, text.as_bytes()).map_err(|_| LookFault::Write),
+        Err(AllocError) => Err(LookFault::NoMemory),
+    };
+    report_look(&outcome, err)
+}

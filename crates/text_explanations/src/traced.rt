@@ -1,0 +1,49 @@
+//! What a trace left.
+use explain::{TableInForce, number_of, table_in_force};
+use mib_state::Mib;
+use script_trace::{Accepted, setting_line};
+use vlan_rule::RuleTable;
+
+/// What a trace left: the managed entities, and the requests that led to them. Where these aren't known, there are none, and no entry has
+/// the line that set it.
+#[derive(Clone, Copy)]
+pub struct Traced<'a> {
+    pub mib: &'a Mib,
+    pub accepted: &'a [Accepted],
+}
+
+/// The table in force at a port, with what set its entries.
+#[derive(Clone, Copy)]
+pub(crate) struct PortEntries<'a> {
+    pub(crate) table: &'a RuleTable,
+    /// The number of its extended VLAN tagging operation configuration data.
+    pub(crate) instance: u16,
+    accepted: &'a [Accepted],
+}
+
+impl<'a> PortEntries<'a> {
+    /// Those of the table in force, if one is.
+    pub(crate) fn at(traced: &Traced<'a>, port: u16) -> Option<PortEntries<'a>> {
+        let instance = match table_in_force(traced.mib, port) {
+            TableInForce::NoTable => return None,
+            TableInForce::OfPort(instance) | TableInForce::OfMapper { instance, .. } => instance,
+        };
+        let vlan = traced.mib.vlan(instance)?;
+        Some(PortEntries {
+            table: &vlan.table,
+            instance,
+            accepted: traced.accepted,
+        })
+    }
+
+    /// The number of the entry at a place.
+    pub(crate) fn number(&self, place: usize) -> Option<usize> {
+        number_of(self.table, place)
+    }
+
+    /// The line of the trace that set the entry at a place.
+    pub(crate) fn line(&self, place: usize) -> Option<u64> {
+        let entry = self.table.entry(place)?;
+        setting_line(self.accepted, self.instance, entry.key())
+    }
+}
