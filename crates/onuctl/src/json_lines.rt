@@ -5,6 +5,7 @@ use command_line::RunWords;
 use json::Writer;
 use script_replay::{replay, report_replay};
 use std::alloc::{AllocError, Global};
+use std::fs::File;
 use std::io::{IsTerminal, Read, Write};
 use std::rt::{Clock, Files};
 use std::str;
@@ -121,7 +122,7 @@ fn write_run<O: Write>(alloc: Global, lines: &[u8], out: &mut O) -> Result<(), T
 
 /// Runs over two files, as [`run`] does, and writes what comes of it to `out` as an object. It gives the status.
 pub fn run_as_json<
-    R: Files + Alloc<A = Global> + Threads + Wait + Clock + Sync,
+    R: Files<File = File> + Alloc<A = Global> + Threads + Wait + Clock + Sync,
     O: Write,
     E: Write + IsTerminal + Send,
 >(rt: &R, words: &RunWords, out: &mut O, err: &mut E) -> u8 {
