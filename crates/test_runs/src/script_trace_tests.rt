@@ -1,5 +1,5 @@
 //! Scripts carried out as traces.
-use script_trace::{ScriptFault, apply_script, setting_line};
+use script_trace::{Applied, ScriptFault, apply_script, setting_line};
 use std::alloc::{AllocError, Global};
 use std::test::Fail;
 use test_fixtures::{push_message, same};
@@ -22,8 +22,7 @@ fn script(alloc: Global) -> Result<String, AllocError> {
 /// were refused, each with its result.
 type Told = (Vec<u64>, Vec<(u64, u8)>, Vec<(u64, u8)>);
 
-fn told(alloc: Global, script: &[u8], until: Option<u64>) -> Result<Told, ScriptFault> {
-    let applied = apply_script(alloc, script, until)?;
+fn told(alloc: Global, applied: &Applied) -> Result<Told, AllocError> {
     let (mut lines, mut faulty, mut refused) = (Vec::new(alloc), Vec::new(alloc), Vec::new(alloc));
     for accepted in &applied.accepted {
         lines.push(accepted.line)?;
@@ -46,7 +45,8 @@ fn a_script_is_carried_out_up_to_a_line(rt: HostRuntime) -> Result<(), Fail> {
         (Some(2), &[1][..], &[][..], &[][..]),
         (Some(0), &[][..], &[][..], &[][..]),
     ] {
-        let (lines, faults, refusals) = told(rt.alloc(), script.as_bytes(), until)?;
+        let applied = apply_script(rt.alloc(), script.as_bytes(), until)?;
+        let (lines, faults, refusals) = told(rt.alloc(), &applied)?;
         same!(rt; lines.as_slice(), accepted, "{until:?}");
         same!(rt; faults.as_slice(), faulty, "{until:?}");
         same!(rt; refusals.as_slice(), refused, "{until:?}");
@@ -58,7 +58,7 @@ fn a_script_is_carried_out_up_to_a_line(rt: HostRuntime) -> Result<(), Fail> {
 fn a_script_is_refused_by_its_first_bad_line(rt: HostRuntime) -> Result<(), Fail> {
     let script = script(rt.alloc())?;
     for until in [None, Some(7)] {
-        match told(rt.alloc(), script.as_bytes(), until) {
+        match apply_script(rt.alloc(), script.as_bytes(), until) {
             Ok(_) => return Err(Fail::from("it is carried out")),
             Err(fault) => same!(rt; fault, ScriptFault::BadLine(7), "{until:?}"),
         }
