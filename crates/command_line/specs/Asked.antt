@@ -14,10 +14,12 @@ use Rattle.command_line.specs.declared.words.TraceWords.{TraceWords}
 use Rattle.command_line.specs.declared.words.ForwardWords.{ForwardWords}
 use Rattle.command_line.specs.declared.words.RecordWords.{RecordWords}
 use Rattle.command_line.specs.declared.words.ReplayWords.{ReplayWords}
+use Rattle.command_line.specs.declared.words.LintWords.{LintWords}
+use Rattle.command_line.specs.declared.words.GraphWords.{GraphWords}
 use Rattle.command_line.specs.declared.words.DecodeWords.{DecodeWords}
 use Rattle.command_line.specs.declared.words.EncodeWords.{EncodeWords}
 use Rattle.command_line.specs.declared.words.Words.{Words}
-use Rattle.command_line.specs.declared.words.Words.TheVariants.{Replay, Run, Decode, Mib, Rules, Explain, Judge, Forward, Record, Encode}
+use Rattle.command_line.specs.declared.words.Words.TheVariants.{Replay, Run, Decode, Mib, Rules, Explain, Judge, Forward, Record, Encode, Lint, Graph}
 
 -- the value of an option is a number in decimal digits
 pub record IsNumber (name : Text) (rows : List Row) (n : ℕ) : Type 0 where
@@ -124,6 +126,16 @@ pub record IsDecode (rows : List Row) (words : DecodeWords) : Type 0 where
   pub source : IsFlag (codes "source") rows words.source
   pub json : IsFlag (codes "json") rows words.json
 
+-- those behind `lint`
+pub record IsLint (rows : List Row) (words : LintWords) : Type 0 where
+  pub trace : IsTrace rows words.trace
+  pub json : IsFlag (codes "json") rows words.json
+
+-- those behind `graph`
+pub record IsGraph (rows : List Row) (words : GraphWords) : Type 0 where
+  pub trace : IsTrace rows words.trace
+  pub port : IsOptionalNumber (codes "port") rows words.port
+
 -- those behind `encode`
 pub record IsEncode (rows : List Row) (words : EncodeWords) : Type 0 where
   pub file : first_of (codes "text") rows ≡ option_map (λ (name : _). name.now) words.file
@@ -142,6 +154,8 @@ IsAskedBy (Some (name, rows)) (Judge words) = (name ≡ codes "judge") × IsJudg
 IsAskedBy (Some (name, rows)) (Forward words) = (name ≡ codes "forward") × IsForward rows words
 IsAskedBy (Some (name, rows)) (Record words) = (name ≡ codes "record") × IsRecord rows words
 IsAskedBy (Some (name, rows)) (Encode words) = (name ≡ codes "encode") × IsEncode rows words
+IsAskedBy (Some (name, rows)) (Lint words) = (name ≡ codes "lint") × IsLint rows words
+IsAskedBy (Some (name, rows)) (Graph words) = (name ≡ codes "graph") × IsGraph rows words
 
 -- all but `record`
 abbrev pub IsNoRecord : Words → Type 0
@@ -155,6 +169,8 @@ IsNoRecord (Judge words) = Unit {0}
 IsNoRecord (Forward words) = Unit {0}
 IsNoRecord (Record words) = ⊥
 IsNoRecord (Encode words) = Unit {0}
+IsNoRecord (Lint words) = Unit {0}
+IsNoRecord (Graph words) = Unit {0}
 
 -- what looks at the entities after a trace
 abbrev pub IsLook : Words → Type 0
@@ -168,3 +184,5 @@ IsLook (Judge words) = ⊥
 IsLook (Forward words) = ⊥
 IsLook (Record words) = ⊥
 IsLook (Encode words) = ⊥
+IsLook (Lint words) = Unit {0}
+IsLook (Graph words) = Unit {0}

@@ -163,6 +163,16 @@ of_bytes = with_rule (with_rule (at_port (codes "explain")) all) bytes
 abbrev pub explain : App
 explain = with_rule (with_rule of_bytes (optional (codes "frames") NonEmptyString)) (numbered (codes "frame"))
 
+abbrev pub lint : App
+lint = shown_after (codes "lint")
+
+-- a port that may be left out
+abbrev pub any_port : Rule
+any_port = optional (codes "port") (Signed (pos 0) (pos 65535))
+
+abbrev pub graph : App
+graph = with_rule (over_trace (codes "graph")) any_port
+
 abbrev pub judge : App
 judge = with_rule (with_rule (with_rule (with_rule (new_app (codes "judge")) modelled) unordered) json) history
 
@@ -208,4 +218,4 @@ abbrev pub with_captures : App → App
 with_captures app = with_subcommand (with_subcommand (with_subcommand (with_subcommand app judge.top) forward.top) recording.top) encode.top
 
 abbrev pub onuctl : App
-onuctl = with_captures (with_looking (with_doing alone))
+onuctl = with_subcommand (with_subcommand (with_captures (with_looking (with_doing alone))) lint.top) graph.top

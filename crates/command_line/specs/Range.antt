@@ -3,7 +3,7 @@ use Rattle.std.specs.Prelude.{◌≤◌, ℕ, Option, IfSome}
 use Rattle.run_settings.specs.Settings.{CanRun}
 use Rattle.run_settings.specs.declared.settings.RunSettings.{RunSettings}
 use Rattle.command_line.specs.declared.words.Words.{Words}
-use Rattle.command_line.specs.declared.words.Words.TheVariants.{Replay, Run, Decode, Mib, Rules, Explain, Judge, Forward, Record, Encode}
+use Rattle.command_line.specs.declared.words.Words.TheVariants.{Replay, Run, Decode, Mib, Rules, Explain, Judge, Forward, Record, Encode, Lint, Graph}
 use Rattle.command_line.specs.declared.words.FrameWords.{FrameWords}
 use Rattle.command_line.specs.declared.words.FrameWords.TheVariants.{Bytes, Captured}
 
@@ -12,7 +12,7 @@ pub record AreInRange (settings : RunSettings) : Type 0 where
   pub port : settings.port ≤ 65535
   pub limits : CanRun settings
 
--- a transaction correlation identifier is a number of 16 bits
+-- a transaction correlation identifier, or a port that may be left out, is a number of 16 bits
 abbrev pub IsShort : Option ℕ → Type 0
 IsShort number = IfSome number (λ n. n ≤ 65535)
 
@@ -37,3 +37,5 @@ IsInRange (Judge words) = Unit {0}
 IsInRange (Forward words) = (words.port ≤ 65535) × IsLine words.trace.until
 IsInRange (Record words) = IsLine words.wait × IsLine words.lost
 IsInRange (Encode words) = IsShort words.identifier
+IsInRange (Lint words) = IsLine words.trace.until
+IsInRange (Graph words) = IsShort words.port × IsLine words.trace.until

@@ -4,7 +4,7 @@ ghost use Rattle.std.specs.Prelude.{◌≡◌, IfOk, Ok, Some, false, codes};
 ghost use Rattle.clap.specs.Words.{App, Rule, Text, app_of, new_app, rule_of, with_rule, with_subcommand};
 ghost use Rattle.clap.specs.declared.builder.command.Command.TheViews.{out-Command as fields_of};
 ghost use Rattle.clap.specs.declared.builder.value_parser.ValueParser.TheVariants.{NonEmptyString};
-ghost use Rattle.command_line.specs.Grammar.{IsCommand, after, all, at_port, batch, bytes, decode, encode, explain, forward, history, identifier, json, judge, lanes, mib, milliseconds, modelled, numbered, of_bytes, of_captures, onuctl, optional, out, over_files, over_trace, port, recording, replay, rules, run, several, shown_after, source, strict, text, trace, until, unordered, valued, verdicts};
+ghost use Rattle.command_line.specs.Grammar.{IsCommand, after, all, any_port, at_port, batch, bytes, decode, encode, explain, forward, graph, history, identifier, json, judge, lanes, lint, mib, milliseconds, modelled, numbered, of_bytes, of_captures, onuctl, optional, out, over_files, over_trace, port, recording, replay, rules, run, several, shown_after, source, strict, text, trace, until, unordered, valued, verdicts};
 
 use clap::builder::ValueParser;
 use clap::{Arg, ArgAction, Command, value_parser};
@@ -580,6 +580,39 @@ fn encode<'a>(alloc: Global) -> Result<Command<'a>, AllocError>
     with_arg(numbered_from, text(alloc))
 }
 
+fn lint<'a>(alloc: Global) -> Result<Command<'a>, AllocError>
+    ensures { IsCommand result lint }
+{
+    let alone = Command::new(alloc, "lint")
+        .about("Say what is suspect in a trace and in the entities after it")
+        .after_help("Example: onuctl lint --trace up.script");
+    shown_after(alloc, alone)
+}
+
+/// The port whose entities are shown.
+fn any_port<'a>(alloc: Global) -> Arg<'a>
+    ensures rule { rule_of result ≡ any_port }
+    ensures local { result.global ≡ false }
+{
+    let parser = value_parser!(u16).range(0..=i64::from(u16::MAX));
+    optional(
+        alloc,
+        "port",
+        "PORT",
+        "Port whose entities are shown, 0 to 65535; all without it [example: 257]",
+        parser,
+    )
+}
+
+fn graph<'a>(alloc: Global) -> Result<Command<'a>, AllocError>
+    ensures { IsCommand result graph }
+{
+    let alone = Command::new(alloc, "graph")
+        .about("Draw how the managed entities after a trace point to each other, for Graphviz")
+        .after_help("Example: onuctl graph --trace up.script | dot -Tsvg");
+    with_arg(over_trace(alloc, alone), any_port(alloc))
+}
+
 /// The program with all that it can be asked for.
 pub fn onuctl<'a>(alloc: Global) -> Result<Command<'a>, AllocError>
     ensures { IfOk result (λ command. app_of command ≡ onuctl) }
@@ -601,5 +634,7 @@ pub fn onuctl<'a>(alloc: Global) -> Result<Command<'a>, AllocError>
     let judging = with_sub(explaining, judge(alloc));
     let capturing = with_sub(judging, forward(alloc));
     let recorded = with_sub(capturing, recording(alloc));
-    with_sub(recorded, encode(alloc))
+    let encoding = with_sub(recorded, encode(alloc));
+    let linting = with_sub(encoding, lint(alloc));
+    with_sub(linting, graph(alloc))
 }

@@ -11,6 +11,6 @@ pub use numbered::{NumberedFile, read_numbered, read_tpid};
 pub use reading::read_words;
 pub use report::report_words;
 pub use words::{
-    DecodeWords, EncodeWords, ExplainWords, ForwardWords, FrameWords, JudgeWords, MibWords,
-    RecordWords, ReplayWords, RulesWords, RunWords, TraceWords, Words,
+    DecodeWords, EncodeWords, ExplainWords, ForwardWords, FrameWords, GraphWords, JudgeWords,
+    LintWords, MibWords, RecordWords, ReplayWords, RulesWords, RunWords, TraceWords, Words,
 };

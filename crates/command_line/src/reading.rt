@@ -2,7 +2,7 @@
 ghost use Rattle.std.specs.Prelude.{◌≡◌, ◌≤◌, ℕ, Option, codes, IfErr, IfNone, IfOk, IfSome};
 ghost use Rattle.clap.specs.Words.{app_of, found_of, rows_of, subcommand_of, subcommand_rows_of};
 ghost use Rattle.clap.specs.Walk.{texts};
-ghost use Rattle.command_line.specs.Asked.{AreTexts, IsAskedBy, IsDecode, IsEncode, IsExplain, IsForward, IsFrame, IsJudge, IsLook, IsMib, IsNoRecord, IsOptionalNumber, IsRecord, IsReplay, IsRules, IsRun, IsTrace};
+ghost use Rattle.command_line.specs.Asked.{AreTexts, IsAskedBy, IsDecode, IsEncode, IsExplain, IsForward, IsFrame, IsGraph, IsJudge, IsLint, IsLook, IsMib, IsNoRecord, IsOptionalNumber, IsRecord, IsReplay, IsRules, IsRun, IsTrace};
 ghost use Rattle.command_line.specs.Refused.{IsRightlyRefused};
 ghost use Rattle.command_line.specs.declared.words.Words.{Words};
 ghost use Rattle.command_line.specs.declared.words.RecordWords.{RecordWords};
@@ -10,6 +10,8 @@ ghost use Rattle.command_line.specs.declared.words.RunWords.{RunWords};
 ghost use Rattle.command_line.specs.declared.words.MibWords.{MibWords};
 ghost use Rattle.command_line.specs.declared.words.RulesWords.{RulesWords};
 ghost use Rattle.command_line.specs.declared.words.ExplainWords.{ExplainWords};
+ghost use Rattle.command_line.specs.declared.words.LintWords.{LintWords};
+ghost use Rattle.command_line.specs.declared.words.GraphWords.{GraphWords};
 ghost use Rattle.command_line.specs.declared.words.EncodeWords.{EncodeWords};
 ghost use Rattle.command_line.specs.declared.words.ForwardWords.{ForwardWords};
 ghost use Rattle.command_line.specs.declared.words.FrameWords.{FrameWords};
@@ -19,8 +21,8 @@ ghost use Rattle.command_line.specs.Range.{AreInRange, IsFrameInRange, IsShort, 
 
 use crate::grammar::onuctl;
 use crate::words::{
-    DecodeWords, EncodeWords, ExplainWords, ForwardWords, FrameWords, JudgeWords, MibWords,
-    RecordWords, ReplayWords, RulesWords, RunWords, TraceWords, Words,
+    DecodeWords, EncodeWords, ExplainWords, ForwardWords, FrameWords, GraphWords, JudgeWords,
+    LintWords, MibWords, RecordWords, ReplayWords, RulesWords, RunWords, TraceWords, Words,
 };
 use clap::error::ErrorKind;
 use clap::{ArgMatches, Command, Error};
@@ -160,6 +162,33 @@ fn read_explain<'a>(given: &ArgMatches<'a>) -> Option<ExplainWords<'a>>
     })
 }
 
+/// What the options behind `lint` ask for; None where one is missing, or the line's number has over 32 bits.
+fn read_lint<'a>(given: &ArgMatches<'a>) -> Option<LintWords<'a>>
+    ensures asked { IfSome result (IsLint (rows_of (found_of given.now))) }
+    ensures range { IfSome result (λ words. IsLine words.trace.until) }
+    ensures none { IfNone result ((words : LintWords) → IsLint (rows_of (found_of given.now)) words
+        → IsLine words.trace.until → ⊥) }
+{
+    Some(LintWords {
+        trace: read_trace(given)?,
+        json: given.get_flag("json"),
+    })
+}
+
+/// What the options behind `graph` ask for; None where one is missing, the port has over 16 bits, or the line's number over 32.
+fn read_graph<'a>(given: &ArgMatches<'a>) -> Option<GraphWords<'a>>
+    ensures asked { IfSome result (IsGraph (rows_of (found_of given.now))) }
+    ensures range { IfSome result (λ words. IsShort words.port × IsLine words.trace.until) }
+    ensures none { IfNone result ((words : GraphWords)
+        → IsGraph (rows_of (found_of given.now)) words
+        → IsShort words.port → IsLine words.trace.until → ⊥) }
+{
+    Some(GraphWords {
+        trace: read_trace(given)?,
+        port: read_short(given, "port")?,
+    })
+}
+
 /// What the options behind `forward` ask for; None where one is missing, or no number in its range.
 fn read_forward<'a>(given: &ArgMatches<'a>) -> Option<ForwardWords<'a>>
     ensures asked { IfSome result (IsForward (rows_of (found_of given.now))) }
@@ -269,8 +298,14 @@ fn read_look<'a>(matches: &ArgMatches<'a>) -> Option<Words<'a>>
     if let Some(given) = matches.subcommand_matches("rules") {
         return Some(Words::Rules(read_rules(given)?));
     }
-    let given = matches.subcommand_matches("explain")?;
-    Some(Words::Explain(read_explain(given)?))
+    if let Some(given) = matches.subcommand_matches("explain") {
+        return Some(Words::Explain(read_explain(given)?));
+    }
+    if let Some(given) = matches.subcommand_matches("lint") {
+        return Some(Words::Lint(read_lint(given)?));
+    }
+    let given = matches.subcommand_matches("graph")?;
+    Some(Words::Graph(read_graph(given)?))
 }
 
 /// What a parse asks for, but for `record`; None where it is that, a value is missing, or no number in its range.

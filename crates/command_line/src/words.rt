@@ -24,6 +24,10 @@ pub enum Words<'a> {
     Record(RecordWords<'a>),
     /// The script of a text in words.
     Encode(EncodeWords<'a>),
+    /// What is suspect in a trace.
+    Lint(LintWords<'a>),
+    /// How the managed entities after a trace point to each other.
+    Graph(GraphWords<'a>),
 }
 
 /// How `replay` is to answer.
@@ -111,6 +115,24 @@ pub struct ExplainWords<'a> {
     pub all: bool,
     /// Whether it is shown as JSON.
     pub json: bool,
+}
+
+/// What `lint` is to look at.
+#[derive(Clone, Copy, Debug, PartialEq, Eq)]
+pub struct LintWords<'a> {
+    /// The messages that are applied.
+    pub trace: TraceWords<'a>,
+    /// Whether it is shown as JSON.
+    pub json: bool,
+}
+
+/// What `graph` is to show.
+#[derive(Clone, Copy, Debug, PartialEq, Eq)]
+pub struct GraphWords<'a> {
+    /// The messages that are applied.
+    pub trace: TraceWords<'a>,
+    /// The port whose entities alone are shown, or None for all.
+    pub port: Option<u16>,
 }
 
 /// What `judge` is to judge.

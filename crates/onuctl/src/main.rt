@@ -90,6 +90,8 @@ fn answer<
         Ok(Words::Judge(words)) => judge_history(rt, &words, input, out, err),
         Ok(Words::Forward(words)) => forward(rt, &words, out, err),
         Ok(Words::Record(words)) => record(rt, &words, out, err),
+        Ok(Words::Lint(_)) => 1,
+        Ok(Words::Graph(_)) => 1,
         Err(error) => report_words(&error, out, err),
     }
 }

@@ -2,9 +2,9 @@
 
 use clap::Error;
 use command_line::{
-    DecodeWords, EncodeWords, ExplainWords, ForwardWords, FrameWords, JudgeWords, MibWords,
-    NumberedFile, ReplayWords, RulesWords, RunWords, TraceWords, Words, read_numbered, read_tpid,
-    read_words, report_words,
+    DecodeWords, EncodeWords, ExplainWords, ForwardWords, FrameWords, GraphWords, JudgeWords,
+    LintWords, MibWords, NumberedFile, ReplayWords, RulesWords, RunWords, TraceWords, Words,
+    read_numbered, read_tpid, read_words, report_words,
 };
 use run_settings::RunSettings;
 use std::alloc::AllocError;
@@ -27,6 +27,8 @@ Commands:
   forward  Forward the frames of a capture after a trace, and say what becomes of each
   record   Write the history that captures of one clock show, for judge
   encode   Make a script of a text in words
+  lint     Say what is suspect in a trace and in the entities after it
+  graph    Draw how the managed entities after a trace point to each other, for Graphviz
   help     Print this message or the help of the given subcommand(s)
 
 Options:
@@ -144,15 +146,7 @@ fn words_ask_for_entities_and_a_table(rt: HostRuntime) -> Result<(), Fail> {
     for (words, asked) in [
         (&["onuctl", "mib", "--trace", "t"][..], Words::Mib(mib)),
         (
-            &[
-                "onuctl",
-                "mib",
-                "--json",
-                "--trace",
-                "t",
-                "--until=20",
-                "--strict",
-            ][..],
+            &["onuctl", "mib", "--json", "--trace", "t", "--until=20", "--strict"][..],
             Words::Mib(MibWords {
                 trace: up_to_20,
                 json: true,
@@ -181,20 +175,9 @@ fn words_ask_for_an_explanation(rt: HostRuntime) -> Result<(), Fail> {
         json: false,
     };
     for (words, asked) in [
+        (&["onuctl", "explain", "0800", "--trace=t", "--port=257"][..], plain),
         (
-            &["onuctl", "explain", "0800", "--trace=t", "--port=257"][..],
-            plain,
-        ),
-        (
-            &[
-                "onuctl",
-                "explain",
-                "--json",
-                "--trace=t",
-                "--port=257",
-                "0800",
-                "--all",
-            ][..],
+            &["onuctl", "explain", "--json", "--trace=t", "--port=257", "0800", "--all"][..],
             ExplainWords {
                 all: true,
                 json: true,
@@ -203,13 +186,7 @@ fn words_ask_for_an_explanation(rt: HostRuntime) -> Result<(), Fail> {
         ),
         (
             &[
-                "onuctl",
-                "explain",
-                "--trace=t",
-                "--until=1",
-                "--port=1",
-                "--frames=f",
-                "--frame=7",
+                "onuctl", "explain", "--trace=t", "--until=1", "--port=1", "--frames=f", "--frame=7",
             ][..],
             ExplainWords {
                 trace: TraceWords {
@@ -227,6 +204,34 @@ fn words_ask_for_an_explanation(rt: HostRuntime) -> Result<(), Fail> {
     ] {
         same!(rt; read_words(rt.alloc(), words)?, Words::Explain(asked), "{words:?}");
     }
+    Ok(())
+}
+
+#[test]
+fn words_ask_for_findings_and_a_graph(rt: HostRuntime) -> Result<(), Fail> {
+    let lint = LintWords {
+        trace: TRACE,
+        json: true,
+    };
+    let graph = GraphWords {
+        trace: TRACE,
+        port: None,
+    };
+    for (words, asked) in [
+        (&["onuctl", "lint", "--trace=t", "--json"][..], Words::Lint(lint)),
+        (&["onuctl", "graph", "--trace=t"][..], Words::Graph(graph)),
+        (
+            &["onuctl", "graph", "--trace=t", "--port", "0"][..],
+            Words::Graph(GraphWords {
+                port: Some(0),
+                ..graph
+            }),
+        ),
+    ] {
+        same!(rt; read_words(rt.alloc(), words)?, asked, "{words:?}");
+    }
+    let too_great = read_words(rt.alloc(), &["onuctl", "graph", "--trace=t", "--port=65536"]);
+    holds!(rt; too_great.is_err());
     Ok(())
 }
 

@@ -13,4 +13,6 @@ returns c =
     let judging = c.with_sub-judging.ensures _ _ explaining c.judge.ensures in
     let capturing = c.with_sub-capturing.ensures _ _ judging c.forward.ensures in
     let recorded = c.with_sub-recorded.ensures _ _ capturing c.recording.ensures in
-    c.with_sub.ensures _ _ recorded c.encode.ensures
+    let encoding = c.with_sub-encoding.ensures _ _ recorded c.encode.ensures in
+    let linting = c.with_sub-linting.ensures _ _ encoding c.lint.ensures in
+    c.with_sub.ensures _ _ linting c.graph.ensures
