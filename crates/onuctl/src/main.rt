@@ -8,6 +8,7 @@ mod forwarding;
 mod json_lines;
 mod judge_progress;
 mod judging;
+mod linting;
 mod looking;
 mod pieces;
 mod recording;
@@ -20,6 +21,7 @@ use encoding::{decode_into_words, encode_text};
 use forwarding::forward;
 use json_lines::{replay_as_json, run_as_json};
 use judging::judge_history;
+use linting::{draw_graph, lint};
 use looking::{decode_lines, explain_frame, show_mib, show_rules};
 use recording::record;
 use running::run;
@@ -90,8 +92,8 @@ fn answer<
         Ok(Words::Judge(words)) => judge_history(rt, &words, input, out, err),
         Ok(Words::Forward(words)) => forward(rt, &words, out, err),
         Ok(Words::Record(words)) => record(rt, &words, out, err),
-        Ok(Words::Lint(_)) => 1,
-        Ok(Words::Graph(_)) => 1,
+        Ok(Words::Lint(words)) => lint(rt, &words, out, err),
+        Ok(Words::Graph(words)) => draw_graph(rt, &words, out, err),
         Err(error) => report_words(&error, out, err),
     }
 }
