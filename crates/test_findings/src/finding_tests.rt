@@ -1,26 +1,14 @@
 //! Findings as lines and as JSON.
-use crate::traces::{LED, WITH_NULL_POINTERS, WITH_TABLE, entities};
-use explain_findings::findings;
-use mib_state::Mib;
+use crate::traces::{LED, Text, WITH_NULL_POINTERS, WITH_TABLE, text_after};
 use omci_msg::MsgFault;
-use std::alloc::Global;
 use std::test::Fail;
 use test_fixtures::same;
-use text_findings::{TraceFault, TraceFinding, write_findings, write_findings_json};
-use text_writing::TextFault;
-
-/// The lines of the findings of entities.
-fn lines_of(alloc: Global, mib: &Mib) -> Result<Vec<u8>, TextFault> {
-    let found = findings(alloc, mib)?;
-    let mut text = Vec::new(alloc);
-    write_findings(alloc, mib, &found, &[], &mut text)?;
-    Ok(text)
-}
+use text_findings::{TraceFault, TraceFinding};
 
 #[test]
 fn entities_that_lead_each_frame_have_no_findings(rt: HostRuntime) -> Result<(), Fail> {
-    let mib = entities(rt.alloc(), LED)?;
-    same!(rt; lines_of(rt.alloc(), &mib)?.as_slice(), b"".as_slice());
+    let text = text_after(rt.alloc(), LED, Text::Lines(&[]))?;
+    same!(rt; text.as_slice(), b"".as_slice());
     Ok(())
 }
 
@@ -32,8 +20,8 @@ const UNUSED: &str = concat!(
 
 #[test]
 fn an_entry_behind_one_that_covers_it_is_never_used(rt: HostRuntime) -> Result<(), Fail> {
-    let mib = entities(rt.alloc(), WITH_TABLE)?;
-    same!(rt; lines_of(rt.alloc(), &mib)?.as_slice(), UNUSED.as_bytes());
+    let text = text_after(rt.alloc(), WITH_TABLE, Text::Lines(&[]))?;
+    same!(rt; text.as_slice(), UNUSED.as_bytes());
     Ok(())
 }
 
@@ -52,8 +40,8 @@ const NULL_POINTERS: &str = concat!(
 
 #[test]
 fn a_port_of_null_pointers_drops_all_its_frames(rt: HostRuntime) -> Result<(), Fail> {
-    let mib = entities(rt.alloc(), WITH_NULL_POINTERS)?;
-    same!(rt; lines_of(rt.alloc(), &mib)?.as_slice(), NULL_POINTERS.as_bytes());
+    let text = text_after(rt.alloc(), WITH_NULL_POINTERS, Text::Lines(&[]))?;
+    same!(rt; text.as_slice(), NULL_POINTERS.as_bytes());
     Ok(())
 }
 
@@ -85,14 +73,8 @@ const TRACE_JSON: &str = concat!(
 
 #[test]
 fn the_messages_of_a_trace_stand_behind(rt: HostRuntime) -> Result<(), Fail> {
-    let alloc = rt.alloc();
-    let mib = Mib::new(alloc)?;
-    let mut text = Vec::new(alloc);
-    write_findings(alloc, &mib, &[], &TRACE, &mut text)?;
+    let text = text_after(rt.alloc(), "", Text::Lines(&TRACE))?;
     same!(rt; text.as_slice(), TRACE_LINES.as_bytes());
-    let mut json = Vec::new(alloc);
-    write_findings_json(alloc, &mib, &[], &TRACE, &mut json)?;
-    same!(rt; json.as_slice(), TRACE_JSON.as_bytes());
     Ok(())
 }
 
@@ -108,11 +90,14 @@ const TABLE_JSON: &str = concat!(
 
 #[test]
 fn a_finding_is_an_object_of_json(rt: HostRuntime) -> Result<(), Fail> {
-    let alloc = rt.alloc();
-    let mib = entities(alloc, WITH_TABLE)?;
-    let found = findings(alloc, &mib)?;
-    let mut json = Vec::new(alloc);
-    write_findings_json(alloc, &mib, &found, &[], &mut json)?;
-    same!(rt; json.as_slice(), TABLE_JSON.as_bytes());
+    let text = text_after(rt.alloc(), WITH_TABLE, Text::Json(&[]))?;
+    same!(rt; text.as_slice(), TABLE_JSON.as_bytes());
+    Ok(())
+}
+
+#[test]
+fn the_messages_of_a_trace_are_objects_of_json(rt: HostRuntime) -> Result<(), Fail> {
+    let text = text_after(rt.alloc(), "", Text::Json(&TRACE))?;
+    same!(rt; text.as_slice(), TRACE_JSON.as_bytes());
     Ok(())
 }

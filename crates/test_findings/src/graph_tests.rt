@@ -1,9 +1,7 @@
 //! The graph in Graphviz's language.
-use crate::traces::{LED, WITH_NULL_POINTERS, WITHOUT_GEM_PORT, entities};
-use std::alloc::Global;
+use crate::traces::{LED, Text, WITH_NULL_POINTERS, WITHOUT_GEM_PORT, text_after};
 use std::test::Fail;
 use test_fixtures::same;
-use text_graph::write_graph;
 
 /// The graph of a port that leads to a GEM port.
 const LED_GRAPH: &str = concat!(
@@ -31,29 +29,23 @@ const MISSING_GRAPH: &str = concat!(
     "}\n",
 );
 
-/// The text of the graph after a trace, of all or of a port.
-fn graph_of(alloc: Global, trace: &str, port: Option<u16>) -> Result<Vec<u8>, Fail> {
-    let mib = entities(alloc, trace)?;
-    let mut text = Vec::new(alloc);
-    write_graph(alloc, &mib, port, &mut text)?;
-    Ok(text)
-}
-
 #[test]
 fn each_pointer_is_an_edge_and_equal_ones_are_joined(rt: HostRuntime) -> Result<(), Fail> {
-    same!(rt; graph_of(rt.alloc(), LED, None)?.as_slice(), LED_GRAPH.as_bytes());
+    let text = text_after(rt.alloc(), LED, Text::Graph(None))?;
+    same!(rt; text.as_slice(), LED_GRAPH.as_bytes());
     Ok(())
 }
 
 #[test]
 fn what_is_missing_is_dashed(rt: HostRuntime) -> Result<(), Fail> {
-    same!(rt; graph_of(rt.alloc(), WITHOUT_GEM_PORT, None)?.as_slice(), MISSING_GRAPH.as_bytes());
+    let text = text_after(rt.alloc(), WITHOUT_GEM_PORT, Text::Graph(None))?;
+    same!(rt; text.as_slice(), MISSING_GRAPH.as_bytes());
     Ok(())
 }
 
 #[test]
 fn the_graph_of_a_port_leaves_the_others_out(rt: HostRuntime) -> Result<(), Fail> {
-    let text = graph_of(rt.alloc(), WITH_NULL_POINTERS, Some(257))?;
+    let text = text_after(rt.alloc(), WITH_NULL_POINTERS, Text::Graph(Some(257)))?;
     same!(rt; text.as_slice(), LED_GRAPH.as_bytes());
     Ok(())
 }

@@ -1,7 +1,11 @@
-//! Entities that a trace leads to.
+//! Texts about the entities that a trace leads to.
+use explain_findings::findings;
 use mib_state::Mib;
-use script_trace::{ScriptFault, apply_script};
+use script_trace::apply_script;
 use std::alloc::Global;
+use std::test::Fail;
+use text_findings::{TraceFinding, write_findings, write_findings_json};
+use text_graph::write_graph;
 
 /// GEM port 0x0401 of port-ID 1024, interworking point 0x0501 to it, and mapper 0x0601 of port 257, whose eight pointers lead there.
 pub(crate) const LED: &str = concat!(
@@ -36,8 +40,30 @@ pub(crate) const WITHOUT_GEM_PORT: &str = concat!(
     "o 0003440a0082060101010501050105010501050105010501050101000100000000000000000000000000002800000000\n",
 );
 
-/// The entities after the messages of a trace.
-pub(crate) fn entities(alloc: Global, trace: &str) -> Result<Mib, ScriptFault> {
+/// A text about entities.
+#[derive(Clone, Copy)]
+pub(crate) enum Text<'t> {
+    /// Their findings and those of a trace, as lines.
+    Lines(&'t [TraceFinding]),
+    /// The same as JSON.
+    Json(&'t [TraceFinding]),
+    /// Their graph, of all or of a port.
+    Graph(Option<u16>),
+}
+
+/// The text about the entities after the messages of a trace.
+pub(crate) fn text_after(alloc: Global, trace: &str, text: Text<'_>) -> Result<Vec<u8>, Fail> {
     let applied = apply_script(alloc, trace.as_bytes(), None)?;
-    Ok(applied.mib)
+    text_of(alloc, &applied.mib, text)
+}
+
+fn text_of(alloc: Global, mib: &Mib, text: Text<'_>) -> Result<Vec<u8>, Fail> {
+    let mut out = Vec::new(alloc);
+    let found = findings(alloc, mib)?;
+    match text {
+        Text::Lines(trace) => write_findings(alloc, mib, &found, trace, &mut out)?,
+        Text::Json(trace) => write_findings_json(alloc, mib, &found, trace, &mut out)?,
+        Text::Graph(port) => write_graph(alloc, mib, port, &mut out)?,
+    }
+    Ok(out)
 }
