@@ -41,17 +41,14 @@ fn comments(alloc: Global) -> Result<Vec<u8>, AllocError> {
 /// The block, which ends with this length.
 fn block_of(alloc: Global, long: &Long, end: &[u8]) -> Result<Vec<u8>, AllocError> {
     let options = comments(alloc)?;
-    joined(
-        alloc,
-        &[
-            &long.kind,
-            &long.length,
-            long.front,
-            &options,
-            long.back,
-            end,
-        ],
-    )
+    let mut block = Vec::new(alloc);
+    block.extend_from_slice(&long.kind)?;
+    block.extend_from_slice(&long.length)?;
+    block.extend_from_slice(long.front)?;
+    block.extend_from_slice(&options)?;
+    block.extend_from_slice(long.back)?;
+    block.extend_from_slice(end)?;
+    Ok(block)
 }
 
 /// Compares the frames of a file in memory, read whole and in pieces.
