@@ -6,11 +6,10 @@ use Rattle.std.specs.declared.num.ParseIntError.{ParseIntError}
 use Rattle.clap.specs.Words.{ReadsOne, Row, Text, first_of, first_value, one_text, rows_of}
 use Rattle.clap.specs.declared.parser.matches.Found.{Found}
 use Rattle.clap.proofs.WalkLemmas.{first_value-rows, one_text-rows}
-use Rattle.command_line.specs.Asked.{IsExplain, IsForward, IsFrame, IsMib, IsNumber, IsOptionalNumber, IsRules, IsRun, IsTrace}
+use Rattle.command_line.specs.Asked.{IsExplain, IsForward, IsFrame, IsNumber, IsOptionalNumber, IsRules, IsRun, IsTrace}
 use Rattle.command_line.specs.Range.{AreInRange, IsFrameInRange, IsShort, IsLine}
 use Rattle.run_settings.specs.Settings.{AreInLimits}
 use Rattle.command_line.specs.declared.words.RunWords.{RunWords}
-use Rattle.command_line.specs.declared.words.MibWords.{MibWords}
 use Rattle.command_line.specs.declared.words.RulesWords.{RulesWords}
 use Rattle.command_line.specs.declared.words.ExplainWords.{ExplainWords}
 use Rattle.command_line.specs.declared.words.FrameWords.{FrameWords}
