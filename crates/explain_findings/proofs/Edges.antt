@@ -1,11 +1,10 @@
 -- The edges of a graph.
-use Rattle.std.proofs.Common.{◌≡◌, ◌==◌, ℕ, zero, suc, ◌+◌, ◌<◌, ◌≤◌, Bool, true, false, List, [], ◌∷◌, ◌++◌, Option, Some, None, drop, get_or, length, take, refl, ap, sym, ◌∙◌, append_assoc, arith}
-use Rattle.std.specs.Prelude.{if◌then◌else◌, is_none, slice_get}
+use Rattle.std.proofs.Common.{◌≡◌, ℕ, zero, suc, ◌+◌, ◌<◌, ◌≤◌, Bool, true, false, List, [], ◌∷◌, ◌++◌, Option, Some, None, drop, get_or, length, take, refl, ap, sym, ◌∙◌, append_assoc, arith}
+use Rattle.std.specs.Prelude.{is_none, slice_get}
 use Rattle.std.proofs.lemmas.List.{drop_more, take_all}
 use Rattle.managed_entity.specs.Instance.{Instance}
 use Rattle.mib_state.specs.Entities.{Entities, find}
 use Rattle.explain_findings.specs.declared.graph.NodeKind.TheVariants as kind
-use Rattle.explain_findings.specs.declared.graph.Edge.{Edge}
 use Rattle.explain_findings.specs.Reach.{priorities}
 use Rattle.explain_findings.specs.Findings.{is_number}
 use Rattle.explain_findings.specs.Graph.{begins_with, node, priorities_from, priorities_to, priority_edge_by}

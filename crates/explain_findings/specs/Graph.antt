@@ -6,14 +6,14 @@ use Rattle.std.specs.Option.{option_and_then, option_map_or}
 use Rattle.pmapper.specs.Mapper.{pointer_of}
 use Rattle.managed_entity.specs.Instance.{Instance, attribute_number}
 use Rattle.mib_state.specs.Entities.{Entities, find}
-use Rattle.mib_state.specs.Attached.{association_mapper, association_uni, mapper_of_port, table_of_port}
+use Rattle.mib_state.specs.Attached.{association_mapper, association_uni}
 use Rattle.frame_meaning.specs.Meaning.{pointers_at}
 use Rattle.explain_findings.specs.declared.graph.NodeKind.{NodeKind}
 use Rattle.explain_findings.specs.declared.graph.NodeKind.TheVariants as kind
 use Rattle.explain_findings.specs.declared.graph.Node.{Node}
 use Rattle.explain_findings.specs.declared.graph.GraphNode.{GraphNode}
 use Rattle.explain_findings.specs.declared.graph.Edge.{Edge}
-use Rattle.explain_findings.specs.Reach.{Reached, numbers, port_of_mapper, ports, priorities, reach_from, reached_mappers, reached_tables}
+use Rattle.explain_findings.specs.Reach.{numbers, port_of_mapper, ports, priorities, reach_from, reached_mappers, reached_tables}
 use Rattle.explain_findings.specs.Findings.{is_number}
 
 -- ---- what is shown
