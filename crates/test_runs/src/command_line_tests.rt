@@ -146,7 +146,15 @@ fn words_ask_for_entities_and_a_table(rt: HostRuntime) -> Result<(), Fail> {
     for (words, asked) in [
         (&["onuctl", "mib", "--trace", "t"][..], Words::Mib(mib)),
         (
-            &["onuctl", "mib", "--json", "--trace", "t", "--until=20", "--strict"][..],
+            &[
+                "onuctl",
+                "mib",
+                "--json",
+                "--trace",
+                "t",
+                "--until=20",
+                "--strict",
+            ][..],
             Words::Mib(MibWords {
                 trace: up_to_20,
                 json: true,
@@ -175,9 +183,20 @@ fn words_ask_for_an_explanation(rt: HostRuntime) -> Result<(), Fail> {
         json: false,
     };
     for (words, asked) in [
-        (&["onuctl", "explain", "0800", "--trace=t", "--port=257"][..], plain),
         (
-            &["onuctl", "explain", "--json", "--trace=t", "--port=257", "0800", "--all"][..],
+            &["onuctl", "explain", "0800", "--trace=t", "--port=257"][..],
+            plain,
+        ),
+        (
+            &[
+                "onuctl",
+                "explain",
+                "--json",
+                "--trace=t",
+                "--port=257",
+                "0800",
+                "--all",
+            ][..],
             ExplainWords {
                 all: true,
                 json: true,
@@ -186,7 +205,13 @@ fn words_ask_for_an_explanation(rt: HostRuntime) -> Result<(), Fail> {
         ),
         (
             &[
-                "onuctl", "explain", "--trace=t", "--until=1", "--port=1", "--frames=f", "--frame=7",
+                "onuctl",
+                "explain",
+                "--trace=t",
+                "--until=1",
+                "--port=1",
+                "--frames=f",
+                "--frame=7",
             ][..],
             ExplainWords {
                 trace: TraceWords {
@@ -218,7 +243,10 @@ fn words_ask_for_findings_and_a_graph(rt: HostRuntime) -> Result<(), Fail> {
         port: None,
     };
     for (words, asked) in [
-        (&["onuctl", "lint", "--trace=t", "--json"][..], Words::Lint(lint)),
+        (
+            &["onuctl", "lint", "--trace=t", "--json"][..],
+            Words::Lint(lint),
+        ),
         (&["onuctl", "graph", "--trace=t"][..], Words::Graph(graph)),
         (
             &["onuctl", "graph", "--trace=t", "--port", "0"][..],
@@ -230,7 +258,10 @@ fn words_ask_for_findings_and_a_graph(rt: HostRuntime) -> Result<(), Fail> {
     ] {
         same!(rt; read_words(rt.alloc(), words)?, asked, "{words:?}");
     }
-    let too_great = read_words(rt.alloc(), &["onuctl", "graph", "--trace=t", "--port=65536"]);
+    let too_great = read_words(
+        rt.alloc(),
+        &["onuctl", "graph", "--trace=t", "--port=65536"],
+    );
     holds!(rt; too_great.is_err());
     Ok(())
 }
