@@ -10,27 +10,25 @@ use tag_view::{FrameView, Tag};
 /// between them now. The frame is nowhere as a whole until it is asked for.
 #[derive(Debug, Drop)]
 pub struct OutFrame<'a> {
-    addresses: &'a [u8],
-    rest: &'a [u8],
+    // The frame that came in.
+    bytes: &'a [u8],
     // The tags, and behind them what makes them four.
     tags: [Tag; 4],
     // How many tags there are.
     count: u8,
+    // How many tags it came in with: the rest stands behind them.
+    received: u8,
 }
 
 impl<'a> Model for OutFrame<'a> {
-    ghost use Rattle.std.specs.Prelude.{◌≤◌, take};
-    ghost use Rattle.tag_view.specs.Frame.{Reading};
+    ghost use Rattle.std.specs.Prelude.{◌≤◌, ◌+◌, ◌*◌, length, take};
+    ghost use Rattle.tag_view.specs.Frame.{Reading, with_tags};
 
     ghost Value = { Reading };
 
-    ghost view = { λ f. record {
-      addresses = f.addresses.now;
-      tags = take f.count f.tags;
-      rest = f.rest.now;
-    } };
+    ghost view = { λ f. with_tags f.bytes.now f.received (take f.count f.tags) };
 
-    ghost invariant = { λ f. f.count ≤ 4 };
+    ghost invariant = { λ f. (f.count ≤ 4) × (14 + 4 * f.received ≤ length f.bytes.now) };
 }
 
 impl<'a> OutFrame<'a> {
@@ -43,40 +41,40 @@ impl<'a> OutFrame<'a> {
         ensures { result ≡ record frame.now { tags = tags.items } }
     {
         OutFrame {
-            addresses: frame.addresses(),
-            rest: frame.rest(),
+            bytes: frame.bytes(),
             count: tags.len() as u8,
             tags: four_of(tags.as_slice()),
+            received: frame.tags().len() as u8,
         }
     }
 
     /// A frame whose tags are the first `count` of these words, in place of the `received` tags that it came with.
     #[inline(always)]
-    pub fn of_words(bytes: &'a [u8], received: usize, words: [u32; 4], count: usize) -> Self
+    pub fn of_words(bytes: &'a [u8], received: u8, words: [u32; 4], count: usize) -> Self
         requires whole { 14 + 4 * received ≤ length bytes.now }
         requires four { count ≤ 4 }
         ensures { result ≡ with_tags bytes.now received (map tag_of (take count words)) }
     {
         OutFrame {
-            addresses: &bytes[..12],
-            rest: &bytes[12 + 4 * received..],
+            bytes,
             tags: tags_of(&words),
             count: count as u8,
+            received,
         }
     }
 
     /// The same for at most two tags: the other words are not looked at.
     #[inline(always)]
-    pub fn of_two_words(bytes: &'a [u8], received: usize, words: [u32; 4], count: usize) -> Self
+    pub fn of_two_words(bytes: &'a [u8], received: u8, words: [u32; 4], count: usize) -> Self
         requires whole { 14 + 4 * received ≤ length bytes.now }
         requires two { count ≤ 2 }
         ensures { result ≡ with_tags bytes.now received (map tag_of (take count words)) }
     {
         OutFrame {
-            addresses: &bytes[..12],
-            rest: &bytes[12 + 4 * received..],
+            bytes,
             tags: two_tags_of(&words),
             count: count as u8,
+            received,
         }
     }
 
@@ -84,7 +82,7 @@ impl<'a> OutFrame<'a> {
     pub fn addresses(&self) -> &'a [u8]
         ensures { result.now ≡ self.now.addresses }
     {
-        self.addresses
+        &self.bytes[..12]
     }
 
     /// The tags, outermost first.
@@ -99,7 +97,7 @@ impl<'a> OutFrame<'a> {
     pub fn rest(&self) -> &'a [u8]
         ensures { result.now ≡ self.now.rest }
     {
-        self.rest
+        &self.bytes[12 + 4 * usize::from(self.received)..]
     }
 }
 

@@ -32,7 +32,7 @@ pub fn priority(mapper: &Mapper, tags: &[Tag], dscp: Option<u8>) -> u8
     ensures bound { result < 8 }
 {
     match tags.first() {
-        Some(outermost) => outermost.pcp,
+        Some(outermost) => outermost.pcp(),
         None => unmarked_priority(mapper, dscp),
     }
 }

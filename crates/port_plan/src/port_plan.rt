@@ -120,7 +120,7 @@ impl<'p> PortPlan<'p> {
         ensures four { length (words_made tagging.now) ≡ 4 }
     {
         let untagged = self.routes.untagged(place);
-        let outermost = Tag::of_word(tagging.words()[0]).pcp;
+        let outermost = Tag::of_word(tagging.words()[0]).pcp();
         if tagging.count() == 0 {
             untagged
         } else {
@@ -181,7 +181,7 @@ impl<'p> PortPlan<'p> {
     fn push_read<'a>(
         &self,
         head: &Head,
-        received: usize,
+        received: u8,
         bytes: &'a [u8],
         verdicts: &mut Vec<Verdict<'a>>,
     )
@@ -207,7 +207,7 @@ impl<'p> PortPlan<'p> {
 
     /// The verdict on a frame with this head.
     #[inline(always)]
-    fn verdict<'a>(&self, head: &Head, received: usize, bytes: &'a [u8]) -> Verdict<'a>
+    fn verdict<'a>(&self, head: &Head, received: u8, bytes: &'a [u8]) -> Verdict<'a>
         requires head { IsHeadOf self.now bytes.now head.now }
         requires received { received ≡ length head.now.tags }
         ensures verdict { (e : Entities) (port : ℕ) → IsPlanOf e port self.now
@@ -242,19 +242,17 @@ impl<'p> PortPlan<'p> {
 
     /// The GEM port by which a frame with this head leaves and how many bytes it has then, or why it is dropped.
     #[inline(always)]
-    fn outcome_read(
-        &self,
-        head: &Head,
-        received: usize,
-        bytes: &[u8],
-    ) -> Result<(u16, usize), Reason>
+    fn outcome_read(&self, head: &Head, received: u8, bytes: &[u8]) -> Result<(u16, usize), Reason>
         requires head { IsHeadOf self.now bytes.now head.now }
         requires received { received ≡ length head.now.tags }
         ensures { (e : Entities) (port : ℕ) → IsPlanOf e port self.now
             → result ≡ outcome_of (meaning e port bytes.now) }
     {
         match self.decide(head, behind_tags(bytes, received)) {
-            Ok((gem, tagging)) => Ok((gem, bytes.len() - 4 * received + 4 * tagging.count())),
+            Ok((gem, tagging)) => Ok((
+                gem,
+                bytes.len() - 4 * usize::from(received) + 4 * tagging.count(),
+            )),
             Err(reason) => Err(reason),
         }
     }
@@ -316,11 +314,11 @@ impl<'p> PortPlan<'p> {
 
 /// What follows the addresses and so many tags.
 #[inline(always)]
-fn behind_tags(bytes: &[u8], received: usize) -> &[u8]
+fn behind_tags(bytes: &[u8], received: u8) -> &[u8]
     requires { 14 + 4 * received ≤ length bytes.now }
     ensures { result.now ≡ drop (12 + 4 * received) bytes.now }
 {
-    &bytes[12 + 4 * received..]
+    &bytes[12 + 4 * usize::from(received)..]
 }
 
 /// Appends the verdict on a frame that leaves with three or four tags. It stands apart, so that the other frames don't wait
@@ -330,7 +328,7 @@ fn behind_tags(bytes: &[u8], received: usize) -> &[u8]
 fn push_many_tags<'a>(
     gem: u16,
     tagging: &Tagging<'_>,
-    received: usize,
+    received: u8,
     bytes: &'a [u8],
     verdicts: &mut Vec<Verdict<'a>>,
 )

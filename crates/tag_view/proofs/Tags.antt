@@ -6,32 +6,7 @@ use Rattle.std.proofs.lemmas.Nat.{or_shifted}
 use Rattle.std.proofs.lemmas.Bool.{eq-eqb, ne_eqb}
 use Rattle.tag_view.specs.Tag.{TagFields, IsInRange, control_of, tag_bytes}
 use Rattle.tag_view.specs.Frame.{type_at, tag_at}
-
--- ---- three fields in sixteen bits
-
--- numbers put side by side by shifts
-joined : (p d v : ℕ) → p < 8 → d < 2 → v < 4096 → bit_or (bit_or (p * 8192 % 65536) (d * 4096 % 65536)) v ≡ p * 8192 + d * 4096 + v
-joined p d v hp hd hv =
-    let high : p * 8192 % 65536 ≡ p * 2 ^ 13 = omega arith in
-    let low : d * 4096 % 65536 ≡ d * 4096 = omega arith in
-    let two : bit_or (p * 2 ^ 13) (d * 4096) ≡ p * 2 ^ 13 + d * 4096 = or_shifted p 13 (d * 4096) (omega arith) in
-    let three : bit_or ((p * 2 + d) * 2 ^ 12) v ≡ (p * 2 + d) * 2 ^ 12 + v = or_shifted (p * 2 + d) 12 v hv in
-    let same : p * 2 ^ 13 + d * 4096 ≡ (p * 2 + d) * 2 ^ 12 = omega arith in
-    rw (high, low, two, same, three) refl
-
-joined_control : (type p v : ℕ) (dei : Bool) → p < 8 → v < 4096 → bit_or (bit_or (p * 8192 % 65536) (bool_byte dei * 4096 % 65536)) v ≡ control_of (record { tpid = type; pcp = p; dei = dei; vid = v })
-joined_control type p v true hp hv = joined p 1 v hp (omega arith) hv
-joined_control type p v false hp hv = joined p 0 v hp (omega arith) hv
-
--- a tag's fields put side by side, the first two from where they were copied to
-pub control_joined : (type p v q d : ℕ) (dei : Bool) → q ≡ p → d ≡ bool_byte dei → p < 8 → v < 4096 → bit_or (bit_or (q * 8192 % 65536) (d * 4096 % 65536)) v ≡ control_of (record { tpid = type; pcp = p; dei = dei; vid = v })
-control_joined type p v q d dei same bit hp hv = rw (same, bit) (joined_control type p v dei hp hv)
-
--- the bit that a test of it gives
-pub bit_back : (m : ℕ) → m < 2 → (if m == 1 then 1 else 0) ≡ m
-bit_back zero h = refl
-bit_back (suc zero) h = refl
-bit_back (suc (suc m)) h = absurd (omega arith)
+use Rattle.tag_view.specs.Packed.{bit_back}
 
 -- ---- from bytes to a tag and back
 

@@ -9,7 +9,8 @@ use Rattle.byteorder.specs.Numbers.{big_from-lt}
 use Rattle.tag_view.specs.Tag.{TagFields, IsInRange, control_of, tag_bytes}
 use Rattle.tag_view.specs.Frame.{tag_at, type_at}
 use Rattle.tag_view.specs.Word.{tag_of, word_of}
-use Rattle.tag_view.proofs.Tags.{bit_back, control-lt, same_fields}
+use Rattle.tag_view.specs.Packed.{bit_back}
+use Rattle.tag_view.proofs.Tags.{control-lt, same_fields}
 
 -- The fields below the TPID fit. Nothing has to be known of the TPID, which stands highest.
 pub record IsLow (tag : TagFields) : Type 0 where
@@ -31,11 +32,6 @@ word_back tag h = back tag.tpid tag.pcp tag.vid tag.dei h.pcp h.vid
 
 pub word_is_back : (tag : TagFields) (word : ℕ) → IsLow tag → word ≡ word_of tag → tag_of word ≡ tag
 word_is_back tag word h is = ap tag_of is ∙ word_back tag h
-
-pub tag_back : (word : ℕ) → word_of (tag_of word) ≡ word
-tag_back word =
-    let e : (if word / 2 ^ 12 % 2 == 1 then 1 else 0) ≡ word / 2 ^ 12 % 2 = bit_back (word / 2 ^ 12 % 2) (omega arith) in
-    rw e (omega arith)
 
 -- the word of a tag has 32 bits, and what 32 bits are is a tag
 pub word_range : (tag : TagFields) → IsInRange tag → word_of tag < 2 ^ 32

@@ -3,3 +3,4 @@ pub mod Frame
 pub mod Fault
 pub mod Dscp
 pub mod Word
+pub mod Packed

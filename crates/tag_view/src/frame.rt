@@ -9,37 +9,41 @@ use std::marker::Model;
 /// a type. The slices are lent by the frame's bytes, and live as long as these.
 #[derive(Clone, Debug, Drop)]
 pub struct FrameView<'a> {
-    pub(crate) addresses: &'a [u8],
+    // All bytes of the frame.
+    pub(crate) bytes: &'a [u8],
     pub(crate) tags: ArrayVec<Tag, 2>,
-    pub(crate) rest: &'a [u8],
 }
 
 impl<'a> Model for FrameView<'a> {
-    ghost use Rattle.std.specs.Prelude.{◌≡◌, ◌≤◌, length};
-    ghost use Rattle.tag_view.specs.Frame.{Reading};
+    ghost use Rattle.std.specs.Prelude.{◌≤◌, ◌+◌, ◌*◌, length};
+    ghost use Rattle.tag_view.specs.Frame.{Reading, with_tags};
 
     ghost Value = { Reading };
 
-    ghost view = { λ f. record {
-      addresses = f.addresses.now;
-      tags = f.tags.items;
-      rest = f.rest.now;
-    } };
+    ghost view = { λ f. with_tags f.bytes.now (length f.tags.items) f.tags.items };
 
-    ghost invariant = { λ f. (length f.addresses.now ≡ 12) × (2 ≤ length f.rest.now) };
+    ghost invariant = { λ f. 14 + 4 * length f.tags.items ≤ length f.bytes.now };
 }
 
 impl<'a> FrameView<'a> {
-    ghost use Rattle.std.specs.Prelude.{◌≡◌, ◌<◌, ◌≤◌, IfSome, length};
-    ghost use Rattle.tag_view.specs.Frame.{type_at};
+    ghost use Rattle.std.specs.Prelude.{◌≡◌, ◌<◌, ◌≤◌, ◌+◌, ◌*◌, IfSome, length};
+    ghost use Rattle.tag_view.specs.Frame.{type_at, with_tags};
     ghost use Rattle.tag_view.specs.Dscp.{dscp_of};
+
+    /// All bytes of the frame: addresses, the tags that were read, and the rest.
+    pub fn bytes(&self) -> &'a [u8]
+        ensures parts { with_tags result.now (length self.now.tags) self.now.tags ≡ self.now }
+        ensures whole { 14 + 4 * length self.now.tags ≤ length result.now }
+    {
+        self.bytes
+    }
 
     /// The 12 bytes of the destination's and the source's address.
     pub fn addresses(&self) -> &'a [u8]
         ensures value { result.now ≡ self.now.addresses }
         ensures len { length result.now ≡ 12 }
     {
-        self.addresses
+        &self.bytes[..12]
     }
 
     /// The tags that were read, outermost first.
@@ -55,14 +59,14 @@ impl<'a> FrameView<'a> {
         ensures value { result.now ≡ self.now.rest }
         ensures len { 2 ≤ length result.now }
     {
-        self.rest
+        &self.bytes[12 + 4 * self.tags.len()..]
     }
 
     /// The type behind the tags that were read. It may be that of a third tag.
     pub fn ethertype(&self) -> u16
         ensures { result ≡ type_at 0 self.now.rest }
     {
-        BigEndian::read_u16(self.rest)
+        BigEndian::read_u16(self.rest())
     }
 
     /// The DSCP (RFC 2474, section 3), or None where what follows the tags is neither IPv4 nor IPv6
@@ -73,7 +77,7 @@ impl<'a> FrameView<'a> {
         ensures value { result ≡ dscp_of self.now.rest }
         ensures bound { IfSome result (λ dscp. dscp < 64) }
     {
-        let [_, _, first, second, ..] = self.rest else {
+        let [_, _, first, second, ..] = self.rest() else {
             return None;
         };
         let ds_field = match self.ethertype() {

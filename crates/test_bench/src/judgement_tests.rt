@@ -20,20 +20,6 @@ const SENT: &str = "f 65535 020000000001aB00000000CD810000640800Abcd";
 /// A frame as it was seen to leave.
 const SEEN: &str = "f 0 ABCDEF";
 
-const FIRST_TAG: Tag = Tag {
-    pcp: 7,
-    dei: false,
-    vid: 200,
-    tpid: 0x8100,
-};
-
-const SECOND_TAG: Tag = Tag {
-    pcp: 5,
-    dei: true,
-    vid: 5,
-    tpid: 0x88a8,
-};
-
 /// The digits in a line of a frame that was sent.
 fn digits_of<'a>(rt: &impl Abort, alloc: Global, line: &'a str) -> Digits<'a> {
     let mut events = read_history(alloc, line.as_bytes()).expect(rt, "a history");
@@ -61,8 +47,8 @@ fn each_run(alloc: Global) -> Result<Vec<Run>, AllocError> {
         }),
     })?;
     let mut tags = ArrayVec::new();
-    let _ = tags.try_push(FIRST_TAG);
-    let _ = tags.try_push(SECOND_TAG);
+    let _ = tags.try_push(Tag::new(0x8100, 7, false, 200));
+    let _ = tags.try_push(Tag::new(0x88a8, 5, true, 5));
     runs.push(Run {
         from: 6,
         to: 9,

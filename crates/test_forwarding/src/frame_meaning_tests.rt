@@ -63,18 +63,8 @@ fn verdict_of<'a>(rt: &impl Abort, alloc: Global, bytes: &'a [u8]) -> Verdict<'a
 /// Looks at the parts of the frame with two tags, as it leaves.
 fn look_at_parts(rt: &impl Abort, frame: &OutFrame) {
     same!(rt; frame.addresses(), &DOUBLE[..12]);
-    let outer = Tag {
-        tpid: 0x88a8,
-        pcp: 5,
-        dei: false,
-        vid: 100,
-    };
-    let inner = Tag {
-        tpid: 0x8100,
-        pcp: 2,
-        dei: false,
-        vid: 200,
-    };
+    let outer = Tag::new(0x88a8, 5, false, 100);
+    let inner = Tag::new(0x8100, 2, false, 200);
     same!(rt; frame.tags(), &[outer, inner][..]);
     same!(rt; frame.rest(), &DOUBLE[20..]);
     same!(rt; frame.len(), 24);

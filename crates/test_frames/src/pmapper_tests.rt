@@ -46,23 +46,12 @@ fn a_frame_without_a_tag_has_the_priority_of_its_option(rt: HostRuntime) {
     look_at_untagged(&rt, &BY_DSCP, None, 3, "the default one without a DSCP");
 }
 
-/// A tag of a customer, of priority 5.
-const FIVE: Tag = Tag {
-    tpid: 0x8100,
-    pcp: 5,
-    dei: false,
-    vid: 100,
-};
-
-const SERVICE_TWO: Tag = Tag {
-    tpid: 0x88a8,
-    pcp: 2,
-    ..FIVE
-};
-
 #[test]
 fn a_frame_with_tags_has_the_priority_of_the_outermost(rt: HostRuntime) {
-    let tags = [SERVICE_TWO, FIVE];
+    let tags = [
+        Tag::new(0x88a8, 2, false, 100),
+        Tag::new(0x8100, 5, false, 100),
+    ];
     same!(rt; priority(&BY_DSCP, &tags, Some(46)), 2);
 }
 

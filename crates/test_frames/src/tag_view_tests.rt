@@ -12,20 +12,6 @@ const DOUBLE: [u8; 24] = [
     0x45, 0x00,
 ];
 
-const OUTER: Tag = Tag {
-    tpid: 0x88a8,
-    pcp: 0,
-    dei: false,
-    vid: 100,
-};
-
-const INNER: Tag = Tag {
-    tpid: 0x8100,
-    pcp: 0,
-    dei: false,
-    vid: 200,
-};
-
 #[test]
 fn a_frame_cut_short_is_a_runt_or_lacks_a_type_behind_a_tag(rt: HostRuntime) -> Result<(), Fail> {
     for len in 0..25 {
@@ -45,27 +31,23 @@ fn a_frame_cut_short_is_a_runt_or_lacks_a_type_behind_a_tag(rt: HostRuntime) -> 
 #[test]
 fn a_double_tagged_frame_is_read_outermost_first(rt: HostRuntime) -> Result<(), Fail> {
     let frame = view(&DOUBLE, 0x8100)?;
+    same!(rt; frame.bytes(), &DOUBLE[..]);
     same!(rt; frame.addresses(), &ADDRESSES[..]);
-    same!(rt; frame.tags(), &[OUTER, INNER][..]);
+    same!(rt; frame.tags(), &[Tag::new(0x88a8, 0, false, 100), Tag::new(0x8100, 0, false, 200)][..]);
     same!(rt; frame.rest(), &[0x08, 0x00, 0x45, 0x00][..]);
     same!(rt; frame.ethertype(), 0x0800);
     Ok(())
 }
 
-/// The double-tagged frame with outer type 0x9100, and that tag.
+/// The double-tagged frame with outer type 0x9100.
 const OTHER_TYPE: [u8; 24] = [
     2, 0, 0, 0, 0, 1, 2, 0, 0, 0, 0, 2, 0x91, 0x00, 0x00, 0x64, 0x81, 0x00, 0x00, 0xc8, 0x08, 0x00,
     0x45, 0x00,
 ];
 
-const OTHER: Tag = Tag {
-    tpid: 0x9100,
-    ..OUTER
-};
-
 #[test]
 fn the_type_that_the_port_is_set_to_begins_a_tag(rt: HostRuntime) -> Result<(), Fail> {
-    same!(rt; view(&OTHER_TYPE, 0x9100)?.tags(), &[OTHER, INNER][..]);
+    same!(rt; view(&OTHER_TYPE, 0x9100)?.tags(), &[Tag::new(0x9100, 0, false, 100), Tag::new(0x8100, 0, false, 200)][..]);
     Ok(())
 }
 
@@ -88,69 +70,24 @@ fn slices_outlive_the_view(rt: HostRuntime) -> Result<(), Fail> {
     Ok(())
 }
 
-/// Type, priority, DEI and VID as IEEE 802.1Q, 9.6, puts them side by side.
-const WORDS: [(u32, Tag); 6] = [
-    (
-        0x8100a064,
-        Tag {
-            tpid: 0x8100,
-            pcp: 5,
-            dei: false,
-            vid: 100,
-        },
-    ),
-    (
-        0x88a87064,
-        Tag {
-            tpid: 0x88a8,
-            pcp: 3,
-            dei: true,
-            vid: 100,
-        },
-    ),
-    (
-        0x8100e000,
-        Tag {
-            tpid: 0x8100,
-            pcp: 7,
-            dei: false,
-            vid: 0,
-        },
-    ),
-    (
-        0x81001000,
-        Tag {
-            tpid: 0x8100,
-            pcp: 0,
-            dei: true,
-            vid: 0,
-        },
-    ),
-    (
-        0x00000fff,
-        Tag {
-            tpid: 0x0000,
-            pcp: 0,
-            dei: false,
-            vid: 4095,
-        },
-    ),
-    (
-        0xffffffff,
-        Tag {
-            tpid: 0xffff,
-            pcp: 7,
-            dei: true,
-            vid: 4095,
-        },
-    ),
+/// A tag's word, and its type, priority, DEI and VID as IEEE 802.1Q, 9.6, puts them side by side.
+const WORDS: [(u32, u16, u8, bool, u16); 6] = [
+    (0x8100a064, 0x8100, 5, false, 100),
+    (0x88a87064, 0x88a8, 3, true, 100),
+    (0x8100e000, 0x8100, 7, false, 0),
+    (0x81001000, 0x8100, 0, true, 0),
+    (0x00000fff, 0x0000, 0, false, 4095),
+    (0xffffffff, 0xffff, 7, true, 4095),
 ];
 
 #[test]
 fn a_tag_is_its_word(rt: HostRuntime) -> Result<(), Fail> {
-    for (word, tag) in &WORDS {
-        look_at_word(&rt, *word, tag);
+    for (word, tpid, pcp, dei, vid) in &WORDS {
+        let tag = Tag::of_word(*word);
+        same!(rt; (tag.tpid(), tag.pcp(), tag.dei(), tag.vid()), (*tpid, *pcp, *dei, *vid), "{word:08x}");
+        look_at_word(&rt, *word, &tag);
     }
+    look_at_word(&rt, 0x88a87064, &Tag::new(0x88a8, 3, true, 100));
     Ok(())
 }
 

@@ -9,11 +9,13 @@ pub struct TagWords<'a>(pub &'a Tag);
 impl fmt::Display for TagWords<'_> {
     fn fmt<W: fmt::Write>(&self, f: &mut fmt::Formatter<W>) -> fmt::Result {
         let tag = self.0;
-        let dei = u8::from(tag.dei);
+        let dei = u8::from(tag.dei());
         write!(
             f,
             "priority {}, DEI {dei}, VID {}, TPID 0x{:04x}",
-            tag.pcp, tag.vid, tag.tpid
+            tag.pcp(),
+            tag.vid(),
+            tag.tpid()
         )
     }
 }

@@ -168,7 +168,7 @@ fn put_tags(text: &mut String, scene: &Scene<'_>, tags: &[OutgoingTag]) -> Resul
         let origin = OriginWords(&outgoing.origin);
         writeln!(text, "  tag: {tag}; {origin}")?;
         if is_of_dscp(&outgoing.origin) {
-            put_dscp_origin(text, scene, outgoing.tag.pcp)?;
+            put_dscp_origin(text, scene, outgoing.tag.pcp())?;
         }
     }
     Ok(())

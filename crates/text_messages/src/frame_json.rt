@@ -29,8 +29,8 @@ pub fn put_view_json(
 
 /// Puts the fields of a tag: `priority`, `dei`, `vid` and `tpid`.
 pub fn put_tag_json(object: &mut Writer, tag: &Tag) -> Result<(), AllocError> {
-    put_number(object, "priority", u64::from(tag.pcp))?;
-    put_number(object, "dei", u64::from(tag.dei))?;
-    put_number(object, "vid", u64::from(tag.vid))?;
-    put_number(object, "tpid", u64::from(tag.tpid))
+    put_number(object, "priority", u64::from(tag.pcp()))?;
+    put_number(object, "dei", u64::from(tag.dei()))?;
+    put_number(object, "vid", u64::from(tag.vid()))?;
+    put_number(object, "tpid", u64::from(tag.tpid()))
 }

@@ -15,12 +15,12 @@ pub fn added_tag(added: &AddedTag, settings: &TableSettings, frame: &FrameView<'
     ensures { result ≡ tag_from added.now settings.now frame.now.tags (dscp_of frame.now.rest) }
 {
     let received = frame.tags();
-    Tag {
-        tpid: tpid(added.tpid, settings, received),
-        pcp: priority(added.priority, settings, frame),
-        dei: eligible(added.eligible, received),
-        vid: vid(added.vid, received),
-    }
+    Tag::new(
+        tpid(added.tpid, settings, received),
+        priority(added.priority, settings, frame),
+        eligible(added.eligible, received),
+        vid(added.vid, received),
+    )
 }
 
 fn priority(source: PrioritySource, settings: &TableSettings, frame: &FrameView<'_>) -> u8
@@ -31,8 +31,8 @@ fn priority(source: PrioritySource, settings: &TableSettings, frame: &FrameView<
 {
     match source {
         PrioritySource::Fixed(priority) => priority,
-        PrioritySource::Inner => inner(frame.tags()).pcp,
-        PrioritySource::Outer => outer(frame.tags()).pcp,
+        PrioritySource::Inner => inner(frame.tags()).pcp(),
+        PrioritySource::Outer => outer(frame.tags()).pcp(),
         PrioritySource::Dscp => dscp_priority(settings, frame),
     }
 }
@@ -56,8 +56,8 @@ fn vid(source: VidSource, received: &[Tag]) -> u16
 {
     match source {
         VidSource::Fixed(vid) => vid,
-        VidSource::Inner => inner(received).vid,
-        VidSource::Outer => outer(received).vid,
+        VidSource::Inner => inner(received).vid(),
+        VidSource::Outer => outer(received).vid(),
     }
 }
 
@@ -65,8 +65,8 @@ fn tpid(source: TpidSource, settings: &TableSettings, received: &[Tag]) -> u16
     ensures { result ≡ tpid_from source settings.now received.now }
 {
     match source {
-        TpidSource::Inner => inner(received).tpid,
-        TpidSource::Outer => outer(received).tpid,
+        TpidSource::Inner => inner(received).tpid(),
+        TpidSource::Outer => outer(received).tpid(),
         TpidSource::Output => settings.output_tpid,
         TpidSource::Standard => CUSTOMER_TPID,
     }
@@ -76,8 +76,8 @@ fn eligible(source: EligibleSource, received: &[Tag]) -> bool
     ensures { result ≡ eligible_from source received.now }
 {
     match source {
-        EligibleSource::Inner => inner(received).dei,
-        EligibleSource::Outer => outer(received).dei,
+        EligibleSource::Inner => inner(received).dei(),
+        EligibleSource::Outer => outer(received).dei(),
         EligibleSource::Clear => false,
         EligibleSource::Set => true,
     }

@@ -11,12 +11,12 @@ pub(crate) fn fixed(added: &AddedTag, settings: &TableSettings) -> Tag
     requires { IsTrue (addition_fits (Some added.now)) }
     ensures { result ≡ fixed_part settings.now added.now }
 {
-    Tag {
-        tpid: tpid(added.tpid, settings),
-        pcp: priority(added.priority),
-        dei: added.eligible == EligibleSource::Set,
-        vid: vid(added.vid),
-    }
+    Tag::new(
+        tpid(added.tpid, settings),
+        priority(added.priority),
+        added.eligible == EligibleSource::Set,
+        vid(added.vid),
+    )
 }
 
 fn tpid(source: TpidSource, settings: &TableSettings) -> u16
@@ -55,36 +55,36 @@ fn vid(source: VidSource) -> u16
 pub(crate) fn of_outer(added: &AddedTag) -> Tag
     ensures { result ≡ outer_mask added.now }
 {
-    Tag {
-        tpid: all_of_tpid(added.tpid == TpidSource::Outer),
-        pcp: all_of_priority(added.priority == PrioritySource::Outer),
-        dei: added.eligible == EligibleSource::Outer,
-        vid: all_of_vid(added.vid == VidSource::Outer),
-    }
+    Tag::new(
+        all_of_tpid(added.tpid == TpidSource::Outer),
+        all_of_priority(added.priority == PrioritySource::Outer),
+        added.eligible == EligibleSource::Outer,
+        all_of_vid(added.vid == VidSource::Outer),
+    )
 }
 
 /// All ones where a field is that of the inner tag.
 pub(crate) fn of_inner(added: &AddedTag) -> Tag
     ensures { result ≡ inner_mask added.now }
 {
-    Tag {
-        tpid: all_of_tpid(added.tpid == TpidSource::Inner),
-        pcp: all_of_priority(added.priority == PrioritySource::Inner),
-        dei: added.eligible == EligibleSource::Inner,
-        vid: all_of_vid(added.vid == VidSource::Inner),
-    }
+    Tag::new(
+        all_of_tpid(added.tpid == TpidSource::Inner),
+        all_of_priority(added.priority == PrioritySource::Inner),
+        added.eligible == EligibleSource::Inner,
+        all_of_vid(added.vid == VidSource::Inner),
+    )
 }
 
 /// All ones where the priority is that of the DSCP.
 pub(crate) fn of_dscp(added: &AddedTag) -> Tag
     ensures { result ≡ dscp_mask added.now }
 {
-    Tag {
-        tpid: 0,
-        pcp: all_of_priority(added.priority == PrioritySource::Dscp),
-        dei: false,
-        vid: 0,
-    }
+    Tag::new(
+        0,
+        all_of_priority(added.priority == PrioritySource::Dscp),
+        false,
+        0,
+    )
 }
 
 /// All ones of a field, or none of them.

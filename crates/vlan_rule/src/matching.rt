@@ -55,7 +55,7 @@ impl PriorityFilter {
     {
         match *self {
             PriorityFilter::Any => true,
-            PriorityFilter::Exactly(priority) => tag.pcp == priority,
+            PriorityFilter::Exactly(priority) => tag.pcp() == priority,
         }
     }
 }
@@ -67,7 +67,7 @@ impl VidFilter {
     {
         match *self {
             VidFilter::Any => true,
-            VidFilter::Exactly(vid) => tag.vid == vid,
+            VidFilter::Exactly(vid) => tag.vid() == vid,
         }
     }
 }
@@ -79,10 +79,10 @@ impl TpidFilter {
     {
         match *self {
             TpidFilter::Any => true,
-            TpidFilter::Standard => tag.tpid == CUSTOMER_TPID,
-            TpidFilter::Input => tag.tpid == input_tpid,
-            TpidFilter::InputNotEligible => tag.tpid == input_tpid && !tag.dei,
-            TpidFilter::InputEligible => tag.tpid == input_tpid && tag.dei,
+            TpidFilter::Standard => tag.tpid() == CUSTOMER_TPID,
+            TpidFilter::Input => tag.tpid() == input_tpid,
+            TpidFilter::InputNotEligible => tag.tpid() == input_tpid && !tag.dei(),
+            TpidFilter::InputEligible => tag.tpid() == input_tpid && tag.dei(),
         }
     }
 }
