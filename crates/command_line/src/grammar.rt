@@ -520,7 +520,7 @@ fn judge<'a>(alloc: Global) -> Result<Command<'a>, AllocError>
     let alone = Command::new(alloc, "judge")
         .about("Say whether a right unit may have done what a history says")
         .after_help(
-            "Status: 0 if it may, 3 if not, 2 for a bad line, 1 for any other fault\nExample: onuctl judge bench.history",
+            "Status: 0 if it may, 3 if not, 2 for a bad line, 141 if nobody reads the output, 1 for any other fault\nExample: onuctl judge bench.history",
         );
     let of_model = with_arg(Ok(alone), modelled(alloc));
     let of_order = with_arg(of_model, unordered(alloc));

@@ -15,6 +15,7 @@ mod recording;
 mod running;
 mod topics;
 mod traces;
+mod unread;
 
 use command_line::{Words, read_words, report_words};
 use encoding::{decode_into_words, encode_text};
@@ -35,6 +36,7 @@ use std::sync::Wait;
 use std::thread::Threads;
 use std::{env, io};
 use topics::{show_topic, topic_of};
+use unread::Unread;
 
 /// The words of the command line, the program's name first.
 fn words(rt: &(impl Env + Alloc<A = Global>)) -> io::Result<Vec<String>> {
@@ -99,7 +101,8 @@ fn answer<
 }
 
 fn main(rt: HostRuntime) -> ExitCode {
-    let (mut input, mut out, mut err) = (rt.stdin(), rt.stdout(), rt.stderr());
+    let unread = Unread::new();
+    let (mut out, mut err) = (unread.watch(rt.stdout()), unread.silence(rt.stderr()));
     let words = match words(&rt) {
         Ok(words) => words,
         Err(error) => return without_words(&error, &mut err),
@@ -108,5 +111,6 @@ fn main(rt: HostRuntime) -> ExitCode {
         Ok(lent) => lent,
         Err(error) => return without_words(&error.into(), &mut err),
     };
-    ExitCode::from(answer(&rt, &lent, &mut input, &mut out, &mut err))
+    let status = answer(&rt, &lent, &mut rt.stdin(), &mut out, &mut err);
+    ExitCode::from(unread.status(status))
 }
