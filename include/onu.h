@@ -172,7 +172,7 @@ int32_t onu_judge(const uint8_t *history, size_t n, uint32_t flags, uint8_t *roo
 
 /**
  * @brief The program's version, and what it was proved with.
- * @return a string that stands for good, such as `onuctl 0.1.0, proved with rattle-kit-13b logic dac8208d650f15bf`.
+ * @return a string that stands for good, such as `onuctl 0.2.0, proved with rattle-kit-13f logic dac8208d650f15bf`.
  */
 const char *onu_version(void);
 

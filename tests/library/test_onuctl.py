@@ -201,7 +201,7 @@ class TextTest(unittest.TestCase):
         self.assertEqual(raised.exception.line, 2)
 
     def test_version(self) -> None:
-        self.assertRegex(onuctl.version(), r"^onuctl 0\.1\.0, proved with rattle-kit")
+        self.assertRegex(onuctl.version(), r"^onuctl 0\.2\.0, proved with rattle-kit")
 
 
 if __name__ == "__main__":

@@ -11,8 +11,8 @@ use clap::{Arg, ArgAction, Command, value_parser};
 use run_settings::{BATCH_LIMIT, LANE_LIMIT};
 use std::alloc::{AllocError, Global};
 
-/// What `--version` shows.
-const VERSION: &str = "0.1.0";
+/// What `--version` shows: the version, and the kit that it was proved with, which `./prove` writes anew where another kit proves it.
+const VERSION: &str = "0.2.0, proved with rattle-kit-13f logic dac8208d650f15bf";
 
 /// The help says these limits in words.
 const _: () = prove!(LANE_LIMIT == 16 && BATCH_LIMIT == 65_536);
@@ -162,7 +162,7 @@ fn replay<'a>(alloc: Global) -> Result<Command<'a>, AllocError>
 {
     let alone = Command::new(alloc, "replay")
         .about("Answer the script on standard input, line by line, on standard output")
-        .after_help("Example: onuctl replay < examples/one_frame.script");
+        .after_help("Example: onuctl replay < examples/replay/one_frame.script");
     with_arg(Ok(alone), json(alloc))
 }
 
@@ -236,7 +236,7 @@ fn decode<'a>(alloc: Global) -> Result<Command<'a>, AllocError>
 {
     let alone = Command::new(alloc, "decode")
         .about("Say what each line of the script or of the answers on standard input means")
-        .after_help("Example: onuctl decode < examples/one_frame.script");
+        .after_help("Example: onuctl decode < examples/replay/one_frame.script");
     let of_words = with_arg(Ok(alone), source(alloc));
     with_arg(of_words, json(alloc))
 }

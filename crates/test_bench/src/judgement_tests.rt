@@ -1,5 +1,5 @@
 //! Texts of judgements that are made by hand: of runs of versions, of digits of either case, where no version is left, and where a writer
-//! is full. The dialogues beside the examples ask the program for the texts of histories.
+//! is full. The dialogues (`tests/dialogues`) ask the program for the texts of histories.
 use arrayvec::ArrayVec;
 use bench_history::{Digits, Event, read_history};
 use bench_judge::{

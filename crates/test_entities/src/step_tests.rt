@@ -1,4 +1,4 @@
-//! What entities answer and show, call by call. The dialogues beside the examples ask the program for replies to messages.
+//! What entities answer and show, call by call. The dialogues (`tests/dialogues`) ask the program for replies to messages.
 use crate::scenes::{Scene, play};
 use mib_state::{Mib, Touch};
 use omci_msg::{Action, OtherCode, Reply, Request};

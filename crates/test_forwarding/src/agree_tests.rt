@@ -16,7 +16,7 @@ const MESSAGES: usize = 2000;
 /// How many whole frames come in at each port after a message, beside one that is cut.
 const FRAMES: usize = 9;
 
-/// The messages of dialogues of frames (`examples/dialogues/frames.dialogues`), each of which begins with port 257.
+/// The messages of dialogues of frames (`tests/dialogues/frames.dialogues`), each of which begins with port 257.
 const DIALOGUES: [&[&str]; 8] = [
     &[
         "0005480a00ab0701 0400 f8000000f8000000 000f000000000324",

@@ -1,4 +1,4 @@
-//! Words and what they ask for. What the program says of each word that is refused, and each help, `examples/hostile` compares.
+//! Words and what they ask for. What the program says of each word that is refused, and each help, `tests/hostile` compares.
 
 use clap::Error;
 use command_line::{

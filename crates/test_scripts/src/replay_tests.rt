@@ -1,4 +1,4 @@
-//! How long a line may be, and what is reported of a replay. The dialogues beside the examples ask the program for the answers to
+//! How long a line may be, and what is reported of a replay. The dialogues (`tests/dialogues`) ask the program for the answers to
 //! scripts.
 
 use script_replay::{ReplayFault, replay, report_replay};

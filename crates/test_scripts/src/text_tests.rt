@@ -1,4 +1,4 @@
-//! Texts that are written to what has no room for them, or read from what fails. The dialogues beside the examples ask the program for
+//! Texts that are written to what has no room for them, or read from what fails. The dialogues (`tests/dialogues`) ask the program for
 //! whole texts.
 
 use mib_state::Mib;
