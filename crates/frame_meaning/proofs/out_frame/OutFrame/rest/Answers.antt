@@ -1,6 +1,7 @@
--- Bounded, so that a wrong body is refused at once.
-use Rattle.std.proofs.Common.{rules}
+-- What stands behind the tags is taken to its end.
+use Rattle.std.proofs.Common.{ℕ, ◌+◌, ◌*◌, drop, ap}
+use Rattle.std.proofs.lemmas.List.{take_rest}
 use Rattle.frame_meaning.proofs.out_frame.OutFrame.rest.Goals as goal
 
 pub returns : goal.returns
-returns c = search rules fits 30
+returns c = rw (← c.self.view_is, take_rest) (ap (λ (n : ℕ). drop (12 + 4 * n) c.self.inside.bytes.now) c.from.ensures)
