@@ -1,4 +1,4 @@
-use Rattle.std.proofs.Common.{◌∙◌, ℕ, ap}
+use Rattle.std.proofs.Common.{◌∙◌, ◌+◌, ◌-◌, ◌*◌, ℕ, ap, length}
 use Rattle.std.specs.Prelude.{Ok}
 use Rattle.frame_meaning.specs.declared.verdict.Verdict.{Verdict}
 use Rattle.tag_view.specs.Frame.{reading_of}
@@ -12,7 +12,9 @@ returns-in-Ok c = λ e port planned.
     let bytes = c.args.bytes.now in
     let head = c.args.head.now in
     let frame = reading_of plan.table.now.table.settings.input_tpid bytes in
-    let size = left_length bytes c.args.received c.count.result c.in-Ok.tagging c.requires.head c.requires.received c.count.ensures.value c.count.ensures.four c.in-Ok.ensures.four in
+    let size =
+    ap (λ (n : ℕ). length bytes - 4 * n + 4 * c.count.result) c.from.ensures
+    ∙ left_length bytes c.args.received c.count.result c.in-Ok.tagging c.requires.head c.requires.received c.count.ensures.value c.count.ensures.four c.in-Ok.ensures.four in
     ap (λ (n : ℕ). Ok (c.in-Ok.gem, n)) size
     ∙ ap (λ (v : Verdict). outcome_of v)
     (received_forward e port plan bytes head c.args.received c.in-Ok.gem (tags_made c.in-Ok.tagging) planned c.requires.head c.requires.received
