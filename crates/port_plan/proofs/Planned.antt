@@ -6,7 +6,7 @@ use Rattle.std.specs.Option.{unwrap_or}
 use Rattle.port_plan.specs.declared.port_plan.PortPlan.{PortPlan}
 use Rattle.tag_view.specs.Tag.{TagFields, IsInRange, missing_tag}
 use Rattle.tag_view.specs.Word.{tag_of, word_of}
-use Rattle.tag_view.proofs.Words.{tag_back}
+use Rattle.tag_view.specs.Packed.{tag_back}
 use Rattle.vlan_rule.specs.declared.settings.TableSettings.{TableSettings}
 use Rattle.vlan_rule.specs.Meaning.{treatment_of}
 use Rattle.treatment.specs.Compiled.{AreSources, Compiled, Treats, asks_dscp, words_by}
