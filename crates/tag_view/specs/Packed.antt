@@ -1,5 +1,5 @@
 -- Every number is the word of the tag that it is: so a tag may be held as its word.
-use Rattle.std.specs.Prelude.{◌≡◌, ◌<◌, ℕ, ◌+◌, ◌*◌, ◌/◌, ◌%◌, ◌^◌, if◌then◌else◌, ◌==◌}
+use Rattle.std.specs.Prelude.{◌≡◌, ◌<◌, ℕ, ◌/◌, ◌%◌, ◌^◌, if◌then◌else◌, ◌==◌}
 use Rattle.std.proofs.Common.{zero, suc, arith, refl}
 use Rattle.tag_view.specs.Word.{tag_of, word_of}
 
