@@ -12,7 +12,7 @@ returns-in-Some c =
     let e = c.args.mib.now.entities in
     let frame = c.args.frame in
     let (old, new, old_is, new_is, parts) = c.in_ok-clone.ensures.cases in
-    let same = sym new_is ∙ same_reading old.addresses new.addresses old.rest new.rest old.tags.items new.tags.items _ parts.0 parts.1.0 (λ x y is. is) parts.1.1 ∙ old_is in
+    let same = sym new_is ∙ same_reading old.bytes new.bytes old.tags.items new.tags.items _ parts.0 parts.1 (λ x y is. is) ∙ old_is in
     appended_on_ok c.append_table.result c.args.steps.now.items c.push.new.self.items (step.Read frame ∷ [])
     (from_table e c.args.port c.in-Some.table frame) (from_read e c.args.port c.args.table.now frame) c.append_table.new.steps.items
     (c.in_ok-push.ensures.items ∙ ap (λ (f : Reading). c.args.steps.now.items ++ step.Read f ∷ []) same)
@@ -23,7 +23,7 @@ returns-in-None c =
     let e = c.args.mib.now.entities in
     let frame = c.args.frame in
     let (old, new, old_is, new_is, parts) = c.in_ok-clone.ensures.cases in
-    let same = sym new_is ∙ same_reading old.addresses new.addresses old.rest new.rest old.tags.items new.tags.items _ parts.0 parts.1.0 (λ x y is. is) parts.1.1 ∙ old_is in
+    let same = sym new_is ∙ same_reading old.bytes new.bytes old.tags.items new.tags.items _ parts.0 parts.1 (λ x y is. is) ∙ old_is in
     appended_on_ok c.append_tags.result c.args.steps.now.items c.push.new.self.items (step.Read frame ∷ [])
     (from_tags e c.args.port frame c.received.result.items) (from_read e c.args.port c.args.table.now frame) c.append_tags.new.steps.items
     (c.in_ok-push.ensures.items ∙ ap (λ (f : Reading). c.args.steps.now.items ++ step.Read f ∷ []) same)
