@@ -14,10 +14,10 @@ pub struct OutFrame<'a> {
     bytes: &'a [u8],
     // The tags, and behind them what makes them four.
     tags: [Tag; 4],
-    // How many tags there are.
-    count: u8,
+    // How many tags there are. These two numbers are as wide as leaves no byte unused, since unused ones are written too.
+    count: u32,
     // How many tags it came in with: the rest stands behind them.
-    received: u8,
+    received: u32,
 }
 
 impl<'a> Model for OutFrame<'a> {
@@ -42,9 +42,9 @@ impl<'a> OutFrame<'a> {
     {
         OutFrame {
             bytes: frame.bytes(),
-            count: tags.len() as u8,
+            count: tags.len() as u32,
             tags: four_of(tags.as_slice()),
-            received: frame.tags().len() as u8,
+            received: frame.tags().len() as u32,
         }
     }
 
@@ -58,8 +58,8 @@ impl<'a> OutFrame<'a> {
         OutFrame {
             bytes,
             tags: tags_of(&words),
-            count: count as u8,
-            received,
+            count: count as u32,
+            received: u32::from(received),
         }
     }
 
@@ -73,8 +73,8 @@ impl<'a> OutFrame<'a> {
         OutFrame {
             bytes,
             tags: two_tags_of(&words),
-            count: count as u8,
-            received,
+            count: count as u32,
+            received: u32::from(received),
         }
     }
 
@@ -90,14 +90,14 @@ impl<'a> OutFrame<'a> {
         ensures value { result.now ≡ self.now.tags }
         ensures four { length result.now ≤ 4 }
     {
-        &self.tags[..usize::from(self.count)]
+        &self.tags[..self.count as usize]
     }
 
     /// What follows the tags, from the type on.
     pub fn rest(&self) -> &'a [u8]
         ensures { result.now ≡ self.now.rest }
     {
-        &self.bytes[12 + 4 * usize::from(self.received)..]
+        &self.bytes[12 + 4 * self.received as usize..]
     }
 }
 

@@ -1,6 +1,7 @@
 use Rattle.std.proofs.Common.{◌≡◌, ℕ, ◌≤◌, List, ap, map, take, sym, ◌∙◌}
 use Rattle.std.proofs.lemmas.List.{take-map, take-take}
 use Rattle.tag_view.specs.Tag.{TagFields}
+use Rattle.tag_view.specs.Frame.{with_tags}
 use Rattle.tag_view.specs.Word.{tag_of}
 use Rattle.frame_meaning.proofs.out_frame.OutFrame.of_two_words.Goals as goal
 
@@ -16,4 +17,6 @@ few count tags words two same =
 pub returns : goal.returns
 returns c =
     let tags = few c.args.count c.two_tags_of.result c.args.words c.requires.two c.two_tags_of.ensures in
-    rw tags
+    let bytes = c.args.bytes.now in
+    ap (λ (n : ℕ). with_tags bytes n (take c.args.count c.two_tags_of.result)) c.from.ensures
+    ∙ ap (λ (ts : List TagFields). with_tags bytes c.args.received ts) tags
