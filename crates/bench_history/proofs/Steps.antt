@@ -6,7 +6,7 @@ use Rattle.bench_history.specs.History.{events_from, next_of}
 use Rattle.bench_history.specs.declared.event.Event.{Event}
 
 -- the events of more lines, by that of the first of them
-abbrev from_next : List Event → List (List ℕ) → Option Event → Result (List Event) ℕ
+abbrev pub from_next : List Event → List (List ℕ) → Option Event → Result (List Event) ℕ
 from_next before lines (Some event) = events_from (before ++ event ∷ []) lines
 from_next before lines None = Err (length before + 1)
 

@@ -62,6 +62,11 @@ events_from before (line ∷ lines) =
 abbrev pub history_of : List ℕ → Result (List Event) ℕ
 history_of text = events_from [] (lines_of text)
 
+-- why more lines of a text aren't read: the first of them that has no event, or memory is wanting
+abbrev pub IsWhyStopped : List Event → List (List ℕ) → HistoryFault → Type 0
+IsWhyStopped before lines (BadLine n) = events_from before lines ≡ Err n
+IsWhyStopped before lines NoMemory = Unit {0}
+
 -- why a text isn't read as a history: its first line that has no event, or memory is wanting
 abbrev pub IsWhyUnread : List ℕ → HistoryFault → Type 0
 IsWhyUnread text (BadLine n) = history_of text ≡ Err n

@@ -1,3 +1,4 @@
 pub mod History
 pub mod Line
 pub mod Seen
+pub mod Borders

@@ -1,29 +1,11 @@
 //! The events of a history.
-ghost use Rattle.std.specs.Prelude.{◌≡◌, IfErr, IfOk, IfSome, List, Ok, true};
-ghost use Rattle.bench_history.specs.History.{IsWhyUnread, history_of, may_follow, next_of};
-ghost use Rattle.bench_history.specs.Seen.{IsSeen};
-ghost use Rattle.bench_history.specs.declared.event.Event.{Event};
+ghost use Rattle.std.specs.Prelude.{◌≡◌, IfErr, IfOk, Ok};
+ghost use Rattle.bench_history.specs.History.{IsWhyUnread, history_of};
 
 use crate::event::Event;
 use crate::fault::HistoryFault;
-use crate::line::read_event;
-use crate::seen::Seen;
-use script_lines::first_line;
+use crate::reading::Reading;
 use std::alloc::Global;
-
-/// The event of a line that may stand behind those seen, or None where it has none.
-fn next_event<'a>(line: &'a [u8], seen: &Seen) -> Option<Event<'a>>
-    ensures next { (before : List Event) → IsSeen before seen.now
-        → result ≡ next_of before line.now }
-    ensures may { IfSome result (λ event. (before : List Event) → IsSeen before seen.now
-        → may_follow before event ≡ true) }
-{
-    let event = read_event(line)?;
-    if !seen.admits(&event) {
-        return None;
-    }
-    Some(event)
-}
 
 /// The events of a history, one for each line, in order: that of line L, which are numbered from 1, is at L - 1.
 ///
@@ -40,20 +22,8 @@ pub fn read_history<'a>(alloc: Global, text: &'a [u8]) -> Result<Vec<Event<'a>>,
     ensures events { IfOk result (λ events. history_of text.now ≡ Ok events.items) }
     ensures fault { IfErr result (IsWhyUnread text.now) }
 {
-    let mut events = Vec::new(alloc);
-    let mut seen = Seen::new(alloc);
-    let mut rest = text;
-    let mut number = 1u64;
-    while !rest.is_empty() {
-        let (line, behind) = first_line(rest);
-        let Some(event) = next_event(line, &seen) else {
-            return Err(HistoryFault::BadLine(number));
-        };
-        if seen.add(&event).is_err() || events.push(event).is_err() {
-            return Err(HistoryFault::NoMemory);
-        }
-        rest = behind;
-        number += 1;
-    }
+    let mut reading = Reading::new(alloc);
+    reading.read(text)?;
+    let Reading { events, seen: _ } = reading;
     Ok(events)
 }

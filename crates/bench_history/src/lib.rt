@@ -5,6 +5,8 @@
 //! it may stand: a frame ends once, behind the line that sent it, and replies are waited for once they were seen. For the second step
 //! the reader keeps a flag for each frame, by its number, and a count of replies, so it never looks back.
 //!
+//! A text that several threads read part by part is one of [`Pieces`]: each line lies whole in one of them, and the events are the same.
+//!
 //! The bytes of messages and frames stay in the text as digits, of which an event has a checked slice: histories are long, and few of
 //! their bytes are needed more than once. Memory grows with the number of lines alone.
 #![tactic(auto)]
@@ -13,11 +15,16 @@ mod digits;
 mod event;
 mod fault;
 mod history;
+mod joining;
 mod line;
 mod number;
+mod piece;
+mod pieces;
+mod reading;
 mod seen;
 
 pub use digits::Digits;
 pub use event::Event;
 pub use fault::HistoryFault;
 pub use history::read_history;
+pub use pieces::Pieces;

@@ -1,5 +1,6 @@
 //! The judgement of a history.
-ghost use Rattle.std.specs.Prelude.{◌≡◌, IfErr, IfOk};
+ghost use Rattle.std.specs.Prelude.{◌≡◌, ℕ, IfErr, IfOk, List};
+ghost use Rattle.bench_history.specs.History.{IsWhyUnread};
 ghost use Rattle.bench_judge.specs.Judged.{IsFound, IsJudgement, IsWhyUnjudged};
 ghost use Rattle.bench_judge.specs.Walk.{AreInOrder};
 
@@ -13,7 +14,7 @@ use crate::settings::JudgeSettings;
 use crate::steps::steps;
 use crate::walk::walk_through;
 use crate::watch::{Nobody, Stage, Watch};
-use bench_history::{Event, HistoryFault, read_history};
+use bench_history::{Event, HistoryFault, Pieces, read_history};
 use std::alloc::{AllocError, Global};
 
 /// What is found of events.
@@ -49,6 +50,36 @@ fn judge_events<'a, W: Watch>(
         counts: counts(events, walk.requests.len()),
         steps: steps(alloc, &walk.frames, &versions, settings.unordered)?,
     }))
+}
+
+/// What is found of a history with these events, which the watch is told first.
+fn judge_read<'a, W: Watch>(
+    alloc: Global,
+    events: &[Event<'a>],
+    settings: &JudgeSettings,
+    watch: &mut W,
+) -> Result<Judgement<'a>, JudgeFault>
+    requires { AreInOrder events.now }
+    ensures found { IfOk result (IsFound settings.now events.now) }
+    ensures fault { IfErr result (λ fault. fault ≡ JudgeFault.NoMemory) }
+{
+    watch.reached(Stage::Read {
+        lines: events.len(),
+    });
+    match judge_events(alloc, events, settings, watch) {
+        Ok(judgement) => Ok(judgement),
+        Err(_) => Err(JudgeFault::NoMemory),
+    }
+}
+
+/// Why a history isn't judged that isn't read.
+fn unread(fault: HistoryFault) -> JudgeFault
+    ensures { (text : List ℕ) → IsWhyUnread text fault → IsWhyUnjudged text result }
+{
+    match fault {
+        HistoryFault::BadLine(number) => JudgeFault::BadLine(number),
+        HistoryFault::NoMemory => JudgeFault::NoMemory,
+    }
 }
 
 /// Judges a history: whether a right unit may have behaved so while it was configured.
@@ -90,16 +121,24 @@ pub fn judge_watched<'a, W: Watch>(
     ensures found { IfOk result (IsJudgement settings.now history.now) }
     ensures fault { IfErr result (IsWhyUnjudged history.now) }
 {
-    let events = match read_history(alloc, history) {
-        Ok(events) => events,
-        Err(HistoryFault::BadLine(number)) => return Err(JudgeFault::BadLine(number)),
-        Err(HistoryFault::NoMemory) => return Err(JudgeFault::NoMemory),
-    };
-    watch.reached(Stage::Read {
-        lines: events.len(),
-    });
-    match judge_events(alloc, &events, settings, watch) {
-        Ok(judgement) => Ok(judgement),
-        Err(_) => Err(JudgeFault::NoMemory),
+    match read_history(alloc, history) {
+        Ok(events) => judge_read(alloc, &events, settings, watch),
+        Err(fault) => Err(unread(fault)),
+    }
+}
+
+/// Does as [`judge_watched`] does, for a history in pieces: the text is what the pieces hold.
+pub fn judge_pieces<'a, W: Watch>(
+    alloc: Global,
+    history: &'a Pieces,
+    settings: &JudgeSettings,
+    watch: &mut W,
+) -> Result<Judgement<'a>, JudgeFault>
+    ensures found { IfOk result (IsJudgement settings.now history.now) }
+    ensures fault { IfErr result (IsWhyUnjudged history.now) }
+{
+    match history.read(alloc) {
+        Ok(events) => judge_read(alloc, &events, settings, watch),
+        Err(fault) => Err(unread(fault)),
     }
 }

@@ -42,7 +42,7 @@ pub use judgement::{
     Answer, Counts, Deviation, End, Explanation, Judgement, Leaving, Run, Step, Wrong, WrongFrame,
     WrongReply,
 };
-pub use judging::{judge, judge_watched};
+pub use judging::{judge, judge_pieces, judge_watched};
 pub use laws::{law_of_fronts, law_of_least_versions};
 pub use settings::JudgeSettings;
 pub use watch::{Stage, Watch};
