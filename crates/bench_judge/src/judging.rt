@@ -1,6 +1,5 @@
 //! The judgement of a history.
-ghost use Rattle.std.specs.Prelude.{◌≡◌, ℕ, IfErr, IfOk, List};
-ghost use Rattle.bench_history.specs.History.{IsWhyUnread};
+ghost use Rattle.std.specs.Prelude.{◌≡◌, IfErr, IfOk};
 ghost use Rattle.bench_judge.specs.Judged.{IsFound, IsJudgement, IsWhyUnjudged};
 ghost use Rattle.bench_judge.specs.Walk.{AreInOrder};
 
@@ -27,6 +26,9 @@ fn judge_events<'a, W: Watch>(
     requires { AreInOrder events.now }
     ensures { IfOk result (IsFound settings.now events.now) }
 {
+    watch.reached(Stage::Read {
+        lines: events.len(),
+    });
     let walk = walk_through(alloc, events, settings.modelled)?;
     watch.reached(Stage::Walked {
         frames: walk.frames.len(),
@@ -50,36 +52,6 @@ fn judge_events<'a, W: Watch>(
         counts: counts(events, walk.requests.len()),
         steps: steps(alloc, &walk.frames, &versions, settings.unordered)?,
     }))
-}
-
-/// What is found of a history with these events, which the watch is told first.
-fn judge_read<'a, W: Watch>(
-    alloc: Global,
-    events: &[Event<'a>],
-    settings: &JudgeSettings,
-    watch: &mut W,
-) -> Result<Judgement<'a>, JudgeFault>
-    requires { AreInOrder events.now }
-    ensures found { IfOk result (IsFound settings.now events.now) }
-    ensures fault { IfErr result (λ fault. fault ≡ JudgeFault.NoMemory) }
-{
-    watch.reached(Stage::Read {
-        lines: events.len(),
-    });
-    match judge_events(alloc, events, settings, watch) {
-        Ok(judgement) => Ok(judgement),
-        Err(_) => Err(JudgeFault::NoMemory),
-    }
-}
-
-/// Why a history isn't judged that isn't read.
-fn unread(fault: HistoryFault) -> JudgeFault
-    ensures { (text : List ℕ) → IsWhyUnread text fault → IsWhyUnjudged text result }
-{
-    match fault {
-        HistoryFault::BadLine(number) => JudgeFault::BadLine(number),
-        HistoryFault::NoMemory => JudgeFault::NoMemory,
-    }
 }
 
 /// Judges a history: whether a right unit may have behaved so while it was configured.
@@ -121,13 +93,18 @@ pub fn judge_watched<'a, W: Watch>(
     ensures found { IfOk result (IsJudgement settings.now history.now) }
     ensures fault { IfErr result (IsWhyUnjudged history.now) }
 {
-    match read_history(alloc, history) {
-        Ok(events) => judge_read(alloc, &events, settings, watch),
-        Err(fault) => Err(unread(fault)),
+    let events = match read_history(alloc, history) {
+        Ok(events) => events,
+        Err(HistoryFault::BadLine(number)) => return Err(JudgeFault::BadLine(number)),
+        Err(HistoryFault::NoMemory) => return Err(JudgeFault::NoMemory),
+    };
+    match judge_events(alloc, &events, settings, watch) {
+        Ok(judgement) => Ok(judgement),
+        Err(_) => Err(JudgeFault::NoMemory),
     }
 }
 
-/// Does as [`judge_watched`] does, for a history in pieces: the text is what the pieces hold.
+/// Does as [`judge_watched`] does, for a history in pieces: its text is what they hold.
 pub fn judge_pieces<'a, W: Watch>(
     alloc: Global,
     history: &'a Pieces,
@@ -137,8 +114,13 @@ pub fn judge_pieces<'a, W: Watch>(
     ensures found { IfOk result (IsJudgement settings.now history.now) }
     ensures fault { IfErr result (IsWhyUnjudged history.now) }
 {
-    match history.read(alloc) {
-        Ok(events) => judge_read(alloc, &events, settings, watch),
-        Err(fault) => Err(unread(fault)),
+    let events = match history.read(alloc) {
+        Ok(events) => events,
+        Err(HistoryFault::BadLine(number)) => return Err(JudgeFault::BadLine(number)),
+        Err(HistoryFault::NoMemory) => return Err(JudgeFault::NoMemory),
+    };
+    match judge_events(alloc, &events, settings, watch) {
+        Ok(judgement) => Ok(judgement),
+        Err(AllocError) => Err(JudgeFault::NoMemory),
     }
 }

@@ -1,13 +1,25 @@
 //! Whether a right unit may have done what a history says.
 use crate::files::{read_whole, report_unread};
 use crate::judge_progress::Shown;
-use bench_judge::{JudgeFault, JudgeSettings, Judgement, judge_watched};
+use crate::pieces::read_history_pieces;
+use bench_history::Pieces;
+use bench_judge::{JudgeFault, JudgeSettings, Judgement, judge_pieces, judge_watched};
 use command_line::JudgeWords;
 use std::alloc::Global;
+use std::fs::File;
+use std::io;
 use std::io::{ErrorKind, IsTerminal, Read, Write};
 use std::rt::Files;
+use std::thread::Threads;
 use text_judgements::{write_judgement, write_judgement_json};
 use text_writing::{LookFault, TextFault, report_look};
+
+/// A history as it was read: whole, or a large one by several threads.
+#[derive(Drop)]
+enum History {
+    Whole(Vec<u8>),
+    InPieces(Pieces),
+}
 
 /// The status where a history isn't explained.
 const DEVIATES: u8 = 3;
@@ -30,20 +42,31 @@ fn read_input<I: Read>(alloc: Global, input: &mut I) -> Result<Vec<u8>, LookFaul
     }
 }
 
+/// The history in a file.
+fn read_file<R: Files<File = File> + Alloc<A = Global> + Threads + Sync>(
+    rt: &R,
+    path: &str,
+) -> io::Result<History> {
+    match read_history_pieces(rt, path)? {
+        Some(pieces) => Ok(History::InPieces(pieces)),
+        None => Ok(History::Whole(read_whole(rt, path)?)),
+    }
+}
+
 /// The history that the words name, or the status where it can't be had; why is written to `err`.
-fn history_of<R: Files + Alloc<A = Global>, I: Read, E: Write>(
+fn history_of<R: Files<File = File> + Alloc<A = Global> + Threads + Sync, I: Read, E: Write>(
     rt: &R,
     file: Option<&str>,
     input: &mut I,
     err: &mut E,
-) -> Result<Vec<u8>, u8> {
+) -> Result<History, u8> {
     match file {
-        Some(path) => match read_whole(rt, path) {
+        Some(path) => match read_file(rt, path) {
             Ok(history) => Ok(history),
             Err(error) => Err(report_unread(&error, b"cannot read history\n", path, err)),
         },
         None => match read_input(rt.alloc(), input) {
-            Ok(history) => Ok(history),
+            Ok(history) => Ok(History::Whole(history)),
             Err(fault) => Err(report_look(&Err(fault), err)),
         },
     }
@@ -67,7 +90,7 @@ fn write_found<O: Write>(
 fn judge_shown<'a, E: Write + IsTerminal>(
     alloc: Global,
     words: &JudgeWords,
-    history: &'a [u8],
+    history: &'a History,
     err: &mut E,
 ) -> Result<Judgement<'a>, LookFault> {
     let settings = JudgeSettings {
@@ -75,7 +98,10 @@ fn judge_shown<'a, E: Write + IsTerminal>(
         unordered: words.unordered,
     };
     let mut shown = Shown::new(err);
-    let found = judge_watched(alloc, history, &settings, &mut shown);
+    let found = match history {
+        History::Whole(text) => judge_watched(alloc, text, &settings, &mut shown),
+        History::InPieces(pieces) => judge_pieces(alloc, pieces, &settings, &mut shown),
+    };
     shown.end();
     match found {
         Ok(found) => Ok(found),
@@ -87,7 +113,7 @@ fn judge_shown<'a, E: Write + IsTerminal>(
 fn judge_text<O: Write, E: Write + IsTerminal>(
     alloc: Global,
     words: &JudgeWords,
-    history: &[u8],
+    history: &History,
     out: &mut O,
     err: &mut E,
 ) -> Result<u8, LookFault> {
@@ -101,13 +127,12 @@ fn judge_text<O: Write, E: Write + IsTerminal>(
 
 /// Reads a history whole, from its file or from `input`, and writes what it shows to `out`, and why nothing, or not all, to `err`. It
 /// gives the status.
-pub fn judge_history<R: Files + Alloc<A = Global>, I: Read, O: Write, E: Write + IsTerminal>(
-    rt: &R,
-    words: &JudgeWords,
-    input: &mut I,
-    out: &mut O,
-    err: &mut E,
-) -> u8 {
+pub fn judge_history<
+    R: Files<File = File> + Alloc<A = Global> + Threads + Sync,
+    I: Read,
+    O: Write,
+    E: Write + IsTerminal,
+>(rt: &R, words: &JudgeWords, input: &mut I, out: &mut O, err: &mut E) -> u8 {
     let history = match history_of(rt, words.file, input, err) {
         Ok(history) => history,
         Err(status) => return status,

@@ -18,7 +18,8 @@ const READERS: usize = 4;
 /// How many bytes a thread reads at once.
 const STEP: usize = 1 << 18;
 
-/// The part of a file from a place on: so many bytes, or all if there are fewer. There is room for what follows it.
+/// The part of a file from a place on: so many bytes, or all if there are fewer. There is room for what is put behind it: the front of a
+/// record, or of a line.
 fn read_part(alloc: Global, file: &File, from: u64, size: usize) -> io::Result<Vec<u8>> {
     let mut part = Vec::with_capacity(alloc, size.saturating_add(OVERLAP))?;
     for _ in 0..u64::MAX {
@@ -45,23 +46,20 @@ fn read_part(alloc: Global, file: &File, from: u64, size: usize) -> io::Result<V
     Ok(part)
 }
 
-/// A file in pieces, which threads have read side by side: a large one that can be read from any place on, and isn't in the pcapng format,
-/// whose blocks want one slice. None where it is another.
-pub fn read_pieces<R: Files<File = File> + Alloc<A = Global> + Threads + Sync>(
-    rt: &R,
-    path: &str,
-) -> io::Result<Option<Pieces>> {
-    let (alloc, file) = (rt.alloc(), File::open(rt, path)?);
+/// Whether a file is large and can be read from any place on.
+fn is_large(file: &File) -> io::Result<bool> {
     let about = file.metadata()?;
-    if !about.is_file() || about.len() < LARGE {
-        return Ok(None);
-    }
-    let mut magic = [0; 4];
-    file.read_exact_at(&mut magic, 0)?;
-    if is_pcapng(&magic) {
-        return Ok(None);
-    }
-    let size = usize::try_from(about.len().div_ceil(READERS as u64)).unwrap_or(usize::MAX);
+    Ok(about.is_file() && about.len() >= LARGE)
+}
+
+/// The parts of a file, which threads have read side by side.
+fn read_parts<R: Alloc<A = Global> + Threads + Sync>(
+    rt: &R,
+    file: &File,
+) -> io::Result<Vec<Vec<u8>>> {
+    let alloc = rt.alloc();
+    let len = file.metadata()?.len();
+    let size = usize::try_from(len.div_ceil(READERS as u64)).unwrap_or(usize::MAX);
     let read = thread::map_indices(
         rt,
         alloc,
@@ -69,7 +67,7 @@ pub fn read_pieces<R: Files<File = File> + Alloc<A = Global> + Threads + Sync>(
         &|reader: usize| {
             read_part(
                 alloc,
-                &file,
+                file,
                 (reader as u64).saturating_mul(size as u64),
                 size,
             )
@@ -79,5 +77,36 @@ pub fn read_pieces<R: Files<File = File> + Alloc<A = Global> + Threads + Sync>(
     for part in read {
         parts.push(part?)?;
     }
-    Ok(Some(Pieces::join(alloc, parts)?))
+    Ok(parts)
+}
+
+/// A capture in pieces: a large file that can be read from any place on, and isn't in the pcapng format, whose blocks want one slice. None
+/// where it is another.
+pub fn read_pieces<R: Files<File = File> + Alloc<A = Global> + Threads + Sync>(
+    rt: &R,
+    path: &str,
+) -> io::Result<Option<Pieces>> {
+    let file = File::open(rt, path)?;
+    if !is_large(&file)? {
+        return Ok(None);
+    }
+    let mut magic = [0; 4];
+    file.read_exact_at(&mut magic, 0)?;
+    if is_pcapng(&magic) {
+        return Ok(None);
+    }
+    Ok(Some(Pieces::join(rt.alloc(), read_parts(rt, &file)?)?))
+}
+
+/// A history in pieces: a large file that can be read from any place on. None where it is another.
+pub fn read_history_pieces<R: Files<File = File> + Alloc<A = Global> + Threads + Sync>(
+    rt: &R,
+    path: &str,
+) -> io::Result<Option<bench_history::Pieces>> {
+    let file = File::open(rt, path)?;
+    if !is_large(&file)? {
+        return Ok(None);
+    }
+    let parts = read_parts(rt, &file)?;
+    Ok(Some(bench_history::Pieces::join(rt.alloc(), parts)?))
 }

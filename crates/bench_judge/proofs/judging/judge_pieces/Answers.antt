@@ -3,6 +3,6 @@ use Rattle.bench_judge.specs.Walk.{AreInOrder}
 use Rattle.bench_judge.proofs.InOrder.{history_in_order}
 use Rattle.bench_judge.proofs.judging.judge_pieces.Goals as goal
 
-pub judge_read-requires : goal.judge_read-requires
-judge_read-requires g c =
+pub judge_events-requires : goal.judge_events-requires
+judge_events-requires g c =
     subst AreInOrder (sym c.deref.ensures.value) (history_in_order c.args.history.now c.in-Ok.events.items c.in-Ok.ensures.events)
