@@ -1,6 +1,6 @@
 //! Which events a history has, and which line is bad.
 use crate::shown::{Shown, show};
-use bench_history::{Digits, Event, HistoryFault, read_history};
+use bench_history::{Digits, Event, HistoryFault, Pieces, read_history};
 use script_lines::MOST_SPELLED;
 use std::alloc::{AllocError, Global};
 use std::process::Abort;
@@ -78,6 +78,54 @@ fn a_line_ends_in_a_line_feed_with_or_without_a_carriage_return(rt: HostRuntime)
     ];
     for (history, wanted) in cases {
         compare_events(&rt, rt.alloc(), history, wanted);
+    }
+}
+
+/// A text in three parts, the middle one empty, the first of so many bytes.
+fn pieces_of(alloc: Global, text: &str, at: usize) -> Result<Pieces, AllocError> {
+    let (front, behind) = text.as_bytes().split_at(at.min(text.len()));
+    let mut parts = Vec::new(alloc);
+    parts.push(front.to_vec(alloc)?)?;
+    parts.push(Vec::new(alloc))?;
+    parts.push(behind.to_vec(alloc)?)?;
+    Pieces::join(alloc, parts)
+}
+
+/// Compares the events of the history of each kind of line with those of it in parts.
+fn compare_parts(rt: &impl Abort, alloc: Global, at: usize) {
+    let mut buffer = [0; MOST_SPELLED];
+    let pieces = pieces_of(alloc, EACH_KIND, at).expect(rt, "room for pieces");
+    let events = pieces.read(alloc).expect(rt, "a history without a fault");
+    same!(rt; events.len(), EACH_SHOWN.len(), "cut at {at}");
+    for (event, wanted) in events.iter().zip(&EACH_SHOWN) {
+        same!(rt; show(event, &mut buffer), *wanted, "cut at {at}");
+    }
+}
+
+#[test]
+fn a_history_in_pieces_has_the_same_events_wherever_it_is_cut(rt: HostRuntime) {
+    for at in 0..=EACH_KIND.len() {
+        compare_parts(&rt, rt.alloc(), at);
+    }
+}
+
+/// A history whose third line is bad.
+const BAD: &str = "o \nw\nx 00\nw\n";
+
+/// Looks at the line by which that history is refused, in parts.
+fn look_at_bad_parts(rt: &impl Abort, alloc: Global, at: usize) {
+    let pieces = pieces_of(alloc, BAD, at).expect(rt, "room for pieces");
+    let line = match pieces.read(alloc) {
+        Err(HistoryFault::BadLine(line)) => Some(line),
+        _ => None,
+    };
+    same!(rt; line, Some(3), "cut at {at}");
+}
+
+#[test]
+fn a_bad_line_of_a_history_in_pieces_has_its_number(rt: HostRuntime) {
+    for at in 0..=BAD.len() {
+        look_at_bad_parts(&rt, rt.alloc(), at);
     }
 }
 

@@ -1,5 +1,5 @@
 //! What is found of histories: the counts and steps of explained ones, and what is said of the first line of others that isn't.
-use crate::rows::{find, spell};
+use crate::rows::{find, find_in_pieces, spell};
 use bench_judge::{JudgeFault, JudgeSettings};
 use std::alloc::{AllocError, Global};
 use std::process::Abort;
@@ -36,6 +36,8 @@ fn compare(
     let wanted = spell(alloc, wanted)?;
     let found = find(alloc, text.as_bytes(), settings)?;
     same!(rt; found.as_str(), wanted.as_str(), "{history}");
+    let found = find_in_pieces(alloc, text.as_bytes(), settings)?;
+    same!(rt; found.as_str(), wanted.as_str(), "{history} in pieces");
     Ok(())
 }
 

@@ -1,7 +1,8 @@
 //! Histories, and what is found of them, as a person writes them.
+use bench_history::Pieces;
 use bench_judge::{
     Answer, Counts, Deviation, End, Explanation, JudgeFault, JudgeSettings, Judgement, Leaving,
-    Run, Step, Wrong, WrongFrame, WrongReply, judge,
+    Run, Stage, Step, Watch, Wrong, WrongFrame, WrongReply, judge, judge_pieces,
 };
 use omci_msg::write;
 use script_lines::MOST_SPELLED;
@@ -259,4 +260,26 @@ pub(crate) fn find(
     settings: &JudgeSettings,
 ) -> Result<String, AllocError> {
     words(alloc, &judge(alloc, history, settings))
+}
+
+/// Nothing is told.
+#[derive(Drop)]
+struct Silent;
+
+impl Watch for Silent {
+    fn reached(&mut self, _stage: Stage) {}
+}
+
+/// What is found of a history in pieces, in words: it is cut in the middle.
+pub(crate) fn find_in_pieces(
+    alloc: Global,
+    history: &[u8],
+    settings: &JudgeSettings,
+) -> Result<String, AllocError> {
+    let (front, behind) = history.split_at(history.len() / 2);
+    let mut parts = Vec::new(alloc);
+    parts.push(front.to_vec(alloc)?)?;
+    parts.push(behind.to_vec(alloc)?)?;
+    let pieces = Pieces::join(alloc, parts)?;
+    words(alloc, &judge_pieces(alloc, &pieces, settings, &mut Silent))
 }
