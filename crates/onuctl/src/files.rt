@@ -5,14 +5,19 @@ use std::io;
 use std::io::{ErrorKind, Read, Write};
 use std::rt::Files;
 
-/// The bytes of a file, read into room of its size and a byte more, by which its end is found. So nothing grows, and nothing is
+/// The bytes of an open file, read into room of its size and a byte more, by which its end is found. So nothing grows, and nothing is
 /// copied, while a file is read whose size is known before.
-pub fn read_whole<R: Files + Alloc<A = Global>>(rt: &R, path: &str) -> io::Result<Vec<u8>> {
-    let mut file = File::open(rt, path)?;
+pub fn read_open<F: OpenFile + Read>(alloc: Global, file: &mut F) -> io::Result<Vec<u8>> {
     let size = usize::try_from(file.metadata()?.len()).unwrap_or(0);
-    let mut bytes = Vec::with_capacity(rt.alloc(), size.saturating_add(1))?;
+    let mut bytes = Vec::with_capacity(alloc, size.saturating_add(1))?;
     file.read_to_end(&mut bytes)?;
     Ok(bytes)
+}
+
+/// The bytes of a file.
+pub fn read_whole<R: Files + Alloc<A = Global>>(rt: &R, path: &str) -> io::Result<Vec<u8>> {
+    let mut file = File::open(rt, path)?;
+    read_open(rt.alloc(), &mut file)
 }
 
 /// Why a file can't be had, in words.

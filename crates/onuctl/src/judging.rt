@@ -1,25 +1,16 @@
 //! Whether a right unit may have done what a history says.
-use crate::files::{read_whole, report_unread};
+use crate::files::report_unread;
 use crate::judge_progress::Shown;
-use crate::pieces::read_history_pieces;
-use bench_history::Pieces;
+use crate::pieces::{History, read_history};
 use bench_judge::{JudgeFault, JudgeSettings, Judgement, judge_pieces, judge_watched};
 use command_line::JudgeWords;
 use std::alloc::Global;
 use std::fs::File;
-use std::io;
 use std::io::{ErrorKind, IsTerminal, Read, Write};
 use std::rt::Files;
 use std::thread::Threads;
 use text_judgements::{write_judgement, write_judgement_json};
 use text_writing::{LookFault, TextFault, report_look};
-
-/// A history as it was read: whole, or a large one by several threads.
-#[derive(Drop)]
-enum History {
-    Whole(Vec<u8>),
-    InPieces(Pieces),
-}
 
 /// The status where a history isn't explained.
 const DEVIATES: u8 = 3;
@@ -42,17 +33,6 @@ fn read_input<I: Read>(alloc: Global, input: &mut I) -> Result<Vec<u8>, LookFaul
     }
 }
 
-/// The history in a file.
-fn read_file<R: Files<File = File> + Alloc<A = Global> + Threads + Sync>(
-    rt: &R,
-    path: &str,
-) -> io::Result<History> {
-    match read_history_pieces(rt, path)? {
-        Some(pieces) => Ok(History::InPieces(pieces)),
-        None => Ok(History::Whole(read_whole(rt, path)?)),
-    }
-}
-
 /// The history that the words name, or the status where it can't be had; why is written to `err`.
 fn history_of<R: Files<File = File> + Alloc<A = Global> + Threads + Sync, I: Read, E: Write>(
     rt: &R,
@@ -61,7 +41,7 @@ fn history_of<R: Files<File = File> + Alloc<A = Global> + Threads + Sync, I: Rea
     err: &mut E,
 ) -> Result<History, u8> {
     match file {
-        Some(path) => match read_file(rt, path) {
+        Some(path) => match read_history(rt, path) {
             Ok(history) => Ok(history),
             Err(error) => Err(report_unread(&error, b"cannot read history\n", path, err)),
         },

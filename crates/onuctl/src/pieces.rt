@@ -1,4 +1,5 @@
 //! A large file read by several threads, each into memory of its own.
+use crate::files::read_open;
 use bench_pcapng::is_pcapng;
 use capture_pieces::{OVERLAP, Pieces};
 use std::alloc::Global;
@@ -80,33 +81,54 @@ fn read_parts<R: Alloc<A = Global> + Threads + Sync>(
     Ok(parts)
 }
 
-/// A capture in pieces: a large file that can be read from any place on, and isn't in the pcapng format, whose blocks want one slice. None
-/// where it is another.
-pub fn read_pieces<R: Files<File = File> + Alloc<A = Global> + Threads + Sync>(
-    rt: &R,
-    path: &str,
-) -> io::Result<Option<Pieces>> {
-    let file = File::open(rt, path)?;
-    if !is_large(&file)? {
-        return Ok(None);
-    }
+/// Whether a file begins as one in the pcapng format, whose blocks want one slice.
+fn begins_pcapng(file: &File) -> io::Result<bool> {
     let mut magic = [0; 4];
     file.read_exact_at(&mut magic, 0)?;
-    if is_pcapng(&magic) {
-        return Ok(None);
-    }
-    Ok(Some(Pieces::join(rt.alloc(), read_parts(rt, &file)?)?))
+    Ok(is_pcapng(&magic))
 }
 
-/// A history in pieces: a large file that can be read from any place on. None where it is another.
-pub fn read_history_pieces<R: Files<File = File> + Alloc<A = Global> + Threads + Sync>(
+/// A capture that was read.
+#[derive(Drop)]
+pub enum Capture {
+    /// A large one in the classic format, each part of which a thread read.
+    InPieces(Pieces),
+    /// Another, whole.
+    Whole(Vec<u8>),
+}
+
+/// The capture in a file. It is opened once, since a named pipe has what was written only for who opened it first.
+pub fn read_capture<R: Files<File = File> + Alloc<A = Global> + Threads + Sync>(
     rt: &R,
     path: &str,
-) -> io::Result<Option<bench_history::Pieces>> {
-    let file = File::open(rt, path)?;
-    if !is_large(&file)? {
-        return Ok(None);
+) -> io::Result<Capture> {
+    let mut file = File::open(rt, path)?;
+    if is_large(&file)? && !begins_pcapng(&file)? {
+        let parts = read_parts(rt, &file)?;
+        return Ok(Capture::InPieces(Pieces::join(rt.alloc(), parts)?));
     }
-    let parts = read_parts(rt, &file)?;
-    Ok(Some(bench_history::Pieces::join(rt.alloc(), parts)?))
+    Ok(Capture::Whole(read_open(rt.alloc(), &mut file)?))
+}
+
+/// A history that was read.
+#[derive(Drop)]
+pub enum History {
+    /// A large one, each part of which a thread read.
+    InPieces(bench_history::Pieces),
+    /// Another, whole.
+    Whole(Vec<u8>),
+}
+
+/// The history in a file. It is opened once too.
+pub fn read_history<R: Files<File = File> + Alloc<A = Global> + Threads + Sync>(
+    rt: &R,
+    path: &str,
+) -> io::Result<History> {
+    let mut file = File::open(rt, path)?;
+    if is_large(&file)? {
+        let parts = read_parts(rt, &file)?;
+        let pieces = bench_history::Pieces::join(rt.alloc(), parts)?;
+        return Ok(History::InPieces(pieces));
+    }
+    Ok(History::Whole(read_open(rt.alloc(), &mut file)?))
 }

@@ -3,7 +3,7 @@ use crate::captures::{
     Naming, cut_frames, cut_in_file, explain_fault, packets_of, report_capture, report_cut,
 };
 use crate::files::{read_whole, report_unread};
-use crate::pieces::read_pieces;
+use crate::pieces::{Capture, read_capture};
 use bench_capture::{CaptureFault, FrameFault};
 use bench_pcapng::is_pcapng;
 use capture_pieces::Pieces;
@@ -100,7 +100,11 @@ fn run_parts<
     } else {
         run_pieces(rt, rt.alloc(), trace, pieces, &words.settings, out)
     };
-    report(&outcome, words.frames, err)
+    let status = report(&outcome, words.frames, err);
+    if status == 0 && err.is_terminal() {
+        report_cut(cut_in_file(rt, words.frames), err);
+    }
+    status
 }
 
 /// Forwards the frames of a capture that is held whole.
@@ -108,20 +112,14 @@ fn run_whole<
     R: Files + Alloc<A = Global> + Threads + Wait + Clock + Sync,
     O: Write,
     E: Write + IsTerminal + Send,
->(rt: &R, words: &RunWords, trace: &[u8], out: &mut O, err: &mut E) -> u8 {
-    let file = match read_whole(rt, words.frames) {
-        Ok(file) => file,
-        Err(error) => {
-            return report_unread(&error, b"cannot read frames\n", words.frames, err);
-        }
-    };
-    let status = if is_pcapng(&file) {
-        run_packets(rt, words, trace, &file, out, err)
+>(rt: &R, words: &RunWords, trace: &[u8], file: &[u8], out: &mut O, err: &mut E) -> u8 {
+    let status = if is_pcapng(file) {
+        run_packets(rt, words, trace, file, out, err)
     } else {
-        run_classic(rt, words, trace, &file, out, err)
+        run_classic(rt, words, trace, file, out, err)
     };
     if status == 0 && err.is_terminal() {
-        report_cut(cut_frames(rt.alloc(), &file), err);
+        report_cut(cut_frames(rt.alloc(), file), err);
     }
     status
 }
@@ -140,18 +138,14 @@ pub fn run<
             return report_unread(&error, b"cannot read trace\n", words.trace, err);
         }
     };
-    let pieces = match read_pieces(rt, words.frames) {
-        Ok(pieces) => pieces,
+    let capture = match read_capture(rt, words.frames) {
+        Ok(capture) => capture,
         Err(error) => {
             return report_unread(&error, b"cannot read frames\n", words.frames, err);
         }
     };
-    let Some(pieces) = pieces else {
-        return run_whole(rt, words, &trace, out, err);
-    };
-    let status = run_parts(rt, words, &trace, &pieces, out, err);
-    if status == 0 && err.is_terminal() {
-        report_cut(cut_in_file(rt, words.frames), err);
+    match capture {
+        Capture::InPieces(pieces) => run_parts(rt, words, &trace, &pieces, out, err),
+        Capture::Whole(file) => run_whole(rt, words, &trace, &file, out, err),
     }
-    status
 }
