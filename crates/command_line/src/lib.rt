@@ -1,16 +1,12 @@
-//! The words of the command line: what they ask for, and what is written where they ask for nothing that can be done.
+//! The words of the command line: the grammar that they follow, and what they ask for by it.
 #![tactic(auto)]
 
 mod grammar;
-mod numbered;
-mod reading;
-mod report;
-mod words;
+mod parsing;
 
-pub use numbered::{NumberedFile, read_numbered, read_tpid};
-pub use reading::read_words;
-pub use report::report_words;
-pub use words::{
+pub use command_words::{
     DecodeWords, EncodeWords, ExplainWords, ForwardWords, FrameWords, GraphWords, JudgeWords,
-    LintWords, MibWords, RecordWords, ReplayWords, RulesWords, RunWords, TraceWords, Words,
+    LintWords, MibWords, NumberedFile, RecordWords, ReplayWords, RulesWords, RunWords, TraceWords,
+    Words, read_numbered, read_tpid, report_words,
 };
+pub use parsing::read_words;

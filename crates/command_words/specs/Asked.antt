@@ -1,0 +1,188 @@
+-- What the words ask for.
+use Rattle.std.specs.Prelude.{◌≡◌, ℕ, Bool, true, false, List, [], Option, Some, None, codes, map, option_map}
+use Rattle.std.specs.Borrow.{Bor}
+use Rattle.std.specs.Str.Parse.{IsNumeral, digits_value, without_leading_plus}
+use Rattle.clap.specs.Words.{Row, Text, all_of, first_of, one_of}
+use Rattle.command_words.specs.declared.words.RunWords.{RunWords}
+use Rattle.command_words.specs.declared.words.MibWords.{MibWords}
+use Rattle.command_words.specs.declared.words.RulesWords.{RulesWords}
+use Rattle.command_words.specs.declared.words.ExplainWords.{ExplainWords}
+use Rattle.command_words.specs.declared.words.JudgeWords.{JudgeWords}
+use Rattle.command_words.specs.declared.words.FrameWords.{FrameWords}
+use Rattle.command_words.specs.declared.words.FrameWords.TheVariants.{Bytes, Captured}
+use Rattle.command_words.specs.declared.words.TraceWords.{TraceWords}
+use Rattle.command_words.specs.declared.words.ForwardWords.{ForwardWords}
+use Rattle.command_words.specs.declared.words.RecordWords.{RecordWords}
+use Rattle.command_words.specs.declared.words.ReplayWords.{ReplayWords}
+use Rattle.command_words.specs.declared.words.LintWords.{LintWords}
+use Rattle.command_words.specs.declared.words.GraphWords.{GraphWords}
+use Rattle.command_words.specs.declared.words.DecodeWords.{DecodeWords}
+use Rattle.command_words.specs.declared.words.EncodeWords.{EncodeWords}
+use Rattle.command_words.specs.declared.words.Words.{Words}
+use Rattle.command_words.specs.declared.words.Words.TheVariants.{Replay, Run, Decode, Mib, Rules, Explain, Judge, Forward, Record, Encode, Lint, Graph}
+
+-- the value of an option is a number in decimal digits
+pub record IsNumber (name : Text) (rows : List Row) (n : ℕ) : Type 0 where
+  pub text : Text
+  pub value : one_of name rows ≡ Some text
+  pub numeral : IsNumeral 10 (without_leading_plus text)
+  pub number : n ≡ digits_value 10 (without_leading_plus text)
+
+-- the same of an option that may be left out
+abbrev pub IsOptionalNumber : Text → List Row → Option ℕ → Type 0
+IsOptionalNumber name rows None = first_of name rows ≡ None
+IsOptionalNumber name rows (Some n) = IsNumber name rows n
+
+-- whether an option without a value is given
+pub record IsFlag (name : Text) (rows : List Row) (given : Bool) : Type 0 where
+  pub with : one_of name rows ≡ Some (codes "true") → given ≡ true
+  pub without : one_of name rows ≡ Some (codes "false") → given ≡ false
+
+-- those behind `replay`
+pub record IsReplay (rows : List Row) (words : ReplayWords) : Type 0 where
+  pub json : IsFlag (codes "json") rows words.json
+
+-- the values of the options behind `run`
+pub record IsRun (rows : List Row) (words : RunWords) : Type 0 where
+  pub trace : first_of (codes "trace") rows ≡ Some words.trace.now
+  pub frames : first_of (codes "frames") rows ≡ Some words.frames.now
+  pub port : IsNumber (codes "port") rows words.settings.port
+  pub lanes : IsNumber (codes "lanes") rows words.settings.lanes
+  pub batch : IsNumber (codes "batch") rows words.settings.batch
+  pub after : IsFlag (codes "after") rows words.settings.after
+  pub json : IsFlag (codes "json") rows words.json
+
+-- which messages are applied
+pub record IsTrace (rows : List Row) (words : TraceWords) : Type 0 where
+  pub file : first_of (codes "trace") rows ≡ Some words.file.now
+  pub until : IsOptionalNumber (codes "until") rows words.until
+  pub strict : IsFlag (codes "strict") rows words.strict
+
+-- those behind `mib`
+pub record IsMib (rows : List Row) (words : MibWords) : Type 0 where
+  pub trace : IsTrace rows words.trace
+  pub json : IsFlag (codes "json") rows words.json
+
+-- those behind `rules`
+pub record IsRules (rows : List Row) (words : RulesWords) : Type 0 where
+  pub trace : IsTrace rows words.trace
+  pub port : IsNumber (codes "port") rows words.port
+  pub json : IsFlag (codes "json") rows words.json
+
+-- the frame is given by its bytes alone, or by a capture and its number there
+abbrev pub IsFrame : List Row → FrameWords → Type 0
+IsFrame rows (Bytes digits) =
+    (first_of (codes "bytes") rows ≡ Some digits.now)
+    × (first_of (codes "frames") rows ≡ None)
+    × (first_of (codes "frame") rows ≡ None)
+IsFrame rows (Captured file number) =
+    (first_of (codes "bytes") rows ≡ None)
+    × (first_of (codes "frames") rows ≡ Some file.now)
+    × IsNumber (codes "frame") rows number
+
+-- those behind `explain`
+pub record IsExplain (rows : List Row) (words : ExplainWords) : Type 0 where
+  pub trace : IsTrace rows words.trace
+  pub port : IsNumber (codes "port") rows words.port
+  pub all : IsFlag (codes "all") rows words.all
+  pub json : IsFlag (codes "json") rows words.json
+  pub frame : IsFrame rows words.frame
+
+-- those behind `judge`
+pub record IsJudge (rows : List Row) (words : JudgeWords) : Type 0 where
+  pub file : first_of (codes "history") rows ≡ option_map (λ (name : _). name.now) words.file
+  pub modelled : IsFlag (codes "modelled") rows words.modelled
+  pub unordered : IsFlag (codes "unordered") rows words.unordered
+  pub json : IsFlag (codes "json") rows words.json
+
+-- those behind `forward`
+pub record IsForward (rows : List Row) (words : ForwardWords) : Type 0 where
+  pub trace : IsTrace rows words.trace
+  pub frames : first_of (codes "frames") rows ≡ Some words.frames.now
+  pub port : IsNumber (codes "port") rows words.port
+  pub out : first_of (codes "out") rows ≡ option_map (λ (name : _). name.now) words.out
+  pub verdicts : first_of (codes "verdicts") rows ≡ option_map (λ (name : _). name.now) words.verdicts
+  pub json : IsFlag (codes "json") rows words.json
+
+-- the texts of an option that may be given several times, in order
+abbrev pub texts_given : Option (List Text) → List Text
+texts_given None = []
+texts_given (Some texts) = texts
+
+abbrev pub AreTexts : Text → List Row → List (Bor Text) → Type 0
+AreTexts name rows texts = map (λ (text : Bor Text). text.now) texts ≡ texts_given (all_of name rows)
+
+-- those behind `record`
+pub record IsRecord (rows : List Row) (words : RecordWords) : Type 0 where
+  pub omci : AreTexts (codes "omci") rows words.omci.items
+  pub into : AreTexts (codes "into") rows words.into.items
+  pub out_of : AreTexts (codes "out-of") rows words.out_of.items
+  pub tpids : AreTexts (codes "tpid") rows words.tpids.items
+  pub wait : IsOptionalNumber (codes "wait") rows words.wait
+  pub lost : IsOptionalNumber (codes "lost") rows words.lost
+
+-- those behind `decode`
+pub record IsDecode (rows : List Row) (words : DecodeWords) : Type 0 where
+  pub source : IsFlag (codes "source") rows words.source
+  pub json : IsFlag (codes "json") rows words.json
+
+-- those behind `lint`
+pub record IsLint (rows : List Row) (words : LintWords) : Type 0 where
+  pub trace : IsTrace rows words.trace
+  pub json : IsFlag (codes "json") rows words.json
+
+-- those behind `graph`
+pub record IsGraph (rows : List Row) (words : GraphWords) : Type 0 where
+  pub trace : IsTrace rows words.trace
+  pub port : IsOptionalNumber (codes "port") rows words.port
+
+-- those behind `encode`
+pub record IsEncode (rows : List Row) (words : EncodeWords) : Type 0 where
+  pub file : first_of (codes "text") rows ≡ option_map (λ (name : _). name.now) words.file
+  pub identifier : IsOptionalNumber (codes "id") rows words.identifier
+
+-- what a subcommand asks for, by its name and the values of its options
+abbrev pub IsAskedBy : Option (Text × List Row) → Words → Type 0
+IsAskedBy None words = ⊥
+IsAskedBy (Some (name, rows)) (Replay words) = (name ≡ codes "replay") × IsReplay rows words
+IsAskedBy (Some (name, rows)) (Run words) = (name ≡ codes "run") × IsRun rows words
+IsAskedBy (Some (name, rows)) (Decode words) = (name ≡ codes "decode") × IsDecode rows words
+IsAskedBy (Some (name, rows)) (Mib words) = (name ≡ codes "mib") × IsMib rows words
+IsAskedBy (Some (name, rows)) (Rules words) = (name ≡ codes "rules") × IsRules rows words
+IsAskedBy (Some (name, rows)) (Explain words) = (name ≡ codes "explain") × IsExplain rows words
+IsAskedBy (Some (name, rows)) (Judge words) = (name ≡ codes "judge") × IsJudge rows words
+IsAskedBy (Some (name, rows)) (Forward words) = (name ≡ codes "forward") × IsForward rows words
+IsAskedBy (Some (name, rows)) (Record words) = (name ≡ codes "record") × IsRecord rows words
+IsAskedBy (Some (name, rows)) (Encode words) = (name ≡ codes "encode") × IsEncode rows words
+IsAskedBy (Some (name, rows)) (Lint words) = (name ≡ codes "lint") × IsLint rows words
+IsAskedBy (Some (name, rows)) (Graph words) = (name ≡ codes "graph") × IsGraph rows words
+
+-- all but `record`
+abbrev pub IsNoRecord : Words → Type 0
+IsNoRecord (Replay words) = Unit {0}
+IsNoRecord (Run words) = Unit {0}
+IsNoRecord (Decode words) = Unit {0}
+IsNoRecord (Mib words) = Unit {0}
+IsNoRecord (Rules words) = Unit {0}
+IsNoRecord (Explain words) = Unit {0}
+IsNoRecord (Judge words) = Unit {0}
+IsNoRecord (Forward words) = Unit {0}
+IsNoRecord (Record words) = ⊥
+IsNoRecord (Encode words) = Unit {0}
+IsNoRecord (Lint words) = Unit {0}
+IsNoRecord (Graph words) = Unit {0}
+
+-- what looks at the entities after a trace
+abbrev pub IsLook : Words → Type 0
+IsLook (Replay words) = ⊥
+IsLook (Run words) = ⊥
+IsLook (Decode words) = ⊥
+IsLook (Mib words) = Unit {0}
+IsLook (Rules words) = Unit {0}
+IsLook (Explain words) = Unit {0}
+IsLook (Judge words) = ⊥
+IsLook (Forward words) = ⊥
+IsLook (Record words) = ⊥
+IsLook (Encode words) = ⊥
+IsLook (Lint words) = Unit {0}
+IsLook (Graph words) = Unit {0}

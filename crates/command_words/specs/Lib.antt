@@ -1,0 +1,4 @@
+pub mod Asked
+pub mod Numbered
+pub mod Range
+pub mod Report

@@ -1,0 +1,15 @@
+//! What a command line asks for, as it was taken apart, and what is written where it asks for nothing that can be done.
+#![tactic(auto)]
+
+mod numbered;
+mod reading;
+mod report;
+mod words;
+
+pub use numbered::{NumberedFile, read_numbered, read_tpid};
+pub use reading::{complaint, read_matches};
+pub use report::report_words;
+pub use words::{
+    DecodeWords, EncodeWords, ExplainWords, ForwardWords, FrameWords, GraphWords, JudgeWords,
+    LintWords, MibWords, RecordWords, ReplayWords, RulesWords, RunWords, TraceWords, Words,
+};

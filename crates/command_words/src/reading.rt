@@ -1,0 +1,359 @@
+//! What the words ask for.
+ghost use Rattle.std.specs.Prelude.{◌≡◌, ◌≤◌, ℕ, Option, codes, IfErr, IfNone, IfOk, IfSome};
+ghost use Rattle.clap.specs.Words.{found_of, rows_of, subcommand_rows_of};
+ghost use Rattle.command_words.specs.Asked.{AreTexts, IsAskedBy, IsDecode, IsEncode, IsExplain, IsForward, IsFrame, IsGraph, IsJudge, IsLint, IsLook, IsMib, IsNoRecord, IsOptionalNumber, IsRecord, IsReplay, IsRules, IsRun, IsTrace};
+ghost use Rattle.command_words.specs.declared.words.Words.{Words};
+ghost use Rattle.command_words.specs.declared.words.RecordWords.{RecordWords};
+ghost use Rattle.command_words.specs.declared.words.RunWords.{RunWords};
+ghost use Rattle.command_words.specs.declared.words.MibWords.{MibWords};
+ghost use Rattle.command_words.specs.declared.words.RulesWords.{RulesWords};
+ghost use Rattle.command_words.specs.declared.words.ExplainWords.{ExplainWords};
+ghost use Rattle.command_words.specs.declared.words.LintWords.{LintWords};
+ghost use Rattle.command_words.specs.declared.words.GraphWords.{GraphWords};
+ghost use Rattle.command_words.specs.declared.words.EncodeWords.{EncodeWords};
+ghost use Rattle.command_words.specs.declared.words.ForwardWords.{ForwardWords};
+ghost use Rattle.command_words.specs.declared.words.FrameWords.{FrameWords};
+ghost use Rattle.command_words.specs.declared.words.TraceWords.{TraceWords};
+ghost use Rattle.command_words.specs.Range.{AreInRange, IsFrameInRange, IsShort, IsInRange, IsLine};
+
+use crate::words::{
+    DecodeWords, EncodeWords, ExplainWords, ForwardWords, FrameWords, GraphWords, JudgeWords,
+    LintWords, MibWords, RecordWords, ReplayWords, RulesWords, RunWords, TraceWords, Words,
+};
+use clap::ArgMatches;
+use run_settings::RunSettings;
+use std::alloc::{AllocError, Global};
+
+/// What the words behind `replay` ask for.
+fn read_replay(given: &ArgMatches<'_>) -> ReplayWords
+    ensures { IsReplay (rows_of (found_of given.now)) result }
+{
+    ReplayWords {
+        json: given.get_flag("json"),
+    }
+}
+
+/// What the options behind `run` ask for; None where one is missing, or no number in its range.
+fn read_run<'a>(given: &ArgMatches<'a>) -> Option<RunWords<'a>>
+    ensures asked { IfSome result (IsRun (rows_of (found_of given.now))) }
+    ensures range { IfSome result (λ words. AreInRange words.settings) }
+    ensures none { IfNone result ((words : RunWords)
+        → IsRun (rows_of (found_of given.now)) words → AreInRange words.settings → ⊥) }
+{
+    let port = given.get_one("port")?;
+    let lanes = given.get_one("lanes")?;
+    let batch = given.get_one("batch")?;
+    let after = given.get_flag("after");
+    Some(RunWords {
+        trace: given.get_str("trace")?,
+        frames: given.get_str("frames")?,
+        settings: RunSettings::new(port, lanes, batch, after)?,
+        json: given.get_flag("json"),
+    })
+}
+
+/// The number of an option that may be left out; None where it is given, and no number of 32 bits.
+fn read_optional(given: &ArgMatches<'_>, name: &str) -> Option<Option<u32>>
+    ensures asked { IfSome result (IsOptionalNumber name.now (rows_of (found_of given.now))) }
+    ensures range { IfSome result IsLine }
+    ensures none { IfNone result ((n : Option ℕ)
+        → IsOptionalNumber name.now (rows_of (found_of given.now)) n → IsLine n → ⊥) }
+{
+    if given.get_str(name).is_none() {
+        return Some(None);
+    }
+    Some(Some(given.get_one(name)?))
+}
+
+/// The number of an option that may be left out; None where it is given, and no number of 16 bits.
+fn read_short(given: &ArgMatches<'_>, name: &str) -> Option<Option<u16>>
+    ensures asked { IfSome result (IsOptionalNumber name.now (rows_of (found_of given.now))) }
+    ensures range { IfSome result IsShort }
+    ensures none { IfNone result ((n : Option ℕ)
+        → IsOptionalNumber name.now (rows_of (found_of given.now)) n → IsShort n → ⊥) }
+{
+    if given.get_str(name).is_none() {
+        return Some(None);
+    }
+    Some(Some(given.get_one(name)?))
+}
+
+/// The frame that `explain` is to explain; None where it is given neither by its bytes alone nor by a capture and its number there.
+fn read_frame<'a>(given: &ArgMatches<'a>) -> Option<FrameWords<'a>>
+    ensures asked { IfSome result (IsFrame (rows_of (found_of given.now))) }
+    ensures range { IfSome result IsFrameInRange }
+    ensures none { IfNone result ((words : FrameWords)
+        → IsFrame (rows_of (found_of given.now)) words → IsFrameInRange words → ⊥) }
+{
+    if let Some(digits) = given.get_str("bytes") {
+        if given.get_str("frames").is_some() || given.get_str("frame").is_some() {
+            return None;
+        }
+        return Some(FrameWords::Bytes(digits));
+    }
+    Some(FrameWords::Captured {
+        file: given.get_str("frames")?,
+        number: given.get_one("frame")?,
+    })
+}
+
+/// Which messages are to be applied; None where the file is missing, or the line's number has over 32 bits.
+fn read_trace<'a>(given: &ArgMatches<'a>) -> Option<TraceWords<'a>>
+    ensures asked { IfSome result (IsTrace (rows_of (found_of given.now))) }
+    ensures range { IfSome result (λ words. IsLine words.until) }
+    ensures none { IfNone result ((words : TraceWords)
+        → IsTrace (rows_of (found_of given.now)) words → IsLine words.until → ⊥) }
+{
+    Some(TraceWords {
+        file: given.get_str("trace")?,
+        until: read_optional(given, "until")?,
+        strict: given.get_flag("strict"),
+    })
+}
+
+/// What the options behind `mib` ask for; None where one is missing, or the line's number has over 32 bits.
+fn read_mib<'a>(given: &ArgMatches<'a>) -> Option<MibWords<'a>>
+    ensures asked { IfSome result (IsMib (rows_of (found_of given.now))) }
+    ensures range { IfSome result (λ words. IsLine words.trace.until) }
+    ensures none { IfNone result ((words : MibWords) → IsMib (rows_of (found_of given.now)) words
+        → IsLine words.trace.until → ⊥) }
+{
+    Some(MibWords {
+        trace: read_trace(given)?,
+        json: given.get_flag("json"),
+    })
+}
+
+/// What the options behind `rules` ask for; None where one is missing, the port has over 16 bits, or the line's number over 32.
+fn read_rules<'a>(given: &ArgMatches<'a>) -> Option<RulesWords<'a>>
+    ensures asked { IfSome result (IsRules (rows_of (found_of given.now))) }
+    ensures range { IfSome result (λ words. (words.port ≤ 65535) × IsLine words.trace.until) }
+    ensures none { IfNone result ((words : RulesWords)
+        → IsRules (rows_of (found_of given.now)) words
+        → words.port ≤ 65535 → IsLine words.trace.until → ⊥) }
+{
+    Some(RulesWords {
+        trace: read_trace(given)?,
+        port: given.get_one("port")?,
+        json: given.get_flag("json"),
+    })
+}
+
+/// What the words behind `explain` ask for; None where one is missing or too much, the port has over 16 bits, or the line's number over 32.
+fn read_explain<'a>(given: &ArgMatches<'a>) -> Option<ExplainWords<'a>>
+    ensures asked { IfSome result (IsExplain (rows_of (found_of given.now))) }
+    ensures range { IfSome result (λ words.
+        (words.port ≤ 65535) × IsFrameInRange words.frame × IsLine words.trace.until) }
+    ensures none { IfNone result ((words : ExplainWords)
+        → IsExplain (rows_of (found_of given.now)) words
+        → words.port ≤ 65535 → IsFrameInRange words.frame → IsLine words.trace.until → ⊥) }
+{
+    Some(ExplainWords {
+        trace: read_trace(given)?,
+        port: given.get_one("port")?,
+        frame: read_frame(given)?,
+        all: given.get_flag("all"),
+        json: given.get_flag("json"),
+    })
+}
+
+/// What the options behind `lint` ask for; None where one is missing, or the line's number has over 32 bits.
+fn read_lint<'a>(given: &ArgMatches<'a>) -> Option<LintWords<'a>>
+    ensures asked { IfSome result (IsLint (rows_of (found_of given.now))) }
+    ensures range { IfSome result (λ words. IsLine words.trace.until) }
+    ensures none { IfNone result ((words : LintWords) → IsLint (rows_of (found_of given.now)) words
+        → IsLine words.trace.until → ⊥) }
+{
+    Some(LintWords {
+        trace: read_trace(given)?,
+        json: given.get_flag("json"),
+    })
+}
+
+/// What the options behind `graph` ask for; None where one is missing, the port has over 16 bits, or the line's number over 32.
+fn read_graph<'a>(given: &ArgMatches<'a>) -> Option<GraphWords<'a>>
+    ensures asked { IfSome result (IsGraph (rows_of (found_of given.now))) }
+    ensures range { IfSome result (λ words. IsShort words.port × IsLine words.trace.until) }
+    ensures none { IfNone result ((words : GraphWords)
+        → IsGraph (rows_of (found_of given.now)) words
+        → IsShort words.port → IsLine words.trace.until → ⊥) }
+{
+    Some(GraphWords {
+        trace: read_trace(given)?,
+        port: read_short(given, "port")?,
+    })
+}
+
+/// What the options behind `forward` ask for; None where one is missing, or no number in its range.
+fn read_forward<'a>(given: &ArgMatches<'a>) -> Option<ForwardWords<'a>>
+    ensures asked { IfSome result (IsForward (rows_of (found_of given.now))) }
+    ensures range { IfSome result (λ words. (words.port ≤ 65535) × IsLine words.trace.until) }
+    ensures none { IfNone result ((words : ForwardWords)
+        → IsForward (rows_of (found_of given.now)) words
+        → words.port ≤ 65535 → IsLine words.trace.until → ⊥) }
+{
+    Some(ForwardWords {
+        trace: read_trace(given)?,
+        frames: given.get_str("frames")?,
+        port: given.get_one("port")?,
+        out: given.get_str("out"),
+        verdicts: given.get_str("verdicts"),
+        json: given.get_flag("json"),
+    })
+}
+
+/// What the words behind `judge` ask for.
+fn read_judge<'a>(given: &ArgMatches<'a>) -> JudgeWords<'a>
+    ensures { IsJudge (rows_of (found_of given.now)) result }
+{
+    JudgeWords {
+        file: given.get_str("history"),
+        modelled: given.get_flag("modelled"),
+        unordered: given.get_flag("unordered"),
+        json: given.get_flag("json"),
+    }
+}
+
+/// What the words behind `decode` ask for.
+fn read_decode(given: &ArgMatches<'_>) -> DecodeWords
+    ensures { IsDecode (rows_of (found_of given.now)) result }
+{
+    DecodeWords {
+        source: given.get_flag("source"),
+        json: given.get_flag("json"),
+    }
+}
+
+/// What the words behind `encode` ask for; None where the identifier has over 16 bits.
+fn read_encode<'a>(given: &ArgMatches<'a>) -> Option<EncodeWords<'a>>
+    ensures asked { IfSome result (IsEncode (rows_of (found_of given.now))) }
+    ensures range { IfSome result (λ words. IsShort words.identifier) }
+    ensures none { IfNone result ((words : EncodeWords)
+        → IsEncode (rows_of (found_of given.now)) words → IsShort words.identifier → ⊥) }
+{
+    Some(EncodeWords {
+        file: given.get_str("text"),
+        identifier: read_short(given, "id")?,
+    })
+}
+
+/// The texts of an option that may be given several times, in order.
+fn texts_of<'a>(
+    alloc: Global,
+    given: &ArgMatches<'a>,
+    name: &str,
+) -> Result<Vec<&'a str>, AllocError>
+    ensures { IfOk result (λ texts. AreTexts name.now (rows_of (found_of given.now)) texts.items) }
+{
+    match given.get_strs(name) {
+        Some(texts) => texts.to_vec(alloc),
+        None => Ok(Vec::new(alloc)),
+    }
+}
+
+/// What the options behind `record` ask for; None where a time is no number of 32 bits.
+fn read_record<'a>(
+    alloc: Global,
+    given: &ArgMatches<'a>,
+) -> Result<Option<RecordWords<'a>>, AllocError>
+    ensures asked { IfOk result (λ read. IfSome read (IsRecord (rows_of (found_of given.now)))) }
+    ensures range { IfOk result (λ read. IfSome read (λ words.
+        IsLine words.wait × IsLine words.lost)) }
+    ensures none { IfOk result (λ read. IfNone read ((words : RecordWords)
+        → IsRecord (rows_of (found_of given.now)) words
+        → IsLine words.wait → IsLine words.lost → ⊥)) }
+{
+    let Some(wait) = read_optional(given, "wait") else {
+        return Ok(None);
+    };
+    let Some(lost) = read_optional(given, "lost") else {
+        return Ok(None);
+    };
+    Ok(Some(RecordWords {
+        omci: texts_of(alloc, given, "omci")?,
+        into: texts_of(alloc, given, "into")?,
+        out_of: texts_of(alloc, given, "out-of")?,
+        tpids: texts_of(alloc, given, "tpid")?,
+        wait,
+        lost,
+    }))
+}
+
+/// What a parse asks for that looks at the entities after a trace; None where it is nothing of that, a value is missing, or no number in
+/// its range.
+fn read_look<'a>(matches: &ArgMatches<'a>) -> Option<Words<'a>>
+    ensures asked { IfSome result (IsAskedBy (subcommand_rows_of matches.now)) }
+    ensures range { IfSome result IsInRange }
+    ensures none { IfNone result ((words : Words) → IsAskedBy (subcommand_rows_of matches.now) words
+        → IsInRange words → IsLook words → ⊥) }
+{
+    if let Some(given) = matches.subcommand_matches("mib") {
+        return Some(Words::Mib(read_mib(given)?));
+    }
+    if let Some(given) = matches.subcommand_matches("rules") {
+        return Some(Words::Rules(read_rules(given)?));
+    }
+    if let Some(given) = matches.subcommand_matches("explain") {
+        return Some(Words::Explain(read_explain(given)?));
+    }
+    if let Some(given) = matches.subcommand_matches("lint") {
+        return Some(Words::Lint(read_lint(given)?));
+    }
+    let given = matches.subcommand_matches("graph")?;
+    Some(Words::Graph(read_graph(given)?))
+}
+
+/// What a parse asks for, but for `record`; None where it is that, a value is missing, or no number in its range.
+fn read_others<'a>(matches: &ArgMatches<'a>) -> Option<Words<'a>>
+    ensures asked { IfSome result (IsAskedBy (subcommand_rows_of matches.now)) }
+    ensures range { IfSome result IsInRange }
+    ensures none { IfNone result ((words : Words) → IsAskedBy (subcommand_rows_of matches.now) words
+        → IsInRange words → IsNoRecord words → ⊥) }
+{
+    if let Some(given) = matches.subcommand_matches("replay") {
+        return Some(Words::Replay(read_replay(given)));
+    }
+    if let Some(given) = matches.subcommand_matches("decode") {
+        return Some(Words::Decode(read_decode(given)));
+    }
+    if let Some(given) = matches.subcommand_matches("encode") {
+        return Some(Words::Encode(read_encode(given)?));
+    }
+    if let Some(given) = matches.subcommand_matches("run") {
+        return Some(Words::Run(read_run(given)?));
+    }
+    if let Some(given) = matches.subcommand_matches("judge") {
+        return Some(Words::Judge(read_judge(given)));
+    }
+    if let Some(given) = matches.subcommand_matches("forward") {
+        return Some(Words::Forward(read_forward(given)?));
+    }
+    read_look(matches)
+}
+
+/// What a parse asks for; None where a value is missing, or no number in its range.
+pub fn read_matches<'a>(
+    alloc: Global,
+    matches: &ArgMatches<'a>,
+) -> Result<Option<Words<'a>>, AllocError>
+    ensures asked { IfOk result (λ read. IfSome read (IsAskedBy (subcommand_rows_of matches.now))) }
+    ensures range { IfOk result (λ read. IfSome read IsInRange) }
+    ensures none { IfOk result (λ read. IfNone read ((words : Words)
+        → IsAskedBy (subcommand_rows_of matches.now) words → IsInRange words → ⊥)) }
+{
+    let Some(given) = matches.subcommand_matches("record") else {
+        return Ok(read_others(matches));
+    };
+    match read_record(alloc, given)? {
+        Some(words) => Ok(Some(Words::Record(words))),
+        None => Ok(None),
+    }
+}
+
+/// What is said where clap takes words that ask for nothing.
+pub fn complaint(matches: &ArgMatches<'_>) -> &'static str {
+    if matches.subcommand_matches("explain").is_some() {
+        return "give the frame by its bytes alone, or by --frames and --frame";
+    }
+    "a value is missing or out of its range"
+}
