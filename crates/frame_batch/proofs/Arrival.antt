@@ -14,7 +14,7 @@ same_in_every_order count given other out p g = record {
 }
 
 -- lists of one length that have the same at each place
-same_list : (xs ys : List Report) → length xs ≡ length ys → ((k : ℕ) (x : Report) → slice_get xs k ≡ Some x → slice_get ys k ≡ Some x) → xs ≡ ys
+same_list : {X : Type 0} (xs ys : List X) → length xs ≡ length ys → ((k : ℕ) (x : X) → slice_get xs k ≡ Some x → slice_get ys k ≡ Some x) → xs ≡ ys
 same_list [] [] len h = refl
 same_list [] (y ∷ ys) len h = absurd (omega (arith, len))
 same_list (x ∷ xs) [] len h = absurd (omega (arith, len))

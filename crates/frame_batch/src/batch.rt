@@ -79,7 +79,7 @@ impl Report<'_> {
     }
 }
 
-/// What is kept of a report where its verdicts aren't: some 150 bytes, whatever the batch's size.
+/// What is kept of a report where its verdicts aren't: some 400 bytes, whatever the batch's size.
 #[derive(Drop)]
 pub struct Tally {
     /// The number of the lane that forwarded the batch.

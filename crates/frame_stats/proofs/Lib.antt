@@ -1,3 +1,4 @@
 pub mod FigureSums
 mod PortSums
 mod RunSums
+mod Parts

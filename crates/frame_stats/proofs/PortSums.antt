@@ -1,5 +1,5 @@
 -- Frames of ports, entry by entry.
-use Rattle.std.proofs.Common.{◌≡◌, ℕ, ◌+◌, ◌≤◌, ◌<◌, ◌^◌, List, [], ◌∷◌, ◌++◌, ap, subst, ◌∙◌, ⊎_elim, arith, refl, true, false, ◌≢◌}
+use Rattle.std.proofs.Common.{◌≡◌, ℕ, ◌+◌, ◌≤◌, ◌<◌, List, [], ◌∷◌, ◌++◌, ap, subst, sym, ◌∙◌, ⊎_elim, arith, refl, true, false, ◌≢◌}
 use Rattle.std.specs.Prelude.{unwrap_or, cond, nat_eq}
 use Rattle.std.specs.List.{sum_by, AllByRecursion}
 use Rattle.std.specs.List.Sorted.{IsStrictlySortedBy}
@@ -10,7 +10,7 @@ use Rattle.std.specs.BTreeMap.{BTreeMap, is_at}
 use Rattle.std.proofs.lemmas.Bool.Decides.{nat_tests}
 use Rattle.std.proofs.lemmas.Bool.{cases_eq}
 use Rattle.std.proofs.lemmas.List.Sums.{sum_by-cons, sum_by-append}
-use Rattle.frame_stats.specs.Figures.{at_port}
+use Rattle.frame_stats.specs.Ports.{in_map}
 
 -- what these entries have for a port, added up
 abbrev pub sum_at : ℕ → List (ℕ × ℕ) → ℕ
@@ -58,25 +58,27 @@ sum_at_part q n all front rest e =
     let here : cond (nat_eq q q) n 0 ≡ n = rw this refl in
     omega (arith, split, more, here)
 
--- each of these entries fits on top of what a map has for its port
-abbrev pub EntriesFit : BTreeMap ℕ ℕ → List (ℕ × ℕ) → Type 0
-EntriesFit ports es = AllByRecursion (λ e. at_port ports e.0 + e.1 < 2 ^ 64) es
+-- those of a map so far and the next are no more than what it has
+pub entry_part : (m : BTreeMap ℕ ℕ) (q n : ℕ) (front rest : List (ℕ × ℕ)) → IsStrictlySortedBy nat_cmp (keys_of m.entries) → m.entries ≡ front ++ (q, n) ∷ rest
+    → sum_at q front + n ≤ in_map m q
+entry_part m q n front rest sorted e =
+    let part = sum_at_part q n m.entries front rest e in
+    let found = sum_at_entries q m.entries sorted in
+    omega (arith, part, found)
 
-pub fits_push : (ports : BTreeMap ℕ ℕ) (es : List (ℕ × ℕ)) (e : ℕ × ℕ) → EntriesFit ports es → at_port ports e.0 + e.1 < 2 ^ 64 → EntriesFit ports (es ++ e ∷ [])
-fits_push ports [] e all last = (last, tt)
-fits_push ports (x ∷ xs) e all last = (all.0, fits_push ports xs e all.1 last)
+-- what holds of the port of each entry holds of the next one's too
+pub holds_push : (P : ℕ → Type 0) (es : List (ℕ × ℕ)) (e : ℕ × ℕ) → AllByRecursion (λ x. P x.0) es → P e.0 → AllByRecursion (λ x. P x.0) (es ++ e ∷ [])
+holds_push P [] e all last = (last, tt)
+holds_push P (x ∷ xs) e all last = (all.0, holds_push P xs e all.1 last)
 
--- what is found fits, unless it is 0
-pub found_fits : (ports : BTreeMap ℕ ℕ) (q : ℕ) (es : List (ℕ × ℕ)) → EntriesFit ports es → 0 < unwrap_or (lookup (is_at (nat_cmp q)) es) 0
-    → at_port ports q + unwrap_or (lookup (is_at (nat_cmp q)) es) 0 < 2 ^ 64
-found_fits ports q [] all some = absurd (omega arith)
-found_fits ports q (e ∷ es) all some =
+-- what holds of the port of each entry holds of a port that has something in them
+pub found_holds : (P : ℕ → Type 0) (q : ℕ) (es : List (ℕ × ℕ)) → AllByRecursion (λ x. P x.0) es → 0 < unwrap_or (lookup (is_at (nat_cmp q)) es) 0 → P q
+found_holds P q [] all some = absurd (omega arith)
+found_holds P q (e ∷ es) all some =
     ⊎_elim
-    (λ (same : q ≡ e.0).
-    let there : is_eq (nat_cmp q e.0) ≡ true = same_test q e.0 ∙ grind (arith, nat_tests) in
-    rw (there, same) all.0)
+    (λ (same : q ≡ e.0). subst P (sym same) all.0)
     (λ (other : q ≢ e.0).
     let there : is_eq (nat_cmp q e.0) ≡ false = same_test q e.0 ∙ grind (arith, nat_tests) in
     let rest : 0 < unwrap_or (lookup (is_at (nat_cmp q)) es) 0 = rw there at some in
-    rw there (found_fits ports q es all.1 rest))
+    found_holds P q es all.1 rest)
     (cases_eq q e.0)

@@ -1,14 +1,15 @@
 -- What is counted of the verdicts on frames.
-use Rattle.std.specs.Prelude.{◌≡◌, ◌≢◌, ◌<◌, ◌≤◌, ◌^◌, ℕ, ◌+◌, ◌-◌, ◌==◌, Bool, false, if◌then◌else◌, List, length, take, filter, slice_index, unwrap_or, Some}
+use Rattle.std.specs.Prelude.{◌≡◌, ◌<◌, ◌≤◌, ◌^◌, ℕ, ◌+◌, ◌-◌, ◌==◌, Bool, false, if◌then◌else◌, List, length, take, filter, slice_index}
 use Rattle.std.specs.List.{sum_by}
-use Rattle.std.specs.Ordering.{nat_cmp}
-use Rattle.std.specs.BTreeMap.{BTreeMap, get}
 use Rattle.tag_view.specs.Frame.{frame_bytes}
 use Rattle.frame_meaning.specs.declared.reason.Reason.{Reason}
 use Rattle.frame_meaning.specs.declared.verdict.Verdict.{Verdict}
 use Rattle.frame_meaning.specs.declared.verdict.Verdict.TheVariants.{Forward, Drop}
 use Rattle.frame_meaning.specs.Reason.{number_of_reason}
 use Rattle.frame_stats.specs.declared.counts.Counts.{Counts}
+use Rattle.frame_stats.specs.declared.port_counts.PortCounts.{PortCounts}
+use Rattle.frame_stats.specs.Ports.{in_map, NoneIsZero}
+use Rattle.frame_stats.specs.Runs.{in_runs}
 
 -- the frames, the bytes that leave, the frames that are dropped for a reason, and those that leave by a GEM port
 pub data Figure : Type 0 where
@@ -41,9 +42,9 @@ figure (FramesTo port) verdicts = length (filter (leaves_by_port port) verdicts)
 
 -- ---- of counts
 
--- the count of a GEM port, 0 where it is absent
-abbrev pub at_port : BTreeMap ℕ ℕ → ℕ → ℕ
-at_port ports port = unwrap_or (get nat_cmp ports port) 0
+-- the count of a GEM port
+abbrev pub at_port : PortCounts → ℕ → ℕ
+at_port ports port = in_map ports.others port + in_runs port ports.runs
 
 -- the figure that counts show
 abbrev pub counted : Counts → Figure → ℕ
@@ -53,13 +54,13 @@ counted c (DropsFor reason) = slice_index c.drops (number_of_reason reason - 1)
 counted c (FramesTo port) = at_port c.ports port
 
 -- a GEM port has more frames, and every other as many as before
-abbrev pub AddsFrames : ℕ → ℕ → BTreeMap ℕ ℕ → BTreeMap ℕ ℕ → Type 0
+abbrev pub AddsFrames : ℕ → ℕ → PortCounts → PortCounts → Type 0
 AddsFrames gem frames old new =
     (port : ℕ) → at_port new port ≡ at_port old port + (if gem == port then frames else 0)
 
--- no entry is 0
-abbrev pub HasNoZeros : BTreeMap ℕ ℕ → Type 0
-HasNoZeros ports = (port : ℕ) → get nat_cmp ports port ≢ Some 0
+-- no entry of their map is 0
+abbrev pub HasNoZeros : PortCounts → Type 0
+HasNoZeros ports = NoneIsZero ports.others
 
 -- these counts are those of the verdicts
 pub record AreCountsOf (verdicts : List Verdict) (c : Counts) : Type 0 where

@@ -1,15 +1,11 @@
--- Counts on the way.
+-- What one verdict adds to a figure.
 use Rattle.std.specs.Prelude.{ℕ, ◌+◌, ◌==◌, length, if◌then◌else◌}
 use Rattle.tag_view.specs.Frame.{frame_bytes}
 use Rattle.frame_meaning.specs.declared.reason.Reason.{Reason}
 use Rattle.frame_meaning.specs.declared.verdict.Verdict.{Verdict}
 use Rattle.frame_meaning.specs.declared.verdict.Verdict.TheVariants.{Forward, Drop}
 use Rattle.frame_meaning.specs.Reason.{number_of_reason}
-use Rattle.frame_stats.specs.declared.port_tally.PortTally.{PortTally}
-use Rattle.frame_stats.specs.Figures.{Figure, Frames, Bytes, DropsFor, FramesTo, at_port}
-use Rattle.frame_stats.specs.Runs.{in_runs}
-
--- ---- one verdict more
+use Rattle.frame_stats.specs.Figures.{Figure, Frames, Bytes, DropsFor, FramesTo}
 
 -- what a frame of this length that leaves by this port adds to a figure
 abbrev pub leaving : Figure → ℕ → ℕ → ℕ
@@ -29,9 +25,3 @@ dropping (FramesTo port) found = 0
 abbrev pub weight : Figure → Verdict → ℕ
 weight f (Forward gem frame) = leaving f gem (length (frame_bytes frame))
 weight f (Drop found) = dropping f found
-
--- ---- ports
-
--- the frames of a port that a tally shows
-abbrev pub frames_of : PortTally → ℕ → ℕ
-frames_of t port = at_port t.ports port + in_runs port t.runs

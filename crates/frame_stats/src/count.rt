@@ -3,19 +3,18 @@ ghost use Rattle.std.specs.Prelude.{◌≡◌, ◌+◌, ◌-◌, ◌≤◌, ◌<
 ghost use Rattle.tag_view.specs.Frame.{frame_bytes};
 ghost use Rattle.frame_meaning.specs.Reason.{number_of_reason};
 ghost use Rattle.frame_meaning.specs.declared.reason.Reason.{Reason};
-ghost use Rattle.frame_stats.specs.Figures.{AreCountsOf, Bytes, DropsFor, FramesTo, NamesPort, SomePasses};
-ghost use Rattle.frame_stats.specs.Tallies.{frames_of, weight};
+ghost use Rattle.frame_stats.specs.Figures.{AreCountsOf, at_port, Bytes, DropsFor, FramesTo, NamesPort, SomePasses};
+ghost use Rattle.frame_stats.specs.Tallies.{weight};
 
 use crate::counts::Counts;
 use crate::fault::CountFault;
-use crate::port_tally::PortTally;
+use crate::port_counts::PortCounts;
 use frame_meaning::{OutFrame, Verdict};
 use std::alloc::Global;
 
-/// The counts of these verdicts, without an entry for a GEM port that has no frames. It takes memory for the entry of each GEM
-/// port.
+/// The counts of these verdicts. It takes memory for the GEM ports that have to give up their places to others.
 ///
-/// [`CountFault::CountFull`] where a sum passes 64 bits, [`CountFault::NoMemory`] where there is no memory for an entry. Verdict
+/// [`CountFault::CountFull`] where a sum passes 64 bits, [`CountFault::NoMemory`] where there is no memory for such a port. Verdict
 /// by verdict, the sums are looked at before memory is asked for.
 pub fn count_of(alloc: Global, verdicts: &[Verdict<'_>]) -> Result<Counts, CountFault>
     ensures counts { IfOk result (λ c. AreCountsOf verdicts.now c) }
@@ -26,23 +25,18 @@ pub fn count_of(alloc: Global, verdicts: &[Verdict<'_>]) -> Result<Counts, Count
     let frames = verdicts.len() as u64;
     let mut bytes = 0;
     let mut drops = [0; 9];
-    let mut ports = PortTally::new(alloc);
+    let mut ports = PortCounts::new(alloc);
     for verdict in verdicts {
-        match note(verdict, &mut bytes, &mut drops, &mut ports) {
-            Ok(()) => {}
-            Err(CountFault::CountFull) => return Err(full_behind(ports)),
-            Err(CountFault::NoMemory) => return Err(CountFault::NoMemory),
+        if let Err(fault) = note(verdict, &mut bytes, &mut drops, &mut ports) {
+            return Err(fault);
         }
     }
-    match ports.finish() {
-        Ok(ports) => Ok(Counts {
-            frames,
-            bytes,
-            drops,
-            ports,
-        }),
-        Err(_) => Err(CountFault::NoMemory),
-    }
+    Ok(Counts {
+        frames,
+        bytes,
+        drops,
+        ports,
+    })
 }
 
 /// Counts a verdict in the bytes, the drops and the frames of GEM ports.
@@ -51,11 +45,11 @@ fn note(
     verdict: &Verdict<'_>,
     bytes: &mut u64,
     drops: &mut [u64; 9],
-    ports: &mut PortTally,
+    ports: &mut PortCounts,
 ) -> Result<(), CountFault>
     requires few_drops { (reason : Reason)
         → slice_index drops.old (number_of_reason reason - 1) + 1 < 2 ^ 64 }
-    requires few_frames { (port : ℕ) → frames_of ports.old port + 1 < 2 ^ 64 }
+    requires few_frames { (port : ℕ) → at_port ports.old port + 1 < 2 ^ 64 }
     ensures bytes { OnOk result (bytes.new ≡ bytes.old + weight Bytes verdict.now) }
     ensures fits { OnOk result (bytes.new < 2 ^ 64) }
     ensures drops { OnOk result ((reason : Reason)
@@ -63,12 +57,12 @@ fn note(
         ≡ slice_index drops.old (number_of_reason reason - 1)
         + weight (DropsFor reason) verdict.now) }
     ensures ports { OnOk result ((port : ℕ)
-        → frames_of ports.new port
-        ≡ frames_of ports.old port + weight (FramesTo port) verdict.now) }
+        → at_port ports.new port
+        ≡ at_port ports.old port + weight (FramesTo port) verdict.now) }
     ensures full { IsErrOf result CountFault.CountFull
-        → (2 ^ 64 ≤ bytes.old + weight Bytes verdict.now) × (ports.new ≡ ports.old) }
+        → 2 ^ 64 ≤ bytes.old + weight Bytes verdict.now }
     ensures memory { IsErrOf result CountFault.NoMemory
-        → (port : ℕ) × (0 < frames_of ports.old port) }
+        → (port : ℕ) × (0 < at_port ports.old port) }
 {
     let so_far = *bytes;
     match verdict {
@@ -77,7 +71,7 @@ fn note(
                 return Err(CountFault::CountFull);
             };
             *bytes = sum;
-            match ports.note(*gem) {
+            match ports.add(*gem, 1) {
                 Ok(()) => Ok(()),
                 Err(_) => Err(CountFault::NoMemory),
             }
@@ -100,17 +94,4 @@ fn with_frame(bytes: u64, frame: &OutFrame<'_>) -> Option<u64>
     let before_rest = frame.addresses().len() + 4 * frame.tags().len();
     let len = before_rest.checked_add(frame.rest().len())?;
     bytes.checked_add(len as u64)
-}
-
-/// The fault where a sum passes 64 bits: memory for the entries of the frames before is asked for first.
-#[cold]
-#[inline(never)]
-fn full_behind(ports: PortTally) -> CountFault
-    requires { (port : ℕ) → frames_of ports port < 2 ^ 64 }
-    ensures { result ≡ CountFault.NoMemory → (port : ℕ) × (0 < frames_of ports port) }
-{
-    match ports.finish() {
-        Ok(_) => CountFault::CountFull,
-        Err(_) => CountFault::NoMemory,
-    }
 }

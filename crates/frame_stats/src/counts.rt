@@ -1,6 +1,6 @@
 //! Counts of verdicts.
+use crate::port_counts::PortCounts;
 use std::alloc::Global;
-use std::collections::BTreeMap;
 
 /// What is counted of verdicts on frames.
 #[derive(Debug, Drop)]
@@ -11,8 +11,8 @@ pub struct Counts {
     pub bytes: u64,
     /// The frames that are dropped: those for the reason of number r at place r - 1.
     pub drops: [u64; 9],
-    /// The frames that are forwarded, by the port-ID of the GEM port. A port that is absent has none.
-    pub ports: BTreeMap<u16, u64>,
+    /// The frames that are forwarded, by the port-ID of the GEM port.
+    pub ports: PortCounts,
 }
 
 impl Counts {
@@ -28,7 +28,7 @@ impl Counts {
             frames: 0,
             bytes: 0,
             drops: [0; 9],
-            ports: BTreeMap::new(alloc),
+            ports: PortCounts::new(alloc),
         }
     }
 }

@@ -4,8 +4,8 @@
 //! verdicts are a drop for each reason and leave by each GEM port. [`count_of`] gives all of them. Every claim about counts is
 //! made figure by figure, where a GEM port that is absent counts 0.
 //!
-//! **A count per port costs little.** The frames of a port gather in one of 16 places, which its number chooses, and go to the map
-//! when another port takes that place, or at the end. So the map is mostly made once, entry by entry, of what is counted.
+//! **A count per port costs little.** The frames of a port gather in one of 16 places, which its number chooses, and go to a map only
+//! where another port takes that place. So the counts of a batch mostly take no memory.
 //!
 //! **A book** keeps a part for each lane and their total. Its type says that the total is the sum of the parts, so whoever holds
 //! the lock round it finds it so. An addition is made aside and then put in place, so a refused one changes nothing.
@@ -15,7 +15,7 @@ mod book;
 mod count;
 mod counts;
 mod fault;
-mod port_tally;
+mod port_counts;
 mod ports;
 mod run;
 mod sums;
@@ -24,4 +24,5 @@ pub use book::StatBook;
 pub use count::count_of;
 pub use counts::Counts;
 pub use fault::{CountFault, StatFault};
+pub use port_counts::PortCounts;
 pub use sums::counts_sum;

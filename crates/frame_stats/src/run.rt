@@ -1,8 +1,9 @@
 //! Frames that left by one GEM port.
-ghost use Rattle.std.specs.Prelude.{◌<◌};
+ghost use Rattle.std.specs.Prelude.{◌≡◌, ◌<◌};
+ghost use Rattle.frame_stats.specs.Ports.{place};
 
-/// Frames that left by a GEM port and aren't in the map yet. Without frames it is that of any port.
-#[derive(Clone, Copy)]
+/// Frames that left by a GEM port. Without frames it is that of any port.
+#[derive(Clone, Copy, Debug)]
 pub(crate) struct Run {
     pub(crate) port: u16,
     pub(crate) frames: u64,
@@ -14,7 +15,8 @@ pub(crate) const RUNS: usize = 16;
 /// The place of a port's run. Up to 15 ports that follow one another, or are 16 or 256 apart, have places of their own.
 #[inline(always)]
 pub(crate) fn place_of(port: u16) -> usize
-    ensures { result < 16 }
+    ensures value { result ≡ place port }
+    ensures inside { result < 16 }
 {
     (u32::from(port) * 0x111 / 256 % 16) as usize
 }

@@ -4,14 +4,13 @@ ghost use Rattle.frame_stats.specs.Figures.{AreSums, SomeSumPasses, SumsFit};
 
 use crate::counts::Counts;
 use crate::fault::CountFault;
-use crate::ports::{add_all, ports_fit};
+use crate::port_counts::PortCounts;
 use std::alloc::Global;
-use std::collections::BTreeMap;
 
-/// The sums of both, figure by figure, without an entry for a GEM port that has no frames. It takes memory for the entries.
+/// The sums of both, figure by figure. It takes memory for the GEM ports that have to give up their places to others.
 ///
 /// [`CountFault::CountFull`] where a sum passes 64 bits, which is looked at first; [`CountFault::NoMemory`] where there is no
-/// memory for an entry.
+/// memory for such a port.
 pub fn counts_sum(alloc: Global, a: &Counts, b: &Counts) -> Result<Counts, CountFault>
     ensures sums { IfOk result (λ c. AreSums a.now b.now c) }
     ensures fits { OnOk result (SumsFit a.now b.now) }
@@ -27,16 +26,16 @@ pub fn counts_sum(alloc: Global, a: &Counts, b: &Counts) -> Result<Counts, Count
     let Some(drops) = drops_sum(&a.drops, &b.drops) else {
         return Err(CountFault::CountFull);
     };
-    if !ports_fit(&a.ports, &b.ports) {
+    if !a.ports.fit(&b.ports) {
         return Err(CountFault::CountFull);
     }
-    let mut ports = BTreeMap::new(alloc);
-    if let Err(fault) = add_all(&mut ports, &a.ports) {
-        return Err(fault);
-    }
-    if let Err(fault) = add_all(&mut ports, &b.ports) {
-        return Err(fault);
-    }
+    let mut ports = PortCounts::new(alloc);
+    let Ok(()) = ports.add_all(&a.ports) else {
+        return Err(CountFault::NoMemory);
+    };
+    let Ok(()) = ports.add_all(&b.ports) else {
+        return Err(CountFault::NoMemory);
+    };
     Ok(Counts {
         frames,
         bytes,

@@ -1,7 +1,8 @@
 -- The lines of batches, one by one, and those of counts, by the list and the map that the counts are held in.
 use Rattle.std.proofs.Common.{◌≡◌, ◌≢◌, ◌<◌, ◌≤◌, ℕ, zero, suc, ◌+◌, ◌-◌, List, [], ◌∷◌, ◌++◌, length, drop, get_or, true, false, refl, ap, sym, subst, ◌∙◌, ⊎_elim, arith, append_assoc}
 use Rattle.std.specs.Prelude.{codes, min, slice_index, unwrap_or, nat_eq, ⊤}
-use Rattle.std.specs.BTreeMap.{is_at}
+use Rattle.std.proofs.Math.Path.{fun_ext}
+use Rattle.std.specs.BTreeMap.{BTreeMap, is_at}
 use Rattle.std.specs.List.{AllByRecursion, flat_map, range_with_len}
 use Rattle.std.specs.List.Sorted.{IsStrictlySortedBy}
 use Rattle.std.specs.Map.{keys_of, lookup}
@@ -10,7 +11,8 @@ use Rattle.std.specs.declared.cmp.Ordering.TheVariants.{Less}
 use Rattle.std.proofs.lemmas.Bool.Decides.{nat_tests}
 use Rattle.std.proofs.lemmas.Bool.{cases_eq}
 use Rattle.std.proofs.lemmas.List.{at_drop_more}
-use Rattle.frame_stats.specs.Figures.{counted}
+use Rattle.frame_stats.specs.Figures.{Figure, FramesTo, counted}
+use Rattle.frame_stats.specs.Ports.{in_map}
 use Rattle.frame_stats.specs.declared.counts.Counts.{Counts}
 use Rattle.run_capture.specs.Lines.{batch_line, batch_lines_from, count_line, drop_lines, gem_lines}
 
@@ -133,6 +135,9 @@ ports_found (suc n) port (e ∷ es) order few =
     ap (λ count. gem_line port count ++ found_lines (port + 1) n (e ∷ es)) here ∙ more)
     (cases_eq e.0 port)
 
-pub gems_shown : (c : Counts) → IsStrictlySortedBy nat_cmp (keys_of c.ports.entries) → Below 65536 c.ports.entries → entry_lines c.ports.entries ≡ gem_lines (counted c)
+pub gems_shown : (of : Figure → ℕ) (ports : BTreeMap ℕ ℕ) → ((port : ℕ) → of (FramesTo port) ≡ in_map ports port) → IsStrictlySortedBy nat_cmp (keys_of ports.entries)
+    → Below 65536 ports.entries → entry_lines ports.entries ≡ gem_lines of
 unfolding gem_lines
-gems_shown c sorted small = sym (ports_found 65536 0 c.ports.entries (ascend c.ports.entries sorted) small)
+gems_shown of ports same sorted small =
+    sym (ports_found 65536 0 ports.entries (ascend ports.entries sorted) small)
+    ∙ ap (λ (found_at : ℕ → ℕ). flat_map (λ gem. gem_line gem (found_at gem)) (range_with_len 0 65536)) (sym (fun_ext same))

@@ -1,12 +1,14 @@
 //! The lines of a run, put behind a text.
-ghost use Rattle.std.specs.Prelude.{◌≡◌, ◌++◌, OnOk, IfOk};
-ghost use Rattle.frame_stats.specs.Figures.{counted};
+ghost use Rattle.std.specs.Prelude.{◌≡◌, ◌++◌, ℕ, OnOk, IfOk};
+ghost use Rattle.frame_stats.specs.Figures.{Figure, FramesTo, counted};
+ghost use Rattle.frame_stats.specs.Ports.{in_map};
 ghost use Rattle.run_capture.specs.Lines.{accepted_line, batch_line, batch_lines_from, count_line, drop_lines, figure_lines, gem_lines, number_line};
 
 use frame_stats::Counts;
 use itoa::Buffer;
 use run_lanes::Ran;
 use std::alloc::{AllocError, Global};
+use std::collections::BTreeMap;
 
 /// Puts a line of words and a number.
 fn put_number(text: &mut Vec<u8>, words: &[u8], number: u64) -> Result<(), AllocError>
@@ -82,24 +84,35 @@ fn put_drops(text: &mut Vec<u8>, counts: &Counts) -> Result<(), AllocError>
     Ok(())
 }
 
-/// Puts the lines of the frames that leave, by ascending GEM port.
-fn put_gems(text: &mut Vec<u8>, counts: &Counts) -> Result<(), AllocError>
-    ensures { OnOk result (text.new.items ≡ text.old.items ++ gem_lines (counted counts.now)) }
+/// Puts the lines of the frames that leave by each of these GEM ports.
+fn put_entries(text: &mut Vec<u8>, ports: &BTreeMap<u16, u64>) -> Result<(), AllocError>
+    ensures { OnOk result ((of : Figure → ℕ)
+        → ((port : ℕ) → of (FramesTo port) ≡ in_map ports.now port)
+        → text.new.items ≡ text.old.items ++ gem_lines of) }
 {
-    for (gem, frames) in &counts.ports {
+    for (gem, frames) in ports {
         put_count(text, b"gem ", usize::from(*gem), *frames)?;
     }
     Ok(())
 }
 
+/// Puts the lines of the frames that leave, by ascending GEM port.
+fn put_gems(alloc: Global, text: &mut Vec<u8>, counts: &Counts) -> Result<(), AllocError>
+    ensures { OnOk result (text.new.items ≡ text.old.items ++ gem_lines (counted counts.now)) }
+{
+    let ports = counts.ports.in_order(alloc)?;
+    put_entries(text, &ports)?;
+    Ok(())
+}
+
 /// Puts the lines of counts.
-fn put_counts(text: &mut Vec<u8>, counts: &Counts) -> Result<(), AllocError>
+fn put_counts(alloc: Global, text: &mut Vec<u8>, counts: &Counts) -> Result<(), AllocError>
     ensures { OnOk result (text.new.items ≡ text.old.items ++ figure_lines (counted counts.now)) }
 {
     put_number(text, b"frames ", counts.frames)?;
     put_number(text, b"bytes ", counts.bytes)?;
     put_drops(text, counts)?;
-    put_gems(text, counts)
+    put_gems(alloc, text, counts)
 }
 
 /// All lines of a run of so many frames in batches of a size.
@@ -116,6 +129,6 @@ pub(crate) fn lines_of(
     let mut text = Vec::new(alloc);
     put_number(&mut text, b"accepted ", ran.accepted)?;
     put_batches(&mut text, size, frames, &ran.versions)?;
-    put_counts(&mut text, &ran.counts)?;
+    put_counts(alloc, &mut text, &ran.counts)?;
     Ok(text)
 }

@@ -44,14 +44,14 @@ fn tagged(verdicts: &[Verdict<'_>]) -> usize {
     count
 }
 
-/// Whether counts show these figures, and GEM port 1024 with this many frames and no other port.
+/// Whether counts show these figures, and GEM port 1024 with this many frames and its neighbours with none.
 fn show(counts: &Counts, frames: u64, bytes: u64, drops: [u64; 9], of_1024: u64) -> bool {
-    let ports = if of_1024 == 0 { 0 } else { 1 };
     counts.frames == frames
         && counts.bytes == bytes
         && counts.drops == drops
-        && counts.ports.len() == ports
-        && counts.ports.get(&1024).copied().unwrap_or(0) == of_1024
+        && counts.ports.frames(1023) == 0
+        && counts.ports.frames(1024) == of_1024
+        && counts.ports.frames(1025) == 0
 }
 
 /// Lets every batch pass.
@@ -359,9 +359,9 @@ fn are_same(a: &Counts, b: &Counts) -> bool {
     a.frames == b.frames
         && a.bytes == b.bytes
         && a.drops == b.drops
-        && a.ports.len() == 1
-        && b.ports.len() == 1
-        && a.ports.get(&1024) == b.ports.get(&1024)
+        && a.ports.frames(1024) == b.ports.frames(1024)
+        && a.ports.frames(1025) == 0
+        && b.ports.frames(1025) == 0
 }
 
 /// The lane that a batch was run by, or why it wasn't.

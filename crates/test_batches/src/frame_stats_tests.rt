@@ -3,7 +3,6 @@ ghost use Rattle.std.specs.Prelude.{◌≤◌};
 use frame_meaning::{OutFrame, Reason, Verdict};
 use frame_stats::{CountFault, Counts, StatBook, StatFault, count_of, counts_sum};
 use std::alloc::Global;
-use std::collections::BTreeMap;
 use std::process::Abort;
 use std::sync::{Mutex, Wait};
 use std::thread;
@@ -66,18 +65,30 @@ const fn of_frames(frames: u64) -> Figures {
     }
 }
 
-/// Whether counts show these figures, and these GEM ports and no others.
-fn show(counts: &Counts, want: &Figures) -> bool {
-    let mut same = counts.ports.len() == want.ports.len();
-    for (port, frames) in want.ports {
-        same = same && counts.ports.get(port) == Some(frames);
+/// Whether counts show these GEM ports and no others, one by one and in order.
+fn show_ports(alloc: Global, counts: &Counts, want: &[(u16, u64)]) -> bool {
+    let Ok(ports) = counts.ports.in_order(alloc) else {
+        return false;
+    };
+    let mut same = ports.len() == want.len();
+    for ((port, frames), (wanted, wanted_frames)) in ports.iter().zip(want) {
+        same = same && port == wanted && frames == wanted_frames;
+        same = same && counts.ports.frames(*wanted) == *wanted_frames;
     }
-    same && counts.frames == want.frames && counts.bytes == want.bytes && counts.drops == want.drops
+    same
+}
+
+/// Whether counts show these figures, and these GEM ports and no others.
+fn show(alloc: Global, counts: &Counts, want: &Figures) -> bool {
+    show_ports(alloc, counts, want.ports)
+        && counts.frames == want.frames
+        && counts.bytes == want.bytes
+        && counts.drops == want.drops
 }
 
 /// Stops a test whose counts don't show these figures.
-fn must_show(rt: &impl Abort, what: &str, counts: &Counts, want: &Figures) {
-    holds!(rt; show(counts, want), "{what}");
+fn must_show(rt: &impl Abort, alloc: Global, what: &str, counts: &Counts, want: &Figures) {
+    holds!(rt; show(alloc, counts, want), "{what}");
 }
 
 /// Stops a test in which verdicts are counted otherwise.
@@ -89,7 +100,7 @@ fn must_count(
     want: &Figures,
 ) {
     let counts = count_of(alloc, verdicts).expect(rt, "counts");
-    must_show(rt, what, &counts, want);
+    must_show(rt, alloc, what, &counts, want);
 }
 
 /// Stops a test in which a book takes counts otherwise.
@@ -105,12 +116,9 @@ fn must_add(
 
 /// Counts of nothing but so many frames.
 fn frames_alone(alloc: Global, frames: u64) -> Counts {
-    Counts {
-        frames,
-        bytes: 0,
-        drops: [0; 9],
-        ports: BTreeMap::new(alloc),
-    }
+    let mut counts = Counts::zero(alloc);
+    counts.frames = frames;
+    counts
 }
 
 /// A frame that is dropped between two that leave.
@@ -151,7 +159,7 @@ fn count_a_late_mapper(rt: &impl Abort, alloc: Global) {
 fn verdicts_are_counted(rt: HostRuntime) {
     must_count(&rt, rt.alloc(), "no verdict", &[], &of_frames(0));
     let cut = sample(rt.alloc()).expect(&rt, "counts");
-    must_show(&rt, "one frame is cut", &cut, &SAMPLE);
+    must_show(&rt, rt.alloc(), "one frame is cut", &cut, &SAMPLE);
     count_a_runt(&rt, rt.alloc());
     count_a_late_mapper(&rt, rt.alloc());
 }
@@ -189,7 +197,7 @@ fn add_to_lanes(rt: &impl Abort, alloc: Global, book: &mut StatBook) {
     must_add(rt, book, 0, &counts, Ok(()));
     same!(rt; book.total().frames, 3);
     must_add(rt, book, 1, &counts, Ok(()));
-    must_show(rt, "total", book.total(), &TWICE);
+    must_show(rt, alloc, "total", book.total(), &TWICE);
     must_add(rt, book, 2, &counts, Err(StatFault::Lane));
 }
 
@@ -207,9 +215,16 @@ fn add_frames(
 }
 
 /// Stops a test in which a lane's part doesn't show these figures.
-fn must_have(rt: &impl Abort, what: &str, book: &StatBook, lane: u16, want: &Figures) {
+fn must_have(
+    rt: &impl Abort,
+    alloc: Global,
+    what: &str,
+    book: &StatBook,
+    lane: u16,
+    want: &Figures,
+) {
     let part = book.part(lane).expect(rt, "a part");
-    must_show(rt, what, part, want);
+    must_show(rt, alloc, what, part, want);
 }
 
 #[test]
@@ -225,9 +240,15 @@ fn a_book_adds_to_a_lane_and_the_total(rt: HostRuntime) {
         u64::MAX,
         Err(StatFault::CountFull),
     );
-    must_show(&rt, "total after a refusal", book.total(), &TWICE);
-    must_have(&rt, "part of lane 0", &book, 0, &SAMPLE);
-    must_have(&rt, "part of lane 1", &book, 1, &SAMPLE);
+    must_show(
+        &rt,
+        rt.alloc(),
+        "total after a refusal",
+        book.total(),
+        &TWICE,
+    );
+    must_have(&rt, rt.alloc(), "part of lane 0", &book, 0, &SAMPLE);
+    must_have(&rt, rt.alloc(), "part of lane 1", &book, 1, &SAMPLE);
 }
 
 /// Adds a drop, and no frame, to lane 1 of a book whose frames are full.
@@ -242,8 +263,8 @@ fn a_book_is_full_where_its_total_is(rt: HostRuntime) {
     let mut book = StatBook::new(rt.alloc(), 2).expect(&rt, "a book");
     add_frames(&rt, rt.alloc(), &mut book, 0, u64::MAX, Ok(()));
     add_frames(&rt, rt.alloc(), &mut book, 1, 1, Err(StatFault::CountFull));
-    must_have(&rt, "the other part", &book, 1, &of_frames(0));
-    must_show(&rt, "total", book.total(), &of_frames(u64::MAX));
+    must_have(&rt, rt.alloc(), "the other part", &book, 1, &of_frames(0));
+    must_show(&rt, rt.alloc(), "total", book.total(), &of_frames(u64::MAX));
     add_a_drop(&rt, rt.alloc(), &mut book);
     holds!(rt; book.part(2).is_none());
 }
@@ -264,7 +285,7 @@ fn counts_are_added_up(rt: HostRuntime) {
         drops: [0, 1, 0, 0, 0, 0, 0, 0, 0],
         ports: &[(1024, 3), (1025, 1)],
     };
-    must_show(&rt, "the sum", &sum, &figures);
+    must_show(&rt, rt.alloc(), "the sum", &sum, &figures);
 }
 
 /// Adds counts to a lane 100 times; whether all are added.
@@ -296,10 +317,10 @@ fn adds_up(rt: &impl Wait, book: &Mutex<StatBook>) -> bool {
         frames = frames.wrapping_add(part.frames);
         bytes = bytes.wrapping_add(part.bytes);
         short = short.wrapping_add(part.drops[1]);
-        left = left.wrapping_add(part.ports.get(&1024).copied().unwrap_or(0));
+        left = left.wrapping_add(part.ports.frames(1024));
     }
     let total = book.total();
-    let total_left = total.ports.get(&1024).copied().unwrap_or(0);
+    let total_left = total.ports.frames(1024);
     (total.frames, total.bytes, total.drops[1], total_left) == (frames, bytes, short, left)
 }
 
@@ -336,5 +357,11 @@ fn the_total_is_the_sum_of_the_parts_at_each_lock(rt: HostRuntime) {
         drops: [0, 800, 0, 0, 0, 0, 0, 0, 0],
         ports: &[(1024, 1_600)],
     };
-    must_show(&rt, "the total", book.lock(&rt).total(), &figures);
+    must_show(
+        &rt,
+        rt.alloc(),
+        "the total",
+        book.lock(&rt).total(),
+        &figures,
+    );
 }

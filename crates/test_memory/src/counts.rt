@@ -10,12 +10,11 @@ use std::thread::Threads;
 /// Whether these are the counts of so many batches, each with a runt and two frames of 20 bytes that leave by GEM port 1024.
 pub(crate) fn are_counts(counts: &Counts, batches: u64) -> bool {
     let leaving = batches.saturating_mul(2);
-    let ports = if batches == 0 { 0 } else { 1 };
     counts.frames == batches.saturating_mul(3)
         && counts.bytes == leaving.saturating_mul(20)
         && counts.drops == [batches, 0, 0, 0, 0, 0, 0, 0, 0]
-        && counts.ports.len() == ports
-        && counts.ports.get(&1024).copied().unwrap_or(0) == leaving
+        && counts.ports.frames(1024) == leaving
+        && counts.ports.frames(1025) == 0
 }
 
 /// The counts of verdicts, asked for again where there was no memory.

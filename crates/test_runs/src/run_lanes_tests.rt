@@ -127,12 +127,11 @@ const NOTHING: Expected = Expected {
 
 /// Whether counts are as expected, with no port but 1024.
 fn show(counts: &Counts, expected: &Expected) -> bool {
-    let ports = if expected.of_1024 == 0 { 0 } else { 1 };
     counts.frames == expected.frames
         && counts.bytes == expected.bytes
         && counts.drops == expected.drops
-        && counts.ports.len() == ports
-        && counts.ports.get(&1024).copied().unwrap_or(0) == expected.of_1024
+        && counts.ports.frames(1024) == expected.of_1024
+        && counts.ports.frames(1025) == 0
 }
 
 /// Whether a run is as expected, by its own counts and by those that the lanes noted.

@@ -1,6 +1,6 @@
 use Rattle.std.proofs.Common.{◌+◌, ◌<◌, ◌^◌, length, get_or, arith, rules, refl}
 use Rattle.frame_stats.proofs.RunSums.{part_of_runs}
-use Rattle.frame_stats.proofs.port_tally.PortTally.note.Goals as goal
+use Rattle.frame_stats.proofs.port_counts.PortCounts.add.Goals as goal
 
 -- the frames of a run are some of its port's
 pub overflow_add-self : goal.overflow_add-self
@@ -8,6 +8,5 @@ overflow_add-self c =
     let inside : c.place_of-place.result < length c.args.self.now.runs = search rules in
     let run = get_or c.args.self.now.runs c.place_of-place.result (record { port = 0; frames = 0 }) in
     let part = part_of_runs run.port c.args.self.now.runs c.place_of-place.result (record { port = 0; frames = 0 }) inside refl in
-    let few = c.requires run.port in
-    let fits : run.frames + 1 < 2 ^ 64 = omega (arith, part, few) in
+    let fits : run.frames + c.args.frames < 2 ^ 64 = search rules in
     search rules
