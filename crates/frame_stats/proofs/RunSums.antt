@@ -1,7 +1,6 @@
 -- Frames of ports in runs.
-use Rattle.std.proofs.Common.{◌≡◌, ◌≢◌, ℕ, ◌+◌, ◌<◌, ◌≤◌, List, [], ◌∷◌, length, get_or, take, ap, ◌∙◌, sym, subst, ⊎_elim, set, get_or-set_same, get_or-set_other, arith, refl, true, false}
+use Rattle.std.proofs.Common.{◌≡◌, ◌≢◌, ℕ, ◌+◌, ◌<◌, ◌≤◌, List, [], ◌∷◌, length, get_or, take, ap, ◌∙◌, sym, subst, ⊎_elim, set, get_or-set_same, get_or-set_other, arith, refl, true}
 use Rattle.std.specs.Prelude.{cond, nat_eq, zero, suc}
-use Rattle.std.specs.List.{sum_by}
 use Rattle.std.proofs.lemmas.Bool.{cases_eq}
 use Rattle.std.proofs.lemmas.Bool.Decides.{nat_tests}
 use Rattle.std.proofs.lemmas.List.Sums.{sum_by_more_le, sum_by-cons}
@@ -81,13 +80,16 @@ placed_set runs i run lt placed at = λ k some.
     ap (λ (r : Run). place r.port) is ∙ placed k (subst (λ (r : Run). 0 < r.frames) is some))
     (cases_eq k i)
 
--- what holds of the port of each run holds of a port that has frames in them
-pub runs_hold : (P : ℕ → Type 0) (q : ℕ) (runs : List Run) → ((k : ℕ) → k < length runs → P (get_or runs k no_run).port) → 0 < in_runs q runs → P q
+-- what holds of the port of each run with frames holds of a port that has frames in them
+pub runs_hold : (P : ℕ → Type 0) (q : ℕ) (runs : List Run) → ((k : ℕ) → k < length runs → 0 < (get_or runs k no_run).frames → P (get_or runs k no_run).port) → 0 < in_runs q runs → P q
 runs_hold P q [] all some = absurd (omega arith)
 runs_hold P q (x ∷ xs) all some =
+    let behind = λ (here : of_run q x ≡ 0). runs_hold P q xs (λ k lt more. all (suc k) (omega (arith, lt)) more) (omega (arith, in_runs-cons q x xs, here, some)) in
     ⊎_elim
-    (λ (same : x.port ≡ q). subst P same (all 0 (omega arith)))
-    (λ (other : x.port ≢ q).
-    let here : of_run q x ≡ 0 = grind (arith, nat_tests) in
-    runs_hold P q xs (λ k lt. all (suc k) (omega (arith, lt))) (omega (arith, in_runs-cons q x xs, here, some)))
+    (λ (same : x.port ≡ q).
+    ⊎_elim
+    (λ (none : x.frames ≡ 0). behind (grind (arith, nat_tests)))
+    (λ (more : x.frames ≢ 0). subst P same (all 0 (omega arith) (omega (arith, more))))
+    (cases_eq x.frames 0))
+    (λ (other : x.port ≢ q). behind (grind (arith, nat_tests)))
     (cases_eq x.port q)

@@ -1,5 +1,5 @@
 -- What one verdict adds to a figure.
-use Rattle.std.specs.Prelude.{ℕ, ◌+◌, ◌==◌, length, if◌then◌else◌}
+use Rattle.std.specs.Prelude.{ℕ, ◌==◌, length, if◌then◌else◌}
 use Rattle.tag_view.specs.Frame.{frame_bytes}
 use Rattle.frame_meaning.specs.declared.reason.Reason.{Reason}
 use Rattle.frame_meaning.specs.declared.verdict.Verdict.{Verdict}

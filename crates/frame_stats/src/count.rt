@@ -16,6 +16,8 @@ use std::alloc::Global;
 ///
 /// [`CountFault::CountFull`] where a sum passes 64 bits, [`CountFault::NoMemory`] where there is no memory for such a port. Verdict
 /// by verdict, the sums are looked at before memory is asked for.
+// In a lane's loop its sums would have no registers of their own.
+#[inline(never)]
 pub fn count_of(alloc: Global, verdicts: &[Verdict<'_>]) -> Result<Counts, CountFault>
     ensures counts { IfOk result (λ c. AreCountsOf verdicts.now c) }
     ensures full { IsErrOf result CountFault.CountFull → SomePasses verdicts.now }

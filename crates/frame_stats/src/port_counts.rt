@@ -9,7 +9,7 @@ use std::collections::BTreeMap;
 /// How many frames left by each GEM port.
 ///
 /// The frames of a port are in one of 16 places, which its number chooses. Where another port takes that place, they go to a map. So
-/// counts of few ports take no memory.
+/// counts take memory only where two ports have the same place. Up to 15 ports that follow one another have places of their own.
 #[derive(Debug, Drop)]
 pub struct PortCounts {
     others: BTreeMap<u16, u64>,
@@ -97,6 +97,18 @@ impl PortCounts {
         Ok(())
     }
 
+    /// The same counts again. It takes memory for the ports of the map.
+    pub(crate) fn copy(&self, alloc: Global) -> Result<PortCounts, AllocError>
+        ensures { IfOk result (λ ports. (port : ℕ) → at_port ports port ≡ at_port self.now port) }
+    {
+        let mut others = BTreeMap::new(alloc);
+        add_all(&mut others, &self.others)?;
+        Ok(PortCounts {
+            others,
+            runs: self.runs,
+        })
+    }
+
     /// Adds the frames of each port of others.
     pub(crate) fn add_all(&mut self, more: &PortCounts) -> Result<(), AllocError>
         requires { (port : ℕ) → at_port self.old port + at_port more.now port < 2 ^ 64 }
@@ -167,7 +179,7 @@ impl PortCounts {
             ((port : ℕ) × (2 ^ 64 ≤ at_port self.now port + at_port more.now port)) }
     {
         for run in &more.runs {
-            if !self.port_fits(more, run.port) {
+            if run.frames != 0 && !self.port_fits(more, run.port) {
                 return false;
             }
         }

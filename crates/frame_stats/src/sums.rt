@@ -4,7 +4,6 @@ ghost use Rattle.frame_stats.specs.Figures.{AreSums, SomeSumPasses, SumsFit};
 
 use crate::counts::Counts;
 use crate::fault::CountFault;
-use crate::port_counts::PortCounts;
 use std::alloc::Global;
 
 /// The sums of both, figure by figure. It takes memory for the GEM ports that have to give up their places to others.
@@ -29,8 +28,7 @@ pub fn counts_sum(alloc: Global, a: &Counts, b: &Counts) -> Result<Counts, Count
     if !a.ports.fit(&b.ports) {
         return Err(CountFault::CountFull);
     }
-    let mut ports = PortCounts::new(alloc);
-    let Ok(()) = ports.add_all(&a.ports) else {
+    let Ok(mut ports) = a.ports.copy(alloc) else {
         return Err(CountFault::NoMemory);
     };
     let Ok(()) = ports.add_all(&b.ports) else {

@@ -1,4 +1,4 @@
-use Rattle.std.proofs.Common.{◌≡◌, ◌<◌, ◌^◌, length-take, take, ap, arith}
+use Rattle.std.proofs.Common.{length-take, take, arith}
 use Rattle.frame_meaning.specs.declared.reason.Reason.TheVariants.{Runt}
 use Rattle.frame_meaning.specs.declared.verdict.Verdict.TheVariants.{Drop}
 use Rattle.frame_stats.proofs.FigureSums.{drops_within, frames_within, same_fault, some_names_port}
