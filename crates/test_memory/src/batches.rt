@@ -1,5 +1,5 @@
 //! Frames in batches, and their reports gathered.
-use crate::counts::are_counts;
+use crate::counts::{are_counts, are_of_both, counts_of_both};
 use crate::forwarding::{Became, what_became};
 use crate::memory::Memory;
 use crate::seen::{REFUSED_AGAIN, Seen, must, report};
@@ -41,7 +41,7 @@ fn are_verdicts(verdicts: &[Verdict<'_>]) -> bool {
 }
 
 /// The verdicts on the frames, asked for again where there was no memory.
-pub(crate) fn verdicts_of<R: Threads + Sync>(
+fn verdicts_of<R: Threads + Sync>(
     rt: &R,
     memory: &Memory,
     held: &Held<'_>,
@@ -115,12 +115,18 @@ fn gathered(memory: &Memory, held: &Held<'_>) -> Result<Gathered<'static>, Gathe
     gather(memory.first(), reports, 2)
 }
 
-/// The tallies of batches 1 and 0, gathered.
+/// The tallies of batches 1 and 0, gathered, as if the frames of each had left by both ports of one place.
 fn tallied(memory: &Memory, held: &Held<'_>) -> Result<GatheredTallies, GatherFault> {
     let mut tallies = room_for_two(memory)?;
     for batch in [1, 0] {
-        if let Ok(report) = report_of(memory, held, batch) {
-            let _ = tallies.push(report.tally());
+        let (report, counts) = (report_of(memory, held, batch), counts_of_both(memory));
+        if let (Ok(report), Ok(counts)) = (report, counts) {
+            let _ = tallies.push(Tally {
+                lane: report.lane,
+                batch,
+                version: report.version,
+                counts,
+            });
         }
     }
     gather_tallies(memory.first(), tallies, 2)
@@ -128,7 +134,7 @@ fn tallied(memory: &Memory, held: &Held<'_>) -> Result<GatheredTallies, GatherFa
 
 /// Whether it is the tally of a batch of this number.
 fn is_tally(tally: &Tally, batch: u32) -> bool {
-    tally.batch == batch && tally.version == 5 && are_counts(&tally.counts, 1)
+    tally.batch == batch && tally.version == 5 && are_of_both(&tally.counts, 1)
 }
 
 fn call_forward_all<R: Threads + Sync>(rt: &R, memory: &Memory, held: &Held<'_>) -> Seen {
@@ -185,7 +191,7 @@ fn call_gather_tallies(memory: &Memory, held: &Held<'_>) -> Seen {
         [first, second] => is_tally(first, 0) && is_tally(second, 1),
         _ => false,
     };
-    must(in_order && are_counts(&all.counts, 2), "other tallies")
+    must(in_order && are_of_both(&all.counts, 2), "other tallies")
 }
 
 pub(crate) fn make_calls<R: Threads + Sync + Print>(rt: &R, memory: &Memory, held: &Held<'_>) {

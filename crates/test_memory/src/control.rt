@@ -1,8 +1,8 @@
 //! A control with its lanes, and the messages that it takes.
+use crate::batches;
 use crate::forwarding::{Became, what_became};
 use crate::memory::Memory;
 use crate::seen::{REFUSED_AGAIN, Seen, must, report};
-use crate::{batches, counts};
 use plan_publish::{Control, ControlFault, Lane, OpenFault, open};
 use std::sync::Wait;
 use std::thread::Threads;
@@ -126,7 +126,6 @@ fn make_calls_with<R: Threads + Wait + Sync + Print>(
     match lane.enter() {
         Some(held) => {
             batches::make_calls(rt, memory, &held);
-            counts::make_calls(rt, memory, &held);
         }
         None => report(rt, memory, "Lane::enter", Err("it holds nothing")),
     }

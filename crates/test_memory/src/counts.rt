@@ -1,26 +1,49 @@
 //! Counts of verdicts, and the book of them.
-use crate::batches::verdicts_of;
 use crate::memory::Memory;
 use crate::seen::{REFUSED_AGAIN, Seen, must, report};
-use forward_plan::Verdict;
-use frame_stats::{CountFault, Counts, StatBook, StatFault, count_of};
-use plan_publish::Held;
-use std::thread::Threads;
+use forward_plan::{OutFrame, Reason, Verdict};
+use frame_stats::{CountFault, Counts, StatBook, StatFault, count_of, counts_sum};
+use test_draws::UNTAGGED;
 
-/// Whether these are the counts of so many batches, each with a runt and two frames of 20 bytes that leave by GEM port 1024.
-pub(crate) fn are_counts(counts: &Counts, batches: u64) -> bool {
-    let leaving = batches.saturating_mul(2);
+/// Two GEM ports that have the same place in counts: the frames of one of them take memory.
+const PORTS: [u16; 2] = [1024, 1295];
+
+/// Whether these are the counts of so many batches, each with a runt and two frames of 20 bytes that leave, but for their GEM ports.
+fn are_figures(counts: &Counts, batches: u64) -> bool {
     counts.frames == batches.saturating_mul(3)
-        && counts.bytes == leaving.saturating_mul(20)
+        && counts.bytes == batches.saturating_mul(40)
         && counts.drops == [batches, 0, 0, 0, 0, 0, 0, 0, 0]
-        && counts.ports.frames(1024) == leaving
+}
+
+/// Whether they are, and both frames of each batch left by GEM port 1024.
+pub(crate) fn are_counts(counts: &Counts, batches: u64) -> bool {
+    are_figures(counts, batches)
+        && counts.ports.frames(1024) == batches.saturating_mul(2)
         && counts.ports.frames(1025) == 0
 }
 
-/// The counts of verdicts, asked for again where there was no memory.
-fn counts_of(memory: &Memory, verdicts: &[Verdict<'_>]) -> Result<Counts, &'static str> {
-    let counts = match count_of(memory.first(), verdicts) {
-        Err(CountFault::NoMemory) => count_of(memory.again(), verdicts),
+/// Whether they are, and a frame of each batch left by either of the ports of one place.
+pub(crate) fn are_of_both(counts: &Counts, batches: u64) -> bool {
+    are_figures(counts, batches)
+        && counts.ports.frames(PORTS[0]) == batches
+        && counts.ports.frames(PORTS[1]) == batches
+}
+
+/// The untagged frame leaves by a GEM port with a tag of VLAN 100.
+fn leaves(gem: u16) -> Verdict<'static> {
+    let frame = OutFrame::of_words(UNTAGGED.as_slice(), 0, [0x8100_0064, 0, 0, 0], 1);
+    Verdict::Forward { gem, frame }
+}
+
+/// The counts of a batch whose frames leave by both ports, asked for again where there was no memory.
+pub(crate) fn counts_of_both(memory: &Memory) -> Result<Counts, &'static str> {
+    let verdicts = [
+        leaves(PORTS[0]),
+        Verdict::Drop(Reason::Runt),
+        leaves(PORTS[1]),
+    ];
+    let counts = match count_of(memory.first(), &verdicts) {
+        Err(CountFault::NoMemory) => count_of(memory.again(), &verdicts),
         counts => counts,
     };
     counts.map_err(|_| REFUSED_AGAIN)
@@ -41,9 +64,9 @@ pub(crate) fn has(book: &StatBook, lanes: [u64; 2]) -> bool {
     let (Some(zero), Some(one)) = (book.part(0), book.part(1)) else {
         return false;
     };
-    are_counts(zero, first)
-        && are_counts(one, second)
-        && are_counts(book.total(), first.saturating_add(second))
+    are_of_both(zero, first)
+        && are_of_both(one, second)
+        && are_of_both(book.total(), first.saturating_add(second))
         && book.part(2).is_none()
 }
 
@@ -66,9 +89,21 @@ pub(crate) fn add(
     }
 }
 
-fn call_count_of(memory: &Memory, verdicts: &[Verdict<'_>]) -> Seen {
-    let counts = counts_of(memory, verdicts)?;
-    must(are_counts(&counts, 1), "other counts")
+fn call_count_of(memory: &Memory) -> Seen {
+    let counts = counts_of_both(memory)?;
+    must(are_of_both(&counts, 1), "other counts")
+}
+
+fn call_counts_sum(memory: &Memory) -> Seen {
+    let counts = counts_of_both(memory)?;
+    let sums = match counts_sum(memory.first(), &counts, &counts) {
+        Err(CountFault::NoMemory) => counts_sum(memory.again(), &counts, &counts),
+        sums => sums,
+    };
+    match sums {
+        Ok(sums) => must(are_of_both(&sums, 2), "other sums"),
+        Err(_) => Err(REFUSED_AGAIN),
+    }
 }
 
 fn new_book(memory: &Memory) -> Seen {
@@ -76,8 +111,8 @@ fn new_book(memory: &Memory) -> Seen {
     must(has(&book, [0, 0]), "a new book has counts")
 }
 
-fn add_to_book(memory: &Memory, verdicts: &[Verdict<'_>]) -> Seen {
-    let counts = counts_of(memory, verdicts)?;
+fn add_to_book(memory: &Memory) -> Seen {
+    let counts = counts_of_both(memory)?;
     let mut book = book_of(memory)?;
     add(memory, &mut book, 1, &counts, [0, 0])?;
     must(has(&book, [0, 1]), "other sums")?;
@@ -85,13 +120,9 @@ fn add_to_book(memory: &Memory, verdicts: &[Verdict<'_>]) -> Seen {
     must(has(&book, [1, 1]), "other sums")
 }
 
-pub(crate) fn make_calls<R: Threads + Sync + Print>(rt: &R, memory: &Memory, held: &Held<'_>) {
-    match verdicts_of(rt, memory, held) {
-        Ok(verdicts) => {
-            report(rt, memory, "count_of", call_count_of(memory, &verdicts));
-            report(rt, memory, "StatBook::new", new_book(memory));
-            report(rt, memory, "StatBook::add", add_to_book(memory, &verdicts));
-        }
-        Err(_) => report(rt, memory, "count_of", Err("no verdicts")),
-    }
+pub(crate) fn make_calls<R: Print>(rt: &R, memory: &Memory) {
+    report(rt, memory, "count_of", call_count_of(memory));
+    report(rt, memory, "counts_sum", call_counts_sum(memory));
+    report(rt, memory, "StatBook::new", new_book(memory));
+    report(rt, memory, "StatBook::add", add_to_book(memory));
 }

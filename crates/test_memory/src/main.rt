@@ -33,6 +33,7 @@ fn make_calls<R: Threads + Wait + Sync + Print>(rt: &R, memory: &Memory) {
     entities::make_calls(rt, memory);
     forwarding::make_calls(rt, memory);
     control::make_calls(rt, memory);
+    counts::make_calls(rt, memory);
     runs::make_calls(rt, memory);
     judging::make_calls(rt, memory);
 }
