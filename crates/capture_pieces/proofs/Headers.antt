@@ -1,5 +1,5 @@
 -- The header of a capture in pieces stands in the first piece.
-use Rattle.std.proofs.Common.{◌≡◌, ◌≤◌, ◌<◌, ℕ, zero, List, [], ◌∷◌, ◌++◌, Some, length, take, drop, arith, refl, sym, ap, ◌∙◌, append_assoc}
+use Rattle.std.proofs.Common.{◌≡◌, ◌≤◌, ◌<◌, ℕ, zero, List, [], ◌∷◌, ◌++◌, Some, length, take, drop, arith, sym, ap, ◌∙◌, append_assoc}
 use Rattle.std.specs.List.{slice_get}
 use Rattle.std.proofs.lemmas.List.{append-nil, length-take-le, take-append-drop}
 use Rattle.capture.specs.Records.{header_of}

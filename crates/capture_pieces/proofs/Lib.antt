@@ -1,5 +1,10 @@
+pub mod Beginnings
+pub mod Files
 pub mod Fronts
 pub mod Headers
 pub mod Held
 pub mod Listed
+pub mod Passing
 pub mod Places
+pub mod Starts
+pub mod Walked

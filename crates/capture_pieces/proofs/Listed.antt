@@ -1,29 +1,31 @@
--- What the walk over the records says of the file.
-use Rattle.std.proofs.Common.{◌≡◌, ℕ, false, List, [], ◌++◌, Some, None, Ok, Err, Bor, map, drop, refl, sym, ap, ◌∙◌}
-use Rattle.std.proofs.lemmas.List.{append-nil}
-use Rattle.capture.specs.Records.{capture_of, first_fault, frames_in, header_of}
-use Rattle.capture.specs.declared.fault.CaptureFault.{CaptureFault}
+-- The frames of the first records, one after the other.
+use Rattle.std.proofs.Common.{◌≡◌, ◌≤◌, ℕ, List, [], ◌∷◌, ◌++◌, Some, None, Bor, length, map, take, sym, ap, ◌∙◌, append_assoc, arith}
+use Rattle.std.proofs.lemmas.List.{append-nil, length-map, map-append, take_all}
 use Rattle.capture.specs.declared.order.Order.{Order}
-use Rattle.capture.proofs.Walk.{frames_none}
-use Rattle.capture_pieces.specs.declared.listing.Listing.{Listing}
-use Rattle.capture_pieces.specs.Listing.{IsListed}
+use Rattle.capture.specs.declared.record.RecordFault.{RecordFault}
+use Rattle.capture.specs.Records.{behind_first, first_frame, frames_in, record_fault}
+use Rattle.capture.proofs.Walk.{frames_broken, frames_whole}
 
-pub broken_header : (file : List ℕ) (fault : CaptureFault) → header_of file ≡ Err fault → capture_of file ≡ Err fault
-unfolding capture_of
-broken_header file fault header = rw header refl
+-- the bytes of frames
+abbrev bytes_of : List (Bor (List ℕ)) → List (List ℕ)
+bytes_of frames = map (λ (frame : Bor (List ℕ)). frame.now) frames
 
-pub broken_record : (file : List ℕ) (order : Order) (fault : CaptureFault) → header_of file ≡ Ok order → first_fault order (drop 24 file) ≡ Some fault → capture_of file ≡ Err fault
-unfolding capture_of
-broken_record file order fault header broken = rw (header, broken) refl
+-- one frame more is listed
+pub listed_more : (order : Order) (all : List (List ℕ)) (before now : List (Bor (List ℕ))) (frame : Bor (List ℕ)) (left behind : List ℕ)
+    → bytes_of before ++ frames_in order left ≡ all → record_fault order left ≡ None → frame.now ≡ first_frame order left → behind ≡ behind_first order left → now ≡ before ++ frame ∷ []
+    → bytes_of now ++ frames_in order behind ≡ all
+listed_more order all before now frame left behind so_far whole frame_is behind_is pushed =
+    let step : frame.now ∷ frames_in order behind ≡ frames_in order left = rw (frame_is, behind_is) (sym (frames_whole order left whole)) in
+    ap (λ (l : List (Bor (List ℕ))). bytes_of l ++ frames_in order behind) pushed
+    ∙ ap (λ (l : List (List ℕ)). l ++ frames_in order behind) (map-append (λ (f : Bor (List ℕ)). f.now) before (frame ∷ []))
+    ∙ append_assoc (bytes_of before) (frame.now ∷ []) (frames_in order behind)
+    ∙ ap (λ (l : List (List ℕ)). bytes_of before ++ l) step ∙ so_far
 
--- nothing is left
-pub is_capture : (file : List ℕ) (order : Order) (listing : Listing) → header_of file ≡ Ok order → IsListed order (drop 24 file) listing [] → capture_of file ≡ Ok (frames_in order (drop 24 file))
-unfolding capture_of
-is_capture file order listing header listed = rw (header, sym listed.fault) refl
-
-pub frames_listed : (file : List ℕ) (order : Order) (listing : Listing) → header_of file ≡ Ok order → IsListed order (drop 24 file) listing [] → listing.refused ≡ false
-    → capture_of file ≡ Ok (map (λ (frame : Bor (List ℕ)). frame.now) listing.frames.items)
-frames_listed file order listing header listed kept =
-    let items : List (List ℕ) = map (λ (frame : Bor (List ℕ)). frame.now) listing.frames.items in
-    is_capture file order listing header listed
-    ∙ ap (λ (frames : List (List ℕ)). Ok frames) (sym (listed.frames kept) ∙ ap (λ (l : List (List ℕ)). items ++ l) (frames_none order [] refl) ∙ append-nil items)
+-- no further one is there
+pub listed_all : (order : Order) (all : List (List ℕ)) (listed : List (Bor (List ℕ))) (left : List ℕ) (fault : RecordFault) (most : ℕ)
+    → bytes_of listed ++ frames_in order left ≡ all → Some fault ≡ record_fault order left → length listed ≤ most → bytes_of listed ≡ take most all
+listed_all order all listed left fault most so_far broken few =
+    let none : frames_in order left ≡ [] = frames_broken order left fault (sym broken) in
+    let whole : bytes_of listed ≡ all = sym (append-nil (bytes_of listed)) ∙ ap (λ (l : List (List ℕ)). bytes_of listed ++ l) (sym none) ∙ so_far in
+    let size : length (bytes_of listed) ≤ most = omega (arith, few, length-map listed (λ (f : Bor (List ℕ)). f.now)) in
+    sym (take_all most (bytes_of listed) size) ∙ ap (take most) whole

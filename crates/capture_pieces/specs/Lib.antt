@@ -1,2 +1,4 @@
 pub mod Joined
-pub mod Listing
+pub mod Left
+pub mod Cut
+pub mod Walk

@@ -1,9 +1,11 @@
 //! A file in pieces.
 
+use crate::batches::Batches;
+use crate::header::read_order;
 use crate::joining::joined;
-use crate::listing::{list_records, read_order};
 use crate::piece::Piece;
-use capture::ListFault;
+use crate::records::Records;
+use capture::{HEADER_LEN, ListFault};
 use std::alloc::{AllocError, Global};
 use std::marker::Model;
 
@@ -40,6 +42,21 @@ impl Pieces {
         })
     }
 
+    /// The frames of the capture file, cut in order into batches of a size. A fault of the file is told before want of memory.
+    pub fn cut(&self, alloc: Global, size: u32) -> Result<Batches<'_>, ListFault>
+        requires { 0 < size }
+        ensures frames { IfOk result (λ cut. capture_of self.now ≡ Ok cut.frames) }
+        ensures size { IfOk result (λ cut. cut.size ≡ size) }
+        ensures fault { IfErr result (IsWhyNoList self.now) }
+    {
+        let order = match read_order(&self.pieces) {
+            Ok(order) => order,
+            Err(fault) => return Err(ListFault::Capture(fault)),
+        };
+        let records = Records::from_place(&self.pieces, HEADER_LEN);
+        Batches::cut(alloc, order, records, size)
+    }
+
     /// The frames of the capture file, in its order, each as a slice of a piece. A fault of the file is told before want of memory.
     pub fn list_frames(&self, alloc: Global) -> Result<Vec<&[u8]>, ListFault>
         ensures frames { IfOk result (λ list.
@@ -47,17 +64,13 @@ impl Pieces {
         ensures few { IfOk result (λ list. vec_len list < 2 ^ 32) }
         ensures fault { IfErr result (IsWhyNoList self.now) }
     {
-        let order = match read_order(&self.pieces) {
-            Ok(order) => order,
-            Err(fault) => return Err(ListFault::Capture(fault)),
+        let whole = match self.cut(alloc, u32::MAX) {
+            Ok(whole) => whole,
+            Err(fault) => return Err(fault),
         };
-        let listing = match list_records(alloc, order, &self.pieces) {
-            Ok(listing) => listing,
-            Err(fault) => return Err(ListFault::Capture(fault)),
-        };
-        if listing.refused {
-            return Err(ListFault::NoMemory);
+        match whole.frames_of(alloc, 0) {
+            Ok(list) => Ok(list),
+            Err(_) => Err(ListFault::NoMemory),
         }
-        Ok(listing.frames)
     }
 }

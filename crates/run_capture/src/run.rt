@@ -1,9 +1,10 @@
 //! A run: a capture forwarded while a trace is applied, and its lines written.
-ghost use Rattle.std.specs.Prelude.{◌≡◌, ◌<◌, ◌^◌, None, IfOk, IfErr, OnOk, OnErr, length, map, unwrap_or};
+ghost use Rattle.std.specs.Prelude.{◌≡◌, ◌<◌, ◌^◌, ℕ, List, None, IfOk, IfErr, OnOk, OnErr, length, map, unwrap_or};
 ghost use Rattle.std.specs.Io.KnownBytes.{Appends};
 ghost use Rattle.capture.specs.Records.{capture_of};
 ghost use Rattle.text_writing.specs.Written.{AppendsPart};
 ghost use Rattle.mib_state.specs.After.{accepted};
+ghost use Rattle.run_lanes.specs.Frames.{frames_in, IsCutFor};
 ghost use Rattle.run_lanes.specs.Run.{SomeRunPasses};
 ghost use Rattle.run_settings.specs.Settings.{CanRun};
 ghost use Rattle.run_trace.specs.Trace.{requests_of};
@@ -24,11 +25,11 @@ ghost use Rattle.run_capture.specs.declared.fault.RunFault.TheVariants.{NoMemory
 use crate::fault::RunFault;
 use crate::lines::lines_of;
 use crate::progress::{Progress, Watched, show};
-use crate::source::Source;
-use capture::ListFault;
+use crate::source::{Source, listing};
+use capture::list_frames;
 use capture_pieces::Pieces;
 use omci_msg::Request;
-use run_lanes::{LaneFault, RunInput, run_lanes};
+use run_lanes::{LaneFault, RunFrames, RunSource, run_lanes_over};
 use run_settings::RunSettings;
 use run_trace::{TraceFault, read_requests};
 use std::alloc::Global;
@@ -43,29 +44,30 @@ fn output_over<R: Threads + Wait + Sync>(
     rt: &R,
     alloc: Global,
     requests: &[Request],
-    frames: &[&[u8]],
+    frames: RunFrames<'_, '_>,
     settings: &RunSettings,
     progress: &Progress,
 ) -> Result<Vec<u8>, RunFault>
     requires settings { CanRun settings.now }
-    requires few { length frames.now < 2 ^ 32 }
+    requires few { length (frames_in frames) < 2 ^ 32 }
+    requires size { IsCutFor settings.now.batch frames }
     ensures output { IfOk result (λ out. IsOutputOver (accepted requests.now)
-        (map (λ frame. frame.now) frames.now) settings.now out.items) }
+        (frames_in frames.entry) settings.now out.items) }
     ensures fault { IfErr result (IsWhyNone None (SomeRunPasses (accepted requests.now) settings.now
-        (map (λ frame. frame.now) frames.now))) }
+        (frames_in frames.entry))) }
 {
-    let count = frames.len();
+    let count = frames.count();
     progress.begin(count);
     let gate = Watched {
         progress,
         lanes: settings.lanes,
     };
-    let input = RunInput {
+    let input = RunSource {
         requests,
         frames,
         settings,
     };
-    let ran = match run_lanes(rt, alloc, &input, 1, &gate) {
+    let ran = match run_lanes_over(rt, alloc, &input, 1, &gate) {
         Ok(ran) => ran,
         Err(LaneFault::NoMemory) => return Err(RunFault::NoMemory),
         Err(LaneFault::Refused) => return Err(RunFault::Refused),
@@ -75,6 +77,40 @@ fn output_over<R: Threads + Wait + Sync>(
         return Err(RunFault::NoMemory);
     };
     Ok(out)
+}
+
+/// What a run of a file's frames writes, or why it writes nothing. Of a file in pieces no list of all frames is made.
+fn output_of_file<R: Threads + Wait + Sync>(
+    rt: &R,
+    alloc: Global,
+    requests: &[Request],
+    source: Source<'_>,
+    settings: &RunSettings,
+    progress: &Progress,
+) -> Result<Vec<u8>, RunFault>
+    requires { CanRun settings.now }
+    ensures output { (trace : List ℕ) → requests.now ≡ requests_of trace → IfOk result
+        (λ out. IsOutput trace (file_in source.entry) settings.now out.items) }
+    ensures fault { (trace : List ℕ) → requests.now ≡ requests_of trace → IfErr result (IsWhyNone
+        (file_fault None (capture_of (file_in source.entry)))
+        (CountsPass trace (file_in source.entry) settings.now)) }
+{
+    match source {
+        Source::Whole(file) => match list_frames(alloc, file) {
+            Ok(list) => {
+                let frames = RunFrames::Listed(&list);
+                output_over(rt, alloc, requests, frames, settings, progress)
+            }
+            Err(fault) => Err(listing(fault)),
+        },
+        Source::InPieces(pieces) => match pieces.cut(alloc, settings.batch) {
+            Ok(batches) => {
+                let frames = RunFrames::Cut(&batches);
+                output_over(rt, alloc, requests, frames, settings, progress)
+            }
+            Err(fault) => Err(listing(fault)),
+        },
+    }
 }
 
 /// What a run of a file writes, or why it writes nothing.
@@ -102,12 +138,7 @@ fn output_of<R: Threads + Wait + Sync>(
         Err(TraceFault::BadLine(line)) => return Err(RunFault::BadTrace(line)),
         Err(TraceFault::NoMemory) => return Err(without_memory(alloc, source)),
     };
-    let frames = match source.list_frames(alloc) {
-        Ok(frames) => frames,
-        Err(ListFault::Capture(fault)) => return Err(RunFault::Capture(fault)),
-        Err(ListFault::NoMemory) => return Err(RunFault::NoMemory),
-    };
-    output_over(rt, alloc, &requests, &frames, settings, progress)
+    output_of_file(rt, alloc, &requests, source, settings, progress)
 }
 
 /// What a run of listed frames writes, or why it writes nothing.
@@ -138,6 +169,7 @@ fn output_of_frames<R: Threads + Wait + Sync>(
     if frames.len() > u32::MAX as usize {
         return Err(RunFault::Refused);
     }
+    let frames = RunFrames::Listed(frames);
     output_over(rt, alloc, &requests, frames, settings, progress)
 }
 
@@ -145,9 +177,9 @@ fn output_of_frames<R: Threads + Wait + Sync>(
 fn without_memory(alloc: Global, source: Source<'_>) -> RunFault
     ensures { result ≡ unwrap_or (file_fault None (capture_of (file_in source.entry))) NoMemory }
 {
-    match source.list_frames(alloc) {
-        Ok(_) | Err(ListFault::NoMemory) => RunFault::NoMemory,
-        Err(ListFault::Capture(fault)) => RunFault::Capture(fault),
+    match source.fault(alloc) {
+        Some(fault) => RunFault::Capture(fault),
+        None => RunFault::NoMemory,
     }
 }
 

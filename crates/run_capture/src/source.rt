@@ -1,10 +1,11 @@
 //! A capture file as it is held.
-ghost use Rattle.std.specs.Prelude.{◌≡◌, ◌<◌, ◌^◌, Ok, IfErr, IfOk, map, vec_len};
-ghost use Rattle.capture.specs.Listed.{IsWhyNoList};
+ghost use Rattle.std.specs.Prelude.{◌≡◌};
+ghost use Rattle.std.specs.Result.{result_err};
 ghost use Rattle.capture.specs.Records.{capture_of};
-ghost use Rattle.run_capture.specs.Source.{file_in};
+ghost use Rattle.run_capture.specs.Source.{fault_of_list, file_in};
 
-use capture::{ListFault, list_frames};
+use crate::fault::RunFault;
+use capture::{CaptureFault, ListFault, Pcap};
 use capture_pieces::Pieces;
 use std::alloc::Global;
 
@@ -17,17 +18,27 @@ pub(crate) enum Source<'a> {
     InPieces(&'a Pieces),
 }
 
-impl<'a> Source<'a> {
-    /// The frames of the file, in its order, each as a slice. A fault of the file is told before want of memory.
-    pub(crate) fn list_frames(self, alloc: Global) -> Result<Vec<&'a [u8]>, ListFault>
-        ensures frames { IfOk result (λ list.
-            capture_of (file_in self.entry) ≡ Ok (map (λ frame. frame.now) list.items)) }
-        ensures few { IfOk result (λ list. vec_len list < 2 ^ 32) }
-        ensures fault { IfErr result (IsWhyNoList (file_in self.entry)) }
+impl Source<'_> {
+    /// The fault of the file, whether or not there is memory.
+    pub(crate) fn fault(self, alloc: Global) -> Option<CaptureFault>
+        ensures { result ≡ result_err (capture_of (file_in self.entry)) }
     {
         match self {
-            Source::Whole(file) => list_frames(alloc, file),
-            Source::InPieces(pieces) => pieces.list_frames(alloc),
+            Source::Whole(file) => Pcap::open(file).err(),
+            Source::InPieces(pieces) => match pieces.cut(alloc, u32::MAX) {
+                Ok(_) | Err(ListFault::NoMemory) => None,
+                Err(ListFault::Capture(fault)) => Some(fault),
+            },
         }
+    }
+}
+
+/// Why a run without frames writes nothing.
+pub(crate) fn listing(fault: ListFault) -> RunFault
+    ensures { result ≡ fault_of_list fault }
+{
+    match fault {
+        ListFault::Capture(fault) => RunFault::Capture(fault),
+        ListFault::NoMemory => RunFault::NoMemory,
     }
 }

@@ -1,5 +1,5 @@
 -- The tallies of one lane more.
-use Rattle.std.proofs.Common.{◌≡◌, ℕ, ◌<◌, ⊎_elim, List, [], ◌∷◌, ◌++◌, length, Some, refl, sym, subst, arith, ◌^◌, ◌-◌, suc, zero}
+use Rattle.std.proofs.Common.{◌≡◌, ℕ, ⊎_elim, List, [], ◌∷◌, ◌++◌, length, Some, refl, subst, arith, suc, zero}
 use Rattle.std.specs.Prelude.{slice_get, Ok}
 use Rattle.std.specs.List.{Contains}
 use Rattle.std.specs.declared.vec.Vec.{Vec}
@@ -10,7 +10,7 @@ use Rattle.plan_publish.specs.Lane.{HeldBeginnings}
 use Rattle.frame_batch.specs.declared.batch.Tally.{Tally}
 use Rattle.run_lanes.specs.declared.settling.Done.{Done}
 use Rattle.run_lanes.specs.Settling.{Collected}
-use Rattle.run_lanes.proofs.Working.{last_or_before}
+use Rattle.capture_pieces.proofs.Starts.{last_or_before}
 
 get_before : {X : Type 0} (xs ys : List X) (n : ℕ) (x : X) → slice_get xs n ≡ Some x → slice_get (xs ++ ys) n ≡ Some x
 get_before [] ys n x h = absurd (let e : ⊥ = cc in e)

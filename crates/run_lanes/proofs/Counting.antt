@@ -1,21 +1,18 @@
 -- The counts of all batches, and of one of them.
 use Rattle.std.proofs.Common.{◌≡◌, ℕ, ◌+◌, ◌*◌, ◌<◌, ◌≤◌, suc, zero, List, [], ◌∷◌, map, take, drop, Some, refl, ap, sym, ◌∙◌, subst, arith}
 use Rattle.std.specs.Prelude.{slice_get}
-use Rattle.std.specs.Borrow.{Bor}
 use Rattle.std.specs.List.{sum_by}
-use Rattle.std.proofs.lemmas.List.{drop-drop, drop-map, take-map}
+use Rattle.std.proofs.lemmas.List.{drop-drop}
 use Rattle.std.proofs.lemmas.List.Sums.{sum_by-cons}
-use Rattle.std.proofs.lemmas.Simd.{map-map}
 use Rattle.omci_msg.specs.declared.Request.{Request}
 use Rattle.mib_state.specs.After.{after}
 use Rattle.mib_state.specs.Entities.{Entities}
-use Rattle.frame_meaning.specs.Meaning.{meaning}
 use Rattle.frame_stats.specs.Figures.{Figure, Frames, Bytes, DropsFor, FramesTo, figure, counted, AreCountsOf}
 use Rattle.frame_stats.proofs.FigureSums.{figure-append}
 use Rattle.frame_batch.specs.declared.batch.Tally.{Tally}
-use Rattle.frame_batch.specs.Batches.{meanings}
+use Rattle.capture_pieces.specs.Cut.{batch_of}
 use Rattle.run_lanes.specs.Run.{verdicts_from}
-use Rattle.run_lanes.specs.Work.{batch_of}
+use Rattle.run_lanes.specs.Work.{verdicts_on}
 
 figure_of_none : (f : Figure) → figure f [] ≡ 0
 figure_of_none Frames = refl
@@ -23,16 +20,8 @@ figure_of_none Bytes = refl
 figure_of_none (DropsFor reason) = refl
 figure_of_none (FramesTo port) = refl
 
--- the bytes of frames
-abbrev pub bytes_of : List (Bor (List ℕ)) → List (List ℕ)
-bytes_of frames = map (λ (frame : Bor (List ℕ)). frame.now) frames
-
 abbrev pub versions_of : List Tally → List ℕ
 versions_of tallies = map (λ (t : Tally). t.version) tallies
-
-first_meant : (e : Entities) (port size : ℕ) (frames : List (Bor (List ℕ))) → meanings e port (take size frames) ≡ map (meaning e port) (take size (bytes_of frames))
-first_meant e port size frames =
-    sym (ap (map (meaning e port)) (take-map (λ (frame : Bor (List ℕ)). frame.now) size frames) ∙ map-map (meaning e port) (λ (frame : Bor (List ℕ)). frame.now) (take size frames))
 
 -- so many times the same version
 abbrev pub copies : ℕ → ℕ → List ℕ
@@ -41,50 +30,44 @@ copies (suc n) version = version ∷ copies n version
 
 module _ (accepted : List Request) (port size : ℕ) where
   -- tally k has the counts of what batch k means after so many of the requests
-  abbrev pub AreMeant : List (Bor (List ℕ)) → List Tally → Type 0
-  AreMeant frames tallies = (k : ℕ) (t : Tally) → slice_get tallies k ≡ Some t → AreCountsOf (meanings (after (take t.version accepted)) port (batch_of size k frames)) t.counts
+  abbrev pub AreMeant : List (List ℕ) → List Tally → Type 0
+  AreMeant frames tallies = (k : ℕ) (t : Tally) → slice_get tallies k ≡ Some t → AreCountsOf (verdicts_on (after (take t.version accepted)) port (batch_of size k frames)) t.counts
 
-  later : (frames : List (Bor (List ℕ))) (k : ℕ) → batch_of size (suc k) frames ≡ batch_of size k (drop size frames)
+  first : (frames : List (List ℕ)) → batch_of size 0 frames ≡ take size frames
+  first frames = ap (λ (n : ℕ). take size (drop n frames)) (let none : 0 * size ≡ 0 = omega arith in none)
+
+  later : (frames : List (List ℕ)) (k : ℕ) → batch_of size (suc k) frames ≡ batch_of size k (drop size frames)
   later frames k =
       let more : suc k * size ≡ size + k * size = grind arith in
       ap (take size) (ap (λ (n : ℕ). drop n frames) more ∙ sym (drop-drop (k * size) size frames))
 
-  pub sums_are : (f : Figure) (frames : List (Bor (List ℕ))) (tallies : List Tally) → AreMeant frames tallies
-      → sum_by (λ (t : Tally). counted t.counts f) tallies ≡ figure f (verdicts_from accepted port size (bytes_of frames) (versions_of tallies))
+  pub sums_are : (f : Figure) (frames : List (List ℕ)) (tallies : List Tally) → AreMeant frames tallies
+      → sum_by (λ (t : Tally). counted t.counts f) tallies ≡ figure f (verdicts_from accepted port size frames (versions_of tallies))
   sums_are f frames [] meant = sym (figure_of_none f)
   sums_are f frames (t ∷ ts) meant =
       let e : Entities = after (take t.version accepted) in
-      let none : drop (0 * size) frames ≡ frames = ap (λ (n : ℕ). drop n frames) (let e : 0 * size ≡ 0 = omega arith in e) in
-      let this : counted t.counts f ≡ figure f (map (meaning e port) (take size (bytes_of frames))) =
-      (meant 0 t refl).figures f ∙ ap (figure f) (ap (λ (l : List (Bor (List ℕ))). meanings e port (take size l)) none ∙ first_meant e port size frames) in
+      let this : counted t.counts f ≡ figure f (verdicts_on e port (take size frames)) =
+      (meant 0 t refl).figures f ∙ ap (λ (l : List (List ℕ)). figure f (verdicts_on e port l)) (first frames) in
       let rest = sums_are f (drop size frames) ts (λ k q h.
-      subst (λ (l : List (Bor (List ℕ))). AreCountsOf (meanings (after (take q.version accepted)) port l) q.counts) (later frames k) (meant (suc k) q h)) in
-      let others = verdicts_from accepted port size (drop size (bytes_of frames)) (versions_of ts) in
-      let same : verdicts_from accepted port size (bytes_of (drop size frames)) (versions_of ts) ≡ others =
-      ap (λ (l : List (List ℕ)). verdicts_from accepted port size l (versions_of ts)) (sym (drop-map (λ (frame : Bor (List ℕ)). frame.now) size frames)) in
-      let both = figure-append f (map (meaning e port) (take size (bytes_of frames))) others in
+      subst (λ (l : List (List ℕ)). AreCountsOf (verdicts_on (after (take q.version accepted)) port l) q.counts) (later frames k) (meant (suc k) q h)) in
+      let both = figure-append f (verdicts_on e port (take size frames)) (verdicts_from accepted port size (drop size frames) (versions_of ts)) in
       let more = sum_by-cons (λ (q : Tally). counted q.counts f) t ts in
-      let all = rest ∙ ap (figure f) same in
-      omega (arith, this, all, both, more)
+      omega (arith, this, rest, both, more)
 
   -- what one batch means has no more of a figure than what all of them mean after the same requests
-  pub one_of_all : (f : Figure) (version n k : ℕ) (frames : List (Bor (List ℕ))) → k < n
-      → figure f (meanings (after (take version accepted)) port (batch_of size k frames)) ≤ figure f (verdicts_from accepted port size (bytes_of frames) (copies n version))
+  pub one_of_all : (f : Figure) (version n k : ℕ) (frames : List (List ℕ)) → k < n
+      → figure f (verdicts_on (after (take version accepted)) port (batch_of size k frames)) ≤ figure f (verdicts_from accepted port size frames (copies n version))
   one_of_all f version zero k frames lt = absurd (omega (arith, lt))
   one_of_all f version (suc n) zero frames lt =
       let e : Entities = after (take version accepted) in
-      let none : drop (0 * size) frames ≡ frames = ap (λ (n : ℕ). drop n frames) (let z : 0 * size ≡ 0 = omega arith in z) in
-      let this : figure f (meanings e port (batch_of size 0 frames)) ≡ figure f (map (meaning e port) (take size (bytes_of frames))) =
-      ap (figure f) (ap (λ (l : List (Bor (List ℕ))). meanings e port (take size l)) none ∙ first_meant e port size frames) in
-      let both = figure-append f (map (meaning e port) (take size (bytes_of frames))) (verdicts_from accepted port size (drop size (bytes_of frames)) (copies n version)) in
+      let this : figure f (verdicts_on e port (batch_of size 0 frames)) ≡ figure f (verdicts_on e port (take size frames)) =
+      ap (λ (l : List (List ℕ)). figure f (verdicts_on e port l)) (first frames) in
+      let both = figure-append f (verdicts_on e port (take size frames)) (verdicts_from accepted port size (drop size frames) (copies n version)) in
       omega (arith, this, both)
   one_of_all f version (suc n) (suc k) frames lt =
       let e : Entities = after (take version accepted) in
       let rest = one_of_all f version n k (drop size frames) (omega (arith, lt)) in
-      let this : figure f (meanings e port (batch_of size (suc k) frames)) ≡ figure f (meanings e port (batch_of size k (drop size frames))) =
-      ap (λ (l : List (Bor (List ℕ))). figure f (meanings e port l)) (later frames k) in
-      let others = verdicts_from accepted port size (drop size (bytes_of frames)) (copies n version) in
-      let same : figure f (verdicts_from accepted port size (bytes_of (drop size frames)) (copies n version)) ≡ figure f others =
-      ap (λ (l : List (List ℕ)). figure f (verdicts_from accepted port size l (copies n version))) (sym (drop-map (λ (frame : Bor (List ℕ)). frame.now) size frames)) in
-      let both = figure-append f (map (meaning e port) (take size (bytes_of frames))) others in
-      omega (arith, rest, this, same, both)
+      let this : figure f (verdicts_on e port (batch_of size (suc k) frames)) ≡ figure f (verdicts_on e port (batch_of size k (drop size frames))) =
+      ap (λ (l : List (List ℕ)). figure f (verdicts_on e port l)) (later frames k) in
+      let both = figure-append f (verdicts_on e port (take size frames)) (verdicts_from accepted port size (drop size frames) (copies n version)) in
+      omega (arith, rest, this, both)

@@ -1,4 +1,5 @@
 pub mod Applying
+pub mod Batches
 pub mod Working
 pub mod Zips
 pub mod Collecting

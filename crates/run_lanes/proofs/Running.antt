@@ -1,7 +1,6 @@
 -- From what each lane held to what the whole run gives.
 use Rattle.std.proofs.Common.{◌≡◌, ℕ, ◌+◌, ◌*◌, ◌%◌, ◌<◌, ◌≤◌, ◌⊎◌, ⊎_elim, List, [], ◌∷◌, length, get_or, map, take, Option, Some, refl, ap, sym, subst, ◌∙◌, arith, ◌^◌, ◌-◌, suc, zero, true}
 use Rattle.std.specs.Prelude.{slice_get, Result, Ok, IfOk, OnOk, IfSome, All}
-use Rattle.std.specs.Borrow.{Bor}
 use Rattle.std.specs.List.{Contains, AllZip, sum_by}
 use Rattle.std.specs.declared.vec.Vec.{Vec}
 use Rattle.std.specs.declared.alloc.Global.{Global}
@@ -17,16 +16,16 @@ use Rattle.plan_publish.specs.declared.lane.Lane.{Lane}
 use Rattle.plan_publish.specs.Lane.{number_of, learnt_by, home_of, IsNew}
 use Rattle.frame_stats.specs.Figures.{Figure, figure, counted, AreCountsOf, HasNoZeros}
 use Rattle.frame_batch.specs.declared.batch.Tally.{Tally}
-use Rattle.frame_batch.specs.Batches.{meanings}
 use Rattle.frame_batch.specs.Gathering.{SumPasses}
+use Rattle.capture_pieces.specs.Cut.{batch_of}
 use Rattle.run_settings.specs.declared.settings.RunSettings.{RunSettings}
 use Rattle.run_lanes.specs.declared.settling.Done.{Done}
 use Rattle.run_lanes.specs.declared.settling.Settled.{Settled}
 use Rattle.run_lanes.specs.Run.{batches_in, verdicts_from, AreAdmissible, IsRun, SomeRunPasses}
-use Rattle.run_lanes.specs.Work.{batch_of, OfLane, Worked, Did, IsOut}
+use Rattle.run_lanes.specs.Work.{OfLane, Worked, Did, IsOut, verdicts_on}
 use Rattle.run_lanes.specs.Settling.{AllAreFull, AreNew, AreOrdered, Collected, IsSettled, SomeLaneIsFull}
 use Rattle.run_lanes.proofs.Working.{starts_with_one}
-use Rattle.run_lanes.proofs.Counting.{bytes_of, versions_of, copies, sums_are, one_of_all}
+use Rattle.run_lanes.proofs.Counting.{versions_of, copies, sums_are, one_of_all}
 
 -- ---- one tally
 
@@ -39,9 +38,9 @@ first_so_many all first s = rw s.1 (take-append_seam first s.0)
 count_exact : (all first : List Request) → StartsWith all first → length all < 2 ^ 64 - 1 → version_of first ≡ length first
 count_exact all first s small = let l = longer all first s in omega (arith, l, small)
 
-module _ (accepted : List Request) (small : length accepted < 2 ^ 64 - 1) (s : RunSettings) (frames : List (Bor (List ℕ))) where
+module _ (accepted : List Request) (small : length accepted < 2 ^ 64 - 1) (s : RunSettings) (frames : List (List ℕ)) where
   abbrev IsMeant : Tally → Type 0
-  IsMeant t = AreCountsOf (meanings (after (take t.version accepted)) s.port (batch_of s.batch t.batch frames)) t.counts
+  IsMeant t = AreCountsOf (verdicts_on (after (take t.version accepted)) s.port (batch_of s.batch t.batch frames)) t.counts
 
   -- a tally of a list that was held is of the first so many
   pub meant : (held : List (List Request)) (learnt : List Request) (number i : ℕ) (t : Tally) → OfLane s frames held learnt number i t → StartsWithEach accepted held
@@ -54,7 +53,7 @@ module _ (accepted : List Request) (small : length accepted < 2 ^ 64 - 1) (s : R
       let taken : take t.version accepted ≡ o.requests = ap (λ n. take n accepted) version ∙ first_so_many accepted o.requests begins in (
         omega (arith, version, l),
         omega (arith, version, m),
-        subst (λ (q : List Request). AreCountsOf (meanings (after q) s.port (batch_of s.batch t.batch frames)) t.counts) (sym taken) o.tally.counts,
+        subst (λ (q : List Request). AreCountsOf (verdicts_on (after q) s.port (batch_of s.batch t.batch frames)) t.counts) (sym taken) o.tally.counts,
       )
 
 -- ---- lists beside one another
@@ -110,7 +109,7 @@ earlier lanes n i j lt le = le_of_mul-le-mul_right {m = i} {n = j} {k = lanes} (
 abbrev pub AreNumbered : ℕ → ℕ → List Lane → Type 0
 AreNumbered lanes learnt ls = (n : ℕ) (l : Lane) → slice_get ls n ≡ Some l → (number_of l ≡ n) × (n < lanes) × (learnt ≤ length (learnt_by l))
 
-module _ (accepted : List Request) (s : RunSettings) (frames : List (Bor (List ℕ))) (learnt : ℕ) (ls : List Lane) (ds : List Done) (numbers : AreNumbered s.lanes learnt ls)
+module _ (accepted : List Request) (s : RunSettings) (frames : List (List ℕ)) (learnt : ℕ) (ls : List Lane) (ds : List Done) (numbers : AreNumbered s.lanes learnt ls)
     (did : AllZip (Did s frames) ls ds) (out : List Tally) (o : AreOrdered accepted ds (batches_in s.batch (length frames)) out) where
   c : Collected accepted ds o.all
   c = o.collected
@@ -171,21 +170,21 @@ module _ (accepted : List Request) (s : RunSettings) (frames : List (Bor (List �
         all_mapped (λ (t : Tally). t.version) (λ v. v ≡ length accepted) out (λ k t h. let p = at_place k t h in omega (arith, p.2, p.3, learnt_all));
   }
 
-  many : length (versions_of out) ≡ batches_in s.batch (length (bytes_of frames))
-  many = length-map out (λ (t : Tally). t.version) ∙ o.in_order.len ∙ ap (batches_in s.batch) (sym (length-map frames (λ (frame : Bor (List ℕ)). frame.now)))
+  many : length (versions_of out) ≡ batches_in s.batch (length frames)
+  many = length-map out (λ (t : Tally). t.version) ∙ o.in_order.len
 
-  sums : (f : Figure) → sum_by (λ (t : Tally). counted t.counts f) out ≡ figure f (verdicts_from accepted s.port s.batch (bytes_of frames) (versions_of out))
+  sums : (f : Figure) → sum_by (λ (t : Tally). counted t.counts f) out ≡ figure f (verdicts_from accepted s.port s.batch frames (versions_of out))
   sums f = sums_are accepted s.port s.batch f frames out (λ k t h.
       let p = at_place k t h in
-      subst (λ (n : ℕ). AreCountsOf (meanings (after (take t.version accepted)) s.port (batch_of s.batch n frames)) t.counts) p.0 p.4)
+      subst (λ (n : ℕ). AreCountsOf (verdicts_on (after (take t.version accepted)) s.port (batch_of s.batch n frames)) t.counts) p.0 p.4)
 
   pub of_ordered : (settled : Settled) → settled.versions.items ≡ versions_of out → ((f : Figure) → counted settled.counts f ≡ sum_by (λ (t : Tally). counted t.counts f) out)
-      → HasNoZeros settled.counts.ports → (s.after ≡ true → learnt ≡ length accepted) → IsRun accepted s (bytes_of frames) settled.versions.items settled.counts
+      → HasNoZeros settled.counts.ports → (s.after ≡ true → learnt ≡ length accepted) → IsRun accepted s frames settled.versions.items settled.counts
   of_ordered settled versions sums_of no_zeros first =
-      let R : List ℕ → Type 0 = λ v. IsRun accepted s (bytes_of frames) v settled.counts in
+      let R : List ℕ → Type 0 = λ v. IsRun accepted s frames v settled.counts in
       subst R (sym versions) (record { many = many; admissible = admissible first; counts_are = record { figures = λ f. sums_of f ∙ sums f; no_zeros = no_zeros } })
 
-  pub ordered_passes : (s.after ≡ true → learnt ≡ length accepted) → SumPasses (λ (t : Tally). t.counts) out → SomeRunPasses accepted s (bytes_of frames)
+  pub ordered_passes : (s.after ≡ true → learnt ≡ length accepted) → SumPasses (λ (t : Tally). t.counts) out → SomeRunPasses accepted s frames
   ordered_passes first p = record { versions = versions_of out; many = many; admissible = admissible first; passes = (p.0, subst (λ (n : ℕ). 2 ^ 64 ≤ n) (sums p.0) p.1) }
 
 -- ---- one version for all batches
@@ -204,10 +203,10 @@ all_copies P zero version p k d lt = absurd (omega (arith, lt))
 all_copies P (suc n) version p zero d lt = p
 all_copies P (suc n) version p (suc k) d lt = all_copies P n version p k d (omega (arith, lt))
 
-module _ (accepted : List Request) (s : RunSettings) (frames : List (Bor (List ℕ))) (learnt : ℕ) (ls : List Lane) (ds : List Done) (numbers : AreNumbered s.lanes learnt ls)
+module _ (accepted : List Request) (s : RunSettings) (frames : List (List ℕ)) (learnt : ℕ) (ls : List Lane) (ds : List Done) (numbers : AreNumbered s.lanes learnt ls)
     (did : AllZip (Did s frames) ls ds) (first : s.after ≡ true → learnt ≡ length accepted) where
   -- where a lane's batch is full, so are all batches by its version
-  lane_passes : SomeLaneIsFull accepted ds → SomeRunPasses accepted s (bytes_of frames)
+  lane_passes : SomeLaneIsFull accepted ds → SomeRunPasses accepted s frames
   lane_passes l =
       let z = zip_get (Did s frames) ls ds l.place l.done did l.at_place in
       let p = z.2.full l.is_full in
@@ -220,12 +219,12 @@ module _ (accepted : List Request) (s : RunSettings) (frames : List (Bor (List �
       let reached : length (learnt_by z.0) ≤ version = longer requests (learnt_by z.0) p.passes.begins_learnt in
       let n = batches_in s.batch (length frames) in
       let f = p.passes.passes.0 in
-      let full : 2 ^ 64 ≤ figure f (meanings (after (take version accepted)) s.port (batch_of s.batch p.batch frames)) =
-      subst (λ (q : List Request). 2 ^ 64 ≤ figure f (meanings (after q) s.port (batch_of s.batch p.batch frames))) (sym taken) p.passes.passes.1 in
+      let full : 2 ^ 64 ≤ figure f (verdicts_on (after (take version accepted)) s.port (batch_of s.batch p.batch frames)) =
+      subst (λ (q : List Request). 2 ^ 64 ≤ figure f (verdicts_on (after q) s.port (batch_of s.batch p.batch frames))) (sym taken) p.passes.passes.1 in
       let more = one_of_all accepted s.port s.batch f version n p.batch frames p.inside in
       record {
         versions = copies n version;
-        many = length-copies n version ∙ ap (batches_in s.batch) (sym (length-map frames (λ (frame : Bor (List ℕ)). frame.now)));
+        many = length-copies n version;
         admissible = record {
           at_most = all_copies (λ v. v ≤ length accepted) n version at_most;
           never_fall = λ j k v w le residue hv hw. let a = copies_at n version j v hv in let b = copies_at n version k w hw in omega (arith, a, b);
@@ -234,10 +233,10 @@ module _ (accepted : List Request) (s : RunSettings) (frames : List (Bor (List �
         passes = (f, omega (arith, full, more));
       }
 
-  pub passes_of : SomeLaneIsFull accepted ds ⊎ AllAreFull accepted ds (batches_in s.batch (length frames)) → SomeRunPasses accepted s (bytes_of frames)
+  pub passes_of : SomeLaneIsFull accepted ds ⊎ AllAreFull accepted ds (batches_in s.batch (length frames)) → SomeRunPasses accepted s frames
   passes_of full = ⊎_elim lane_passes (λ (a : AllAreFull accepted ds (batches_in s.batch (length frames))). ordered_passes accepted s frames learnt ls ds numbers did a.out a.ordered first a.passes) full
 
-  pub run_of : (settled : Settled) → IsSettled accepted ds (batches_in s.batch (length frames)) settled → IsRun accepted s (bytes_of frames) settled.versions.items settled.counts
+  pub run_of : (settled : Settled) → IsSettled accepted ds (batches_in s.batch (length frames)) settled → IsRun accepted s frames settled.versions.items settled.counts
   run_of settled i = of_ordered accepted s frames learnt ls ds numbers did i.out i.ordered settled i.versions i.sums i.no_zeros first
 
 -- ---- lanes that were new
@@ -258,7 +257,7 @@ pub new_home : (ls : List Lane) (lanes : ℕ) (home : Home) → AreNew lanes hom
 new_home ls lanes home new = λ k d lt.
     sym (new_at ls lanes home new k (get_or ls k d) (slice_get-get_or ls k d lt)).0.home_is
 
-pub done_home : (s : RunSettings) (frames : List (Bor (List ℕ))) (ls : List Lane) (ds : List Done) (home : Home) → All (λ l. home ≡ home_of l) ls → AllZip (Did s frames) ls ds
+pub done_home : (s : RunSettings) (frames : List (List ℕ)) (ls : List Lane) (ds : List Done) (home : Home) → All (λ l. home ≡ home_of l) ls → AllZip (Did s frames) ls ds
     → All (λ d. home ≡ home_of d.lane) ds
 done_home s frames ls ds home homes did = λ k d lt.
     let z = zip_get (Did s frames) ls ds k (get_or ds k d) did (slice_get-get_or ds k d lt) in

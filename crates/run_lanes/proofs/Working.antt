@@ -1,14 +1,16 @@
 -- One more batch of a lane.
-use Rattle.std.proofs.Common.{◌≡◌, ℕ, ◌+◌, ◌*◌, ◌<◌, ◌≤◌, ◌⊎◌, inl, inr, ⊎_elim, List, [], ◌∷◌, ◌++◌, length, min, Some, refl, ap, sym, subst, ◌∙◌, arith, ◌^◌, ◌-◌}
+use Rattle.std.proofs.Common.{◌≡◌, ℕ, ◌+◌, ◌*◌, ◌<◌, ◌≤◌, ⊎_elim, List, [], ◌∷◌, ◌++◌, length, min, Some, refl, ap, sym, subst, ◌∙◌, arith, ◌^◌, ◌-◌}
 use Rattle.std.specs.Prelude.{slice_get, suc, zero}
 use Rattle.std.specs.Borrow.{Bor}
 use Rattle.std.specs.List.{Contains}
 use Rattle.std.proofs.lemmas.List.Elements.{Contains-append_right}
 use Rattle.std.proofs.lemmas.Option.{slice_get_within}
+use Rattle.std.proofs.lemmas.Simd.{map-map}
 use Rattle.omci_msg.specs.declared.Request.{Request}
 use Rattle.mib_state.specs.Entities.{Entities}
 use Rattle.mib_state.specs.After.{after}
 use Rattle.frame_meaning.specs.declared.verdict.Verdict.{Verdict}
+use Rattle.frame_meaning.specs.Meaning.{meaning}
 use Rattle.frame_stats.specs.declared.counts.Counts.{Counts}
 use Rattle.frame_stats.specs.Figures.{AreCountsOf, SomePasses, figure}
 use Rattle.frame_batch.specs.Batches.{meanings}
@@ -16,8 +18,11 @@ use Rattle.plan_publish.specs.Requests.{StartsWith, StartsWithEach, version_of}
 use Rattle.plan_publish.specs.Holding.{Holds}
 use Rattle.plan_publish.proofs.Beginnings.{version_grows}
 use Rattle.frame_batch.specs.declared.batch.Tally.{Tally}
+use Rattle.capture_pieces.specs.Cut.{batch_of}
+use Rattle.capture_pieces.proofs.Starts.{last_or_before}
 use Rattle.run_settings.specs.declared.settings.RunSettings.{RunSettings}
-use Rattle.run_lanes.specs.Work.{batch_of, BatchPasses, IsTally, Forwarded, OfLane, Worked}
+use Rattle.run_lanes.specs.Work.{BatchPasses, IsTally, Forwarded, OfLane, Worked, verdicts_on}
+use Rattle.run_lanes.proofs.Batches.{bytes_of}
 
 -- what begins with each list begins with any of them
 pub starts_with_one : (all : List Request) (held : List (List Request)) (one : List Request) → StartsWithEach all held → Contains held one → StartsWith all one
@@ -25,18 +30,14 @@ starts_with_one all [] one each has = absurd (let lt = has.1 in omega arith)
 starts_with_one all (h ∷ hs) one each (zero, lt, is) = subst (StartsWith all) is each.0
 starts_with_one all (h ∷ hs) one each (suc k, lt, is) = starts_with_one all hs one each.1 (k, omega arith, is)
 
--- the last of a list with one more, or one of the others
-pub last_or_before : {X : Type 0} (xs : List X) (x : X) (i : ℕ) (y : X) → slice_get (xs ++ x ∷ []) i ≡ Some y → (slice_get xs i ≡ Some y) ⊎ ((i ≡ length xs) × (x ≡ y))
-last_or_before [] x zero y h = inr (refl, (let e : x ≡ y = cc in e))
-last_or_before [] x (suc i) y h = absurd (let e : ⊥ = cc in e)
-last_or_before (z ∷ zs) x zero y h = inl h
-last_or_before (z ∷ zs) x (suc i) y h =
-    ⊎_elim (λ (old : slice_get zs i ≡ Some y). inl old) (λ (new : (i ≡ length zs) × (x ≡ y)). inr (ap suc new.0, new.1)) (last_or_before zs x i y h)
+-- borrowed frames mean what their bytes mean
+same_verdicts : (e : Entities) (port : ℕ) (given : List (Bor (List ℕ))) (bytes : List (List ℕ)) → bytes_of given ≡ bytes → meanings e port given ≡ verdicts_on e port bytes
+same_verdicts e port given bytes same = sym (map-map (meaning e port) (λ (frame : Bor (List ℕ)). frame.now) given) ∙ ap (verdicts_on e port) same
 
 -- the tally of a report by a lane that is in
-pub is_forwarded : (s : RunSettings) (frames given : List (Bor (List ℕ))) (before : List (List Request)) (learnt : List Request) (entities : Entities) (version : ℕ) (lists : List (List Request)) (batch : ℕ)
+pub is_forwarded : (s : RunSettings) (frames : List (List ℕ)) (given : List (Bor (List ℕ))) (before : List (List Request)) (learnt : List Request) (entities : Entities) (version : ℕ) (lists : List (List Request)) (batch : ℕ)
     (lane number held : ℕ) (verdicts : List Verdict) (counts : Counts) (t : Tally)
-    → Holds before learnt entities version lists → given ≡ batch_of s.batch batch frames → number ≡ batch → held ≡ version → verdicts ≡ meanings entities s.port given → AreCountsOf verdicts counts
+    → Holds before learnt entities version lists → bytes_of given ≡ batch_of s.batch batch frames → number ≡ batch → held ≡ version → verdicts ≡ meanings entities s.port given → AreCountsOf verdicts counts
     → t ≡ record { lane = lane; batch = number; version = held; counts = counts } → Forwarded s frames before learnt lists batch t
 is_forwarded s frames given before learnt entities version lists batch lane number held verdicts counts t h same number_is held_is meant exact is = record {
   requests = h.now;
@@ -47,15 +48,15 @@ is_forwarded s frames given before learnt entities version lists batch lane numb
   tally = record {
     version = ap (λ (x : Tally). x.version) is ∙ held_is ∙ h.version_is;
     counts =
-        let all : verdicts ≡ meanings (after h.now) s.port (batch_of s.batch batch frames) =
-        meant ∙ ap (λ (e : Entities). meanings e s.port given) h.entities_are ∙ ap (λ (l : List (Bor (List ℕ))). meanings (after h.now) s.port l) same in
-        subst (λ (x : Tally). AreCountsOf (meanings (after h.now) s.port (batch_of s.batch batch frames)) x.counts) (sym is) (subst (λ (l : List Verdict). AreCountsOf l counts) all exact);
+        let all : verdicts ≡ verdicts_on (after h.now) s.port (batch_of s.batch batch frames) =
+        meant ∙ ap (λ (e : Entities). meanings e s.port given) h.entities_are ∙ same_verdicts (after h.now) s.port given (batch_of s.batch batch frames) same in
+        subst (λ (x : Tally). AreCountsOf (verdicts_on (after h.now) s.port (batch_of s.batch batch frames)) x.counts) (sym is) (subst (λ (l : List Verdict). AreCountsOf l counts) all exact);
   };
 }
 
 -- a batch whose counts are full, by a lane that is in
-pub is_passed : (s : RunSettings) (frames given : List (Bor (List ℕ))) (before : List (List Request)) (learnt : List Request) (entities : Entities) (version : ℕ) (lists : List (List Request)) (batch : ℕ)
-    → Holds before learnt entities version lists → given ≡ batch_of s.batch batch frames → SomePasses (meanings entities s.port given) → BatchPasses s frames lists learnt batch
+pub is_passed : (s : RunSettings) (frames : List (List ℕ)) (given : List (Bor (List ℕ))) (before : List (List Request)) (learnt : List Request) (entities : Entities) (version : ℕ) (lists : List (List Request)) (batch : ℕ)
+    → Holds before learnt entities version lists → bytes_of given ≡ batch_of s.batch batch frames → SomePasses (meanings entities s.port given) → BatchPasses s frames lists learnt batch
 is_passed s frames given before learnt entities version lists batch h same p = record {
   requests = h.now;
   is_held = subst (λ (l : List (List Request)). Contains l h.now) (sym h.held) (0, omega arith, refl);
@@ -63,11 +64,11 @@ is_passed s frames given before learnt entities version lists batch h same p = r
   passes = (
     p.0,
     subst (λ (n : ℕ). 2 ^ 64 ≤ n)
-        (ap (λ (e : Entities). figure p.0 (meanings e s.port given)) h.entities_are ∙ ap (λ (l : List (Bor (List ℕ))). figure p.0 (meanings (after h.now) s.port l)) same) p.1,
+        (ap (λ (e : Entities). figure p.0 (meanings e s.port given)) h.entities_are ∙ ap (figure p.0) (same_verdicts (after h.now) s.port given (batch_of s.batch batch frames) same)) p.1,
   );
 }
 
-module _ (s : RunSettings) (frames : List (Bor (List ℕ))) (learnt : List Request) (number : ℕ) where
+module _ (s : RunSettings) (frames : List (List ℕ)) (learnt : List Request) (number : ℕ) where
   held_too : (held : List (List Request)) (requests : List Request) (i : ℕ) (t : Tally) → OfLane s frames held learnt number i t → OfLane s frames (requests ∷ held) learnt number i t
   held_too held requests i t o = record { requests = o.requests; is_held = Contains-append_right (requests ∷ []) held o.requests o.is_held; begins_learnt = o.begins_learnt; batch = o.batch; tally = o.tally }
 

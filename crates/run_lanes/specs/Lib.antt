@@ -1,3 +1,4 @@
+pub mod Frames
 pub mod Run
 pub mod Work
 pub mod Control

@@ -8,7 +8,8 @@ use thiserror::Error;
 /// Why a run gives nothing. Where several things are so, any of them may be told: lanes don't wait for one another.
 #[derive(Clone, Copy, Debug, PartialEq, Eq, Error)]
 pub enum LaneFault {
-    /// There is no memory: for the plan's copies, for a message, for a batch's verdicts, or for what is kept of the batches.
+    /// There is no memory: for the plan's copies, for a message, for a batch's frames or verdicts, or for what is kept of the
+    /// batches.
     #[error("no memory")]
     NoMemory,
     /// The gate answered false, or a lane got no place, couldn't enter, or didn't hold at the end what was published.

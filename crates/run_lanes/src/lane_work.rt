@@ -1,10 +1,13 @@
 //! What a lane does.
-ghost use Rattle.std.specs.Prelude.{◌≡◌, ◌≤◌, Some, IfOk, IsErrOf};
+ghost use Rattle.std.specs.Prelude.{◌≡◌, ◌≤◌, Some, IfOk, IsErrOf, map};
 ghost use Rattle.plan_publish.specs.Lane.{number_of, held_by, learnt_by, IsSameLane};
+ghost use Rattle.capture_pieces.specs.Cut.{batch_of};
 ghost use Rattle.run_settings.specs.Settings.{batch_limit};
-ghost use Rattle.run_lanes.specs.Work.{batch_of, BatchPasses, Forwarded, IsOut, SomeBatchPasses, Worked};
+ghost use Rattle.run_lanes.specs.Frames.{frames_in};
+ghost use Rattle.run_lanes.specs.Work.{BatchPasses, Forwarded, IsOut, SomeBatchPasses, Worked};
 
 use crate::fault::{LaneFault, forwarding};
+use crate::frames::RunFrames;
 use crate::job::Job;
 use frame_batch::{Batch, Gate, Tally, run_batch};
 use frame_stats::{StatBook, StatFault};
@@ -21,10 +24,11 @@ pub(crate) fn lane_batches<'a, G: Gate, R: Wait>(
     requires { IsOut lane.old }
     ensures same { IsSameLane lane.old lane.new }
     ensures worked { IfOk result (λ tallies. (held : _) × (held_by lane.new ≡ Some held)
-        × Worked job.now.settings job.now.frames.now held (learnt_by lane.old)
+        × Worked job.now.settings (frames_in job.now.frames) held (learnt_by lane.old)
         (number_of lane.old) tallies.items) }
     ensures full { IsErrOf result LaneFault.CountFull
-        → SomeBatchPasses job.now.settings job.now.frames.now (learnt_by lane.old) lane.new }
+        → SomeBatchPasses job.now.settings (frames_in job.now.frames) (learnt_by lane.old)
+        lane.new }
 {
     let mut tallies = Vec::new(job.alloc);
     let mut k = u32::from(lane.number());
@@ -39,7 +43,7 @@ pub(crate) fn lane_batches<'a, G: Gate, R: Wait>(
     Ok(tallies)
 }
 
-/// One batch, for which the lane enters once. The gate is asked before too: a lane that waits in it holds nothing yet.
+/// One batch. Where the capture is cut, the frames of the batch are listed before the gate is asked.
 fn forward_batch<'a, G: Gate>(
     lane: &mut Lane,
     job: &Job<'_, 'a>,
@@ -49,13 +53,43 @@ fn forward_batch<'a, G: Gate>(
     ensures same { IsSameLane lane.old lane.new }
     ensures forwarded { IfOk result (λ tally. (before now : _) × (held_by lane.old ≡ Some before)
         × (held_by lane.new ≡ Some now)
-        × Forwarded job.now.settings job.now.frames.now before (learnt_by lane.old) now batch
-        tally) }
+        × Forwarded job.now.settings (frames_in job.now.frames) before (learnt_by lane.old) now
+        batch tally) }
     ensures full { IsErrOf result LaneFault.CountFull
         → (now : _) × (held_by lane.new ≡ Some now)
-        × BatchPasses job.now.settings job.now.frames.now now (learnt_by lane.old) batch }
+        × BatchPasses job.now.settings (frames_in job.now.frames) now (learnt_by lane.old) batch }
 {
-    let frames = frames_of(job.frames, job.settings.batch, batch);
+    match job.frames {
+        RunFrames::Listed(list) => {
+            let frames = listed_frames(list, job.settings.batch, batch);
+            forward_frames(lane, job, batch, frames, gate)
+        }
+        RunFrames::Cut(batches) => match batches.frames_of(job.alloc, batch) {
+            Ok(frames) => forward_frames(lane, job, batch, &frames, gate),
+            Err(_) => Err(LaneFault::NoMemory),
+        },
+    }
+}
+
+/// The frames of a batch, for which the lane enters once. The gate is asked before too: a lane that waits in it holds nothing yet.
+fn forward_frames<'a, G: Gate>(
+    lane: &mut Lane,
+    job: &Job<'_, 'a>,
+    batch: u32,
+    frames: &[&'a [u8]],
+    gate: &G,
+) -> Result<Tally, LaneFault>
+    requires { map (λ frame. frame.now) frames.now
+        ≡ batch_of job.now.settings.batch batch (frames_in job.now.frames) }
+    ensures same { IsSameLane lane.old lane.new }
+    ensures forwarded { IfOk result (λ tally. (before now : _) × (held_by lane.old ≡ Some before)
+        × (held_by lane.new ≡ Some now)
+        × Forwarded job.now.settings (frames_in job.now.frames) before (learnt_by lane.old) now
+        batch tally) }
+    ensures full { IsErrOf result LaneFault.CountFull
+        → (now : _) × (held_by lane.new ≡ Some now)
+        × BatchPasses job.now.settings (frames_in job.now.frames) now (learnt_by lane.old) batch }
+{
     if !gate.pass(lane.number(), batch, job.turns) {
         return Err(LaneFault::Refused);
     }
@@ -80,14 +114,14 @@ fn forward_batch<'a, G: Gate>(
     }
 }
 
-/// The frames of a batch.
-fn frames_of<'f, 'a>(frames: &'f [&'a [u8]], size: u32, batch: u32) -> &'f [&'a [u8]]
+/// The frames of a batch, where all frames are in a list.
+fn listed_frames<'f, 'a>(list: &'f [&'a [u8]], size: u32, batch: u32) -> &'f [&'a [u8]]
     requires { size ≤ batch_limit }
-    ensures { result.now ≡ batch_of size batch frames.now }
+    ensures { result.now ≡ batch_of size batch list.now }
 {
-    let from = (batch as usize * size as usize).min(frames.len());
-    let to = (from + size as usize).min(frames.len());
-    &frames[from..to]
+    let from = (batch as usize * size as usize).min(list.len());
+    let to = (from + size as usize).min(list.len());
+    &list[from..to]
 }
 
 /// Adds a batch's counts to the book. A full book is passed over: its sums are those of some batches, so a sum of all batches passes

@@ -2,7 +2,8 @@
 //!
 //! **What runs where.** [`run_lanes`] opens a control with its lanes. Frames are cut in order into batches, and batch k is of lane
 //! k mod `lanes`. Each lane goes to a thread of its own, forwards its batches in ascending order and comes back; it enters once for
-//! each, so a batch is of one version. Of a batch are kept its number, its version and its counts, which go into a book that all
+//! each, so a batch is of one version. Where the frames are those of a capture in pieces ([`run_lanes_over`]), a lane lists the
+//! frames of a batch when it comes to it. Of a batch are kept its number, its version and its counts, which go into a book that all
 //! lanes share. The control stays on its caller's thread, and carries the requests of the trace out. It publishes after each
 //! accepted one while the lanes forward; or, with `after`, once before they begin. Where no thread can be made, the
 //! work is done in turn, by the same functions.
@@ -30,6 +31,7 @@
 
 mod control_work;
 mod fault;
+mod frames;
 mod job;
 mod lane_work;
 mod run;
@@ -37,4 +39,5 @@ mod settling;
 mod threads;
 
 pub use fault::LaneFault;
-pub use run::{Ran, RunInput, run_lanes};
+pub use frames::RunFrames;
+pub use run::{Ran, RunInput, RunSource, run_lanes, run_lanes_over};

@@ -6,12 +6,14 @@ ghost use Rattle.plan_publish.specs.Lane.{home_of};
 ghost use Rattle.plan_publish.specs.Told.{told_home, told_list};
 ghost use Rattle.run_settings.specs.Settings.{CanRun};
 ghost use Rattle.run_lanes.specs.Control.{IsNewControl};
+ghost use Rattle.run_lanes.specs.Frames.{IsCutFor, frames_in};
 ghost use Rattle.run_lanes.specs.Outcome.{IsRunOf, SomeOutcomePasses};
 ghost use Rattle.run_lanes.specs.Run.{IsRun, SomeRunPasses};
 ghost use Rattle.run_lanes.specs.Settling.{AreNew, HasLearnt};
 
 use crate::control_work::apply_requests;
 use crate::fault::{LaneFault, opening};
+use crate::frames::RunFrames;
 use crate::job::Job;
 use crate::settling::{Settled, settle};
 use crate::threads::{lanes_work, work_at_once};
@@ -161,6 +163,47 @@ pub fn run_lanes<G: Gate + Sync, R: Threads + Wait + Sync>(
         → SomeRunPasses (accepted input.now.requests.now) input.now.settings.now
         (map (λ frame. frame.now) input.now.frames.now) }
 {
+    let source = RunSource {
+        requests: input.requests,
+        frames: RunFrames::Listed(input.frames),
+        settings: input.settings,
+    };
+    run_lanes_over(rt, alloc, &source, turns, gate)
+}
+
+/// What a run is given, wherever its frames are.
+#[derive(Clone, Copy)]
+pub struct RunSource<'f, 'a> {
+    /// The requests of the trace.
+    pub requests: &'f [Request],
+    /// The frames of the capture.
+    pub frames: RunFrames<'f, 'a>,
+    /// How the frames are forwarded.
+    pub settings: &'f RunSettings,
+}
+
+/// Forwards frames by lanes as [`run_lanes`] does, wherever the frames are. Where their capture is cut into batches, a lane lists
+/// the frames of a batch before it asks the gate about it, and drops the list once they are forwarded.
+///
+/// The faults are those of [`run_lanes`]. [`LaneFault::NoMemory`] also comes where there is no memory for such a list.
+pub fn run_lanes_over<G: Gate + Sync, R: Threads + Wait + Sync>(
+    rt: &R,
+    alloc: Global,
+    input: &RunSource<'_, '_>,
+    turns: u32,
+    gate: &G,
+) -> Result<Ran, LaneFault>
+    requires settings { CanRun input.now.settings.now }
+    requires frames { length (frames_in input.now.frames) < 2 ^ 32 }
+    requires size { IsCutFor input.now.settings.now.batch input.now.frames }
+    ensures accepted { IfOk result (λ ran. ran.accepted
+        ≡ length (accepted input.now.requests.now)) }
+    ensures run { IfOk result (λ ran. IsRun (accepted input.now.requests.now) input.now.settings.now
+        (frames_in input.now.frames) ran.versions.items ran.counts) }
+    ensures full { IsErrOf result LaneFault.CountFull
+        → SomeRunPasses (accepted input.now.requests.now) input.now.settings.now
+        (frames_in input.now.frames) }
+{
     let settings = input.settings;
     let Ok(book) = StatBook::new(alloc, settings.lanes) else {
         return Err(LaneFault::NoMemory);
@@ -169,7 +212,7 @@ pub fn run_lanes<G: Gate + Sync, R: Threads + Wait + Sync>(
     let job = Job {
         alloc,
         settings: *settings,
-        count: input.frames.len().div_ceil(settings.batch as usize) as u32,
+        count: input.frames.count().div_ceil(settings.batch as usize) as u32,
         turns,
         frames: input.frames,
         book: &book,

@@ -3,6 +3,7 @@ ghost use Rattle.std.specs.Prelude.{◌≡◌, IfOk, OnOk, IsErrOf, All};
 ghost use Rattle.std.specs.List.{AllZip};
 ghost use Rattle.std.specs.Option.{ForSome};
 ghost use Rattle.run_lanes.specs.Control.{Applied};
+ghost use Rattle.run_lanes.specs.Frames.{frames_in};
 ghost use Rattle.run_lanes.specs.Work.{Did, IsOut};
 
 use crate::control_work::apply_requests;
@@ -20,7 +21,7 @@ use std::thread::{Threads, join_mut, map_vec};
 /// A lane's batches. It comes from another thread, and goes back there.
 fn lane_work<G: Gate, R: Wait>(rt: &R, lane: Lane, job: &Job<'_, '_>, gate: &G) -> Done
     requires { IsOut lane }
-    ensures { Did job.now.settings job.now.frames.now lane result }
+    ensures { Did job.now.settings (frames_in job.now.frames) lane result }
 {
     let mut lane = lane;
     let tallies = lane_batches(rt, &mut lane, job, gate);
@@ -36,14 +37,14 @@ pub(crate) fn lanes_work<G: Gate + Sync, R: Threads + Wait + Sync>(
 ) -> Result<Vec<Done>, AllocError>
     requires { All IsOut lanes.items }
     ensures { IfOk result (λ all.
-        AllZip (Did job.now.settings job.now.frames.now) lanes.items all.items) }
+        AllZip (Did job.now.settings (frames_in job.now.frames)) lanes.items all.items) }
 {
     map_vec(
         rt,
         lanes,
         &|lane: Lane| -> Done
             requires { IsOut lane }
-            ensures { Did job.entry.now.settings job.entry.now.frames.now lane result }
+            ensures { Did job.entry.now.settings (frames_in job.entry.now.frames) lane result }
         { lane_work(rt, lane, job, gate) },
     )
 }
@@ -57,7 +58,7 @@ fn waiting_work<G: Gate + Sync, R: Threads + Wait + Sync>(
 ) -> Result<Vec<Done>, AllocError>
     requires { ForSome waiting.old (λ lanes. All IsOut lanes.items) }
     ensures { ForSome waiting.old (λ lanes. IfOk result (λ all.
-        AllZip (Did job.now.settings job.now.frames.now) lanes.items all.items)) }
+        AllZip (Did job.now.settings (frames_in job.now.frames)) lanes.items all.items)) }
 {
     match waiting.take() {
         Some(lanes) => lanes_work(rt, lanes, job, gate),
@@ -76,7 +77,7 @@ pub(crate) fn work_at_once<G: Gate + Sync, R: Threads + Wait + Sync>(
 ) -> (Result<Vec<Done>, AllocError>, Result<(), LaneFault>)
     requires { All IsOut lanes.items }
     ensures done { IfOk result.0 (λ all.
-        AllZip (Did job.now.settings job.now.frames.now) lanes.items all.items) }
+        AllZip (Did job.now.settings (frames_in job.now.frames)) lanes.items all.items) }
     ensures applied { OnOk result.1 (Applied control.old control.new requests.now) }
     ensures full { ¬ (IsErrOf result.1 LaneFault.CountFull) }
 {
@@ -87,7 +88,7 @@ pub(crate) fn work_at_once<G: Gate + Sync, R: Threads + Wait + Sync>(
             requires { ForSome waiting (λ lanes. All IsOut lanes.items) }
             ensures { ForSome waiting.entry (λ lanes.
                 IfOk result (λ all.
-                AllZip (Did job.entry.now.settings job.entry.now.frames.now) lanes.items
+                AllZip (Did job.entry.now.settings (frames_in job.entry.now.frames)) lanes.items
                 all.items)) }
         { waiting_work(rt, &mut waiting, job, gate) },
         &mut || -> Result<(), LaneFault>

@@ -243,6 +243,24 @@ fn a_file_in_parts_has_the_same_fault(rt: HostRuntime) {
     }
 }
 
+/// Compares the batches of two frames of three records, whose file is in parts of so many bytes.
+fn compare_batches(rt: &impl Abort, alloc: Global, size: usize) {
+    let pieces = parted(alloc, &THREE, size).expect(rt, "parts");
+    let batches = pieces.cut(alloc, 2).expect(rt, "three records");
+    same!(rt; batches.frame_count(), 3);
+    for (batch, from, to) in [(0, 0, 2), (1, 2, 3), (2, 3, 3), (u32::MAX, 3, 3)] {
+        let list = batches.frames_of(alloc, batch).expect(rt, "a batch");
+        same!(rt; list.as_slice(), &FRAMES_OF_THREE[from..to], "batch {batch}, parts of {size}");
+    }
+}
+
+#[test]
+fn a_file_in_parts_is_cut_into_batches(rt: HostRuntime) {
+    for size in 1..=THREE.len() {
+        compare_batches(&rt, rt.alloc(), size);
+    }
+}
+
 #[test]
 fn each_fault_has_its_number(rt: HostRuntime) {
     for (fault, number) in [

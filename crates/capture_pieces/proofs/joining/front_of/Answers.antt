@@ -1,5 +1,5 @@
 -- No more is taken than there is.
-use Rattle.std.proofs.Common.{◌≡◌, ◌++◌, ℕ, List, take, ap, ◌∙◌}
+use Rattle.std.proofs.Common.{◌++◌, ℕ, List, take, ap, ◌∙◌}
 use Rattle.std.proofs.lemmas.List.{take_min}
 use Rattle.capture_pieces.specs.Joined.{longest}
 use Rattle.capture_pieces.proofs.joining.front_of.Goals as goal

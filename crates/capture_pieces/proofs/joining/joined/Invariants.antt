@@ -1,5 +1,5 @@
 -- The parts that are left, and the pieces so far from the last on, are the file.
-use Rattle.std.proofs.Common.{◌≡◌, ◌++◌, List, take, vec_len}
+use Rattle.std.proofs.Common.{◌≡◌, ◌++◌, take, vec_len}
 use Rattle.std.specs.Prelude.{reverse}
 use Rattle.std.specs.List.{flat_map}
 use Rattle.capture_pieces.specs.Joined.{AreJoined, file_of, longest}

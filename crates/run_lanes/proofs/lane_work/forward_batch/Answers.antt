@@ -1,33 +1,12 @@
-use Rattle.std.proofs.Common.{◌≡◌, ap, rules}
-use Rattle.std.specs.Prelude.{Err}
-use Rattle.plan_publish.specs.Held.{held_entities, held_lists, held_version}
-use Rattle.plan_publish.specs.Lane.{learnt_by}
-use Rattle.run_lanes.specs.declared.fault.LaneFault.TheVariants.{CountFull}
-use Rattle.run_lanes.proofs.Working.{is_forwarded, is_passed}
+use Rattle.run_lanes.proofs.Batches.{cut_batch, listed_batch}
 use Rattle.run_lanes.proofs.lane_work.forward_batch.Goals as goal
 
-pub returns-in-Ok-clause-forwarded : goal.returns-in-Ok-clause-forwarded
-returns-in-Ok-clause-forwarded g c =
-    let h = c.in-Some.ensures.holds in
-    let held = c.in-Some.held in
-    let done = c.in-Ok.ensures in
-    let report = c.in-Ok.report in (
-      h.0,
-      held_lists held,
-      h.1,
-      search rules,
-      is_forwarded c.args.job.now.settings c.args.job.now.frames.now c.frames_of-frames.result.now h.0 (learnt_by c.args.lane.now) (held_entities held) (held_version held) (held_lists held) c.args.batch
-          report.lane report.batch report.version report.verdicts.items report.counts c.tally.result h.2 c.frames_of-frames.ensures done.number done.version done.verdicts report.exact c.tally.ensures,
-    )
+pub forward_frames-requires : goal.forward_frames-requires
+forward_frames-requires g c =
+    let job = c.args.job.now in
+    listed_batch job.settings.batch c.args.batch job.frames c.in-Listed.list c.listed_frames-frames.result.now c.in-Listed.is c.listed_frames-frames.ensures
 
-pub returns-in-Err-clause-full : goal.returns-in-Err-clause-full
-returns-in-Err-clause-full g c is =
-    let h = c.in-Some.ensures.holds in
-    let held = c.in-Some.held in
-    let same : c.forwarding.result ≡ CountFull = cc in
-    let passes = c.in-Err.ensures.full (ap Err (c.forwarding.ensures same)) in (
-      held_lists held,
-      search rules,
-      is_passed c.args.job.now.settings c.args.job.now.frames.now c.frames_of-frames.result.now h.0 (learnt_by c.args.lane.now) (held_entities held) (held_version held) (held_lists held) c.args.batch h.2
-          c.frames_of-frames.ensures passes,
-    )
+pub forward_frames-requires-in-Ok : goal.forward_frames-requires-in-Ok
+forward_frames-requires-in-Ok g c =
+    let job = c.args.job.now in
+    cut_batch job.settings.batch c.args.batch job.frames c.in-Cut.batches c.in-Ok.frames.items c.deref.result.now job.cut c.in-Cut.is c.in-Ok.ensures c.deref.ensures.value

@@ -1,6 +1,7 @@
-use Rattle.std.proofs.Common.{◌≡◌, ◌+◌, ◌*◌, ◌-◌, ◌^◌, ◌<◌, ◌∙◌, ◌++◌, ◌∷◌, [], min, length, rules, ap, sym, refl, subst, arith, ℕ}
+use Rattle.std.proofs.Common.{◌≡◌, ◌+◌, ◌*◌, ◌-◌, ◌^◌, ◌<◌, ◌∙◌, ◌++◌, ◌∷◌, [], min, length, ap, sym, refl, subst, arith, ℕ}
 use Rattle.std.proofs.lemmas.List.{length-append}
 use Rattle.plan_publish.specs.Lane.{number_of, learnt_by}
+use Rattle.run_lanes.specs.Frames.{frames_in}
 use Rattle.run_lanes.proofs.Working.{worked_none, worked_more, this_batch, next_batch}
 use Rattle.run_lanes.proofs.lane_work.lane_batches.Goals as goal
 
@@ -17,7 +18,7 @@ loop-k-init g c =
     record {
       same = record { number_is = refl; learnt = refl; home_is = refl };
       next = begin ∙ first_batch (number_of lane) (length c.new-tallies.result.items) lanes (ap length none) (omega (arith, c.number.type_inv, c.number.ensures));
-      worked = (c.requires.0, c.requires.1, rw none (worked_none c.args.job.now.settings c.args.job.now.frames.now (learnt_by lane) (number_of lane) c.requires.0));
+      worked = (c.requires.0, c.requires.1, rw none (worked_none c.args.job.now.settings (frames_in c.args.job.now.frames) (learnt_by lane) (number_of lane) c.requires.0));
     }
 
 pub loop-k-preserved : goal.loop-k-preserved
@@ -28,7 +29,7 @@ loop-k-preserved g c =
     let many = length c.loop-k.tallies.items in
     let items : c.push.new.self.items ≡ c.loop-k.tallies.items ++ c.in_ok-tally.tally ∷ [] = c.in-Ok.ensures.items in
     let len : length c.push.new.self.items ≡ many + 1 = ap length items ∙ length-append c.loop-k.tallies.items (c.in_ok-tally.tally ∷ []) in
-    let fits : c.args.job.now.count < 2 ^ 32 = search rules in
+    let fits : c.args.job.now.count < 2 ^ 32 = c.args.job.now.few in
     let same = c.in_ok-tally.ensures.same in
     let f = c.in_ok-tally.ensures.forwarded in
     let lists : i.worked.0 ≡ f.0 = cc (sym i.worked.1 ∙ f.2) in
@@ -42,7 +43,11 @@ loop-k-preserved g c =
         f.1,
         f.3,
         rw items
-            (worked_more s c.args.job.now.frames.now (learnt_by lane) (number_of lane) i.worked.0 f.0 f.1 (learnt_by c.loop-k.lane) c.loop-k.k c.loop-k.tallies.items c.in_ok-tally.tally
+            (worked_more s (frames_in c.args.job.now.frames) (learnt_by lane) (number_of lane) i.worked.0 f.0 f.1 (learnt_by c.loop-k.lane) c.loop-k.k c.loop-k.tallies.items c.in_ok-tally.tally
             i.worked.2 lists i.same.learnt (this_batch (number_of lane) many s.lanes c.loop-k.k c.args.job.now.count i.next c.loop-k-test.true fits) f.4),
       );
     }
+
+pub loop-k-smaller : goal.loop-k-smaller
+loop-k-smaller g c =
+    omega (arith, c.saturating_add-k.ensures, c.from.ensures, c.loop-k-test.true, c.args.job.now.few, c.args.job.now.can_run.0)

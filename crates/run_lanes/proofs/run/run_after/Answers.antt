@@ -2,6 +2,7 @@ use Rattle.std.proofs.Common.{◌≡◌, ◌∙◌, sym, ap, true}
 use Rattle.std.specs.Prelude.{length}
 use Rattle.mib_state.specs.After.{accepted}
 use Rattle.plan_publish.specs.Told.{told_list}
+use Rattle.run_lanes.specs.Frames.{frames_in}
 use Rattle.run_lanes.proofs.Applying.{applied_new, published_home, published_all}
 use Rattle.run_lanes.proofs.Learnt.{learnt_out, learnt_home, learnt_numbers}
 use Rattle.run_lanes.proofs.Running.{done_home}
@@ -15,7 +16,7 @@ lanes_work-requires-after_bounds g c κs within =
 pub settle-requires : goal.settle-requires
 settle-requires g c =
     let s = c.args.job.now.settings in
-    let frames = c.args.job.now.frames.now in
+    let frames = frames_in c.args.job.now.frames in
     let home = c.args.control.now.home in
     let lanes = c.learn_all.new.lanes.items in
     let homes = done_home s frames lanes c.in-Ok.done.items home (learnt_home c.args.lanes.items lanes (told_list c.publish-first.result) s.lanes home c.requires.lanes c.learn_all.ensures) c.in-Ok.ensures in

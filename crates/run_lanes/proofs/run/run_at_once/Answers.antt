@@ -6,6 +6,7 @@ use Rattle.plan_publish.specs.Told.{told_list}
 use Rattle.std.specs.List.{AllZip}
 use Rattle.std.specs.declared.vec.Vec.{Vec}
 use Rattle.std.specs.declared.alloc.Global.{Global}
+use Rattle.run_lanes.specs.Frames.{frames_in}
 use Rattle.run_lanes.specs.Work.{Did}
 use Rattle.run_lanes.specs.declared.settling.Done.{Done}
 use Rattle.run_lanes.specs.Control.{Applied}
@@ -17,7 +18,7 @@ use Rattle.run_lanes.proofs.run.run_at_once.Goals as goal
 pub settle-requires : goal.settle-requires
 settle-requires g c =
     let s = c.args.job.now.settings in
-    let frames = c.args.job.now.frames.now in
+    let frames = frames_in c.args.job.now.frames in
     let home = c.args.control.now.home in
     let did = of_ok c.work_at_once-done.result.0 c.in-Ok.done (λ (v : Vec Done Global). AllZip (Did s frames) c.args.lanes.items v.items) c.in-Ok.is c.work_at_once-done.ensures.done in
     let homes = done_home s frames c.args.lanes.items c.in-Ok.done.items home (new_home c.args.lanes.items s.lanes home c.requires.lanes) did in
@@ -28,7 +29,7 @@ pub returns : goal.returns
 returns g c =
     let job = c.args.job.now in
     let s = job.settings in
-    let frames = job.frames.now in
+    let frames = frames_in job.frames in
     let lanes = c.args.lanes.items in
     let ds = c.in-Ok.done.items in
     let home = c.args.control.now.home in

@@ -1,4 +1,4 @@
-use Rattle.run_lanes.proofs.run.run_lanes.Goals as goal
+use Rattle.run_lanes.proofs.run.run_lanes_over.Goals as goal
 
 pub returns-clause-accepted : goal.returns-clause-accepted
 returns-clause-accepted g c = c.in_ok-settled.ensures.run.accepted_is

@@ -1,8 +1,8 @@
 -- The first piece holds the header.
-use Rattle.std.proofs.Common.{◌≡◌, List, ap, ◌∙◌, sym}
+use Rattle.std.proofs.Common.{List, ap, ◌∙◌, sym}
 use Rattle.capture.specs.Records.{header_of}
 use Rattle.capture_pieces.proofs.Headers.{first_header}
-use Rattle.capture_pieces.proofs.listing.read_order.Goals as goal
+use Rattle.capture_pieces.proofs.header.read_order.Goals as goal
 
 pub returns : goal.returns
 returns c =
