@@ -1,4 +1,4 @@
 pub mod Captures
 pub mod Examples
-mod Unlisted
+pub mod Unlisted
 pub mod Walk

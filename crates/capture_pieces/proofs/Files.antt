@@ -1,9 +1,6 @@
 -- What the walk over the records says of the file.
 use Rattle.std.proofs.Common.{◌≡◌, ℕ, List, None, Ok, Err, drop, refl}
 use Rattle.std.specs.Prelude.{Result, IfErr, IfOk}
-use Rattle.capture.specs.Listed.{IsWhyNoFrames, IsWhyNoList}
-use Rattle.capture.specs.declared.listed.ListFault.{ListFault}
-use Rattle.capture.specs.declared.listed.ListFault.TheVariants.{Capture, NoMemory}
 use Rattle.capture.specs.Records.{capture_of, first_fault, frames_in, header_of}
 use Rattle.capture.specs.declared.fault.CaptureFault.{CaptureFault}
 use Rattle.capture.specs.declared.order.Order.{Order}
@@ -16,12 +13,6 @@ broken_header file fault header = rw header refl
 pub whole_file : (file : List ℕ) (order : Order) → header_of file ≡ Ok order → first_fault order (drop 24 file) ≡ None → capture_of file ≡ Ok (frames_in order (drop 24 file))
 unfolding capture_of
 whole_file file order header whole = rw (header, whole) refl
-
--- why its records give no frames is why it gives none
-pub why_no_frames : (file : List ℕ) (order : Order) (fault : ListFault) → header_of file ≡ Ok order → IsWhyNoFrames order (drop 24 file) fault → IsWhyNoList file fault
-unfolding capture_of
-why_no_frames file order (Capture fault) header is = rw (header, is) refl
-why_no_frames file order NoMemory header is = (frames_in order (drop 24 file), rw (header, is) refl)
 
 -- ---- what holds of the outcome of a call
 

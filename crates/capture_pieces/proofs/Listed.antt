@@ -7,7 +7,7 @@ use Rattle.capture.specs.Records.{behind_first, first_frame, frames_in, record_f
 use Rattle.capture.proofs.Walk.{frames_broken, frames_whole}
 
 -- the bytes of frames
-abbrev bytes_of : List (Bor (List ℕ)) → List (List ℕ)
+abbrev pub bytes_of : List (Bor (List ℕ)) → List (List ℕ)
 bytes_of frames = map (λ (frame : Bor (List ℕ)). frame.now) frames
 
 -- one frame more is listed

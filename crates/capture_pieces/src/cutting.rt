@@ -8,7 +8,7 @@ use crate::records::Records;
 use capture::{CaptureFault, ListFault, Order};
 use std::alloc::{AllocError, Global};
 
-/// Passes records up to that of a number, the first of which has another. It gives the number behind the last of them.
+/// Passes the records of the numbers `first` to `end` - 1, or as many as there are, and gives the number of the next.
 fn pass_records(
     order: Order,
     records: &mut Records<'_>,

@@ -6,7 +6,8 @@ use Rattle.capture.specs.declared.listed.ListFault.{ListFault}
 use Rattle.capture_pieces.specs.Cut.{Cut}
 use Rattle.capture_pieces.specs.declared.piece.Piece.{Piece}
 use Rattle.capture_pieces.specs.Joined.{file_of}
-use Rattle.capture_pieces.proofs.Files.{broken_header, err_then, ok_both, whole_file, why_no_frames}
+use Rattle.capture.proofs.Unlisted.{why_no_list}
+use Rattle.capture_pieces.proofs.Files.{broken_header, err_then, ok_both, whole_file}
 use Rattle.capture_pieces.proofs.pieces.Pieces.cut.Goals as goal
 
 pub returns-in-Err-clause-fault : goal.returns-in-Err-clause-fault
@@ -34,4 +35,4 @@ returns-clause-fault c =
     let records : c.from_place-records.result ≡ drop 24 file = c.from_place-records.ensures ∙ ap (λ (l : List Piece). drop 24 (file_of l)) c.deref-2.ensures.value in
     err_then c.cut.result _ (λ (fault : ListFault). IsWhyNoList c.args.self.now fault) c.cut.ensures.fault (λ fault why.
     subst (λ (l : List ℕ). IsWhyNoList l fault) c.self.view_is
-    (why_no_frames file order fault header (subst (λ (l : List ℕ). IsWhyNoFrames order l fault) records why)))
+    (why_no_list file order fault header (subst (λ (l : List ℕ). IsWhyNoFrames order l fault) records why)))
