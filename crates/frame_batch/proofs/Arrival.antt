@@ -2,7 +2,6 @@
 use Rattle.std.proofs.Common.{subst, ◌≡◌, ℕ, List, [], ◌∷◌, length, Some, refl, sym, ◌∙◌, arith}
 use Rattle.std.specs.Prelude.{slice_get, suc}
 use Rattle.std.proofs.lemmas.List.Sorted.{length_permutation, Contains-permutation, IsPermutation-sym}
-use Rattle.frame_batch.specs.declared.batch.Report.{Report}
 use Rattle.frame_batch.specs.Gathering.{SameInEveryOrder, GatheredOnce}
 
 pub same_in_every_order : SameInEveryOrder

@@ -3,3 +3,4 @@ mod Filling
 mod Arrival
 mod Misfits
 mod Totals
+pub mod Lent

@@ -1,16 +1,16 @@
 -- What is computed of items that can't be put in order is what the words say.
-use Rattle.std.proofs.Common.{subst, ◌≡◌, ◌≢◌, ℕ, ◌+◌, ◌<◌, ◌≤◌, ◌⊎◌, ⊎_elim, inl, inr, List, [], ◌∷◌, ◌++◌, length, Option, Some, None, refl, ap, sym, ◌∙◌, arith, Bool, true, false}
+use Rattle.std.proofs.Common.{subst, ◌≡◌, ◌≢◌, ℕ, ◌+◌, ◌<◌, ◌≤◌, ◌⊎◌, ⊎_elim, inl, inr, List, [], ◌∷◌, ◌++◌, length, Option, Some, None, refl, ap, sym, arith, Bool, true, false}
 use Rattle.std.specs.Prelude.{slice_get, option_map, suc, zero, cond, nat_lt, ◌==◌}
 use Rattle.std.specs.List.{Contains}
 use Rattle.std.proofs.lemmas.List.{append_assoc, append-nil}
 use Rattle.std.proofs.lemmas.List.Elements.{Contains-push_cases}
 use Rattle.std.proofs.lemmas.List.Folds.{Any-from_list_any, list_any-from_Any}
 use Rattle.std.proofs.lemmas.Option.{get_or_from_slice_get, slice_get_within}
-use Rattle.std.proofs.lemmas.Bool.{cases_eq, cases_lt, eq-eqb, eqb-true, ltb-true, ltb-false}
+use Rattle.std.proofs.lemmas.Bool.{cases_eq, eq-eqb, eqb-true, ltb-true, ltb-false}
 use Rattle.frame_batch.specs.declared.fault.GatherFault.{GatherFault}
-use Rattle.frame_batch.specs.declared.fault.GatherFault.TheVariants.{Double, Stranger, Missing, NoMemory, CountFull}
+use Rattle.frame_batch.specs.declared.fault.GatherFault.TheVariants.{Double, Stranger, Missing}
 use Rattle.frame_batch.specs.Gathering.{has_number, missing_from, misplaced_behind}
-use Rattle.frame_batch.specs.Misfit.{HavePlaces, StandsBehind, IsMisfit}
+use Rattle.frame_batch.specs.Misfit.{HavePlaces, IsMisfit}
 
 -- ---- a list with one more
 

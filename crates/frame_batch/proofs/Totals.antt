@@ -1,23 +1,17 @@
 -- Figures of the verdicts of all reports.
-use Rattle.std.proofs.Common.{◌≡◌, ◌≤◌, ◌^◌, ℕ, List, [], ◌∷◌, refl, sym, subst, arith}
+use Rattle.std.proofs.Common.{◌≡◌, ◌≤◌, ◌^◌, ℕ, List, [], ◌∷◌, sym, subst, arith}
 use Rattle.std.specs.List.{sum_by}
 use Rattle.std.proofs.lemmas.List.Sums.{sum_by-cons}
-use Rattle.frame_stats.specs.Figures.{Figure, Frames, Bytes, DropsFor, FramesTo, figure, counted}
-use Rattle.frame_stats.proofs.FigureSums.{figure-append}
+use Rattle.frame_stats.specs.Figures.{Figure, figure, counted}
+use Rattle.frame_stats.proofs.FigureSums.{figure-append, figure-none}
 use Rattle.frame_batch.specs.declared.batch.Report.{Report}
 use Rattle.frame_batch.specs.declared.fault.GatherFault.{GatherFault}
 use Rattle.frame_batch.specs.declared.fault.GatherFault.TheVariants.{Double, Stranger, Missing, NoMemory, CountFull}
 use Rattle.frame_batch.specs.Gathering.{verdicts_of, SumPasses, IsWhy, IsWhyNot}
 
-figure_of_none : (f : Figure) → figure f [] ≡ 0
-figure_of_none Frames = refl
-figure_of_none Bytes = refl
-figure_of_none (DropsFor reason) = refl
-figure_of_none (FramesTo port) = refl
-
 -- it is the sum of the reports' counts
 pub figure_of_all : (f : Figure) (reports : List Report) → sum_by (λ (r : Report). counted r.counts f) reports ≡ figure f (verdicts_of reports)
-figure_of_all f [] = sym (figure_of_none f)
+figure_of_all f [] = sym (figure-none f)
 figure_of_all f (r ∷ rs) =
     let more = sum_by-cons (λ (q : Report). counted q.counts f) r rs in
     let rest = figure_of_all f rs in

@@ -1,10 +1,10 @@
 -- Reports in the order of their batches.
-use Rattle.std.specs.Prelude.{◌≡◌, ◌==◌, ◌+◌, ◌++◌, ◌≤◌, ◌^◌, ℕ, zero, suc, Bool, List, [], ◌∷◌, length, nat_lt, Option, Some, None, option_map, slice_get, if◌then◌else◌, ⊤}
+use Rattle.std.specs.Prelude.{◌≡◌, ◌==◌, ◌+◌, ◌++◌, ◌≤◌, ◌^◌, ℕ, zero, suc, Bool, List, [], ◌∷◌, length, map, nat_lt, Option, Some, None, option_map, slice_get, if◌then◌else◌, ⊤}
 use Rattle.std.specs.List.{Contains, list_any, flat_map, sum_by}
 use Rattle.std.specs.List.Sorted.{IsPermutation}
 use Rattle.frame_meaning.specs.declared.verdict.Verdict.{Verdict}
 use Rattle.frame_stats.specs.declared.counts.Counts.{Counts}
-use Rattle.frame_stats.specs.Figures.{Figure, counted, SomePasses}
+use Rattle.frame_stats.specs.Figures.{Figure, counted, HasNoZeros, SomePasses}
 use Rattle.frame_batch.specs.declared.batch.Report.{Report}
 use Rattle.frame_batch.specs.declared.batch.Tally.{Tally}
 use Rattle.frame_batch.specs.declared.fault.GatherFault.{GatherFault}
@@ -26,6 +26,14 @@ IsGathered count given out = AreInOrder (λ (r : Report). r.batch) count given o
 -- the verdicts of all batches
 abbrev pub verdicts_of : List Report → List Verdict
 verdicts_of reports = flat_map (λ (r : Report). r.verdicts.items) reports
+
+-- these are the versions of the given tallies in the order of batches 0 to count - 1, and the sums of their counts
+pub record AreVersionsOf (count : ℕ) (given : List Tally) (versions : List ℕ) (c : Counts) : Type 0 where
+  pub out : List Tally
+  pub in_order : AreInOrder (λ (t : Tally). t.batch) count given out
+  pub versions_are : versions ≡ map (λ (t : Tally). t.version) out
+  pub sums : (f : Figure) → counted c f ≡ sum_by (λ (t : Tally). counted t.counts f) out
+  pub no_zeros : HasNoZeros c.ports
 
 -- a sum of the items' counts passes 64 bits
 abbrev pub SumPasses : {X : Type 0} → (X → Counts) → List X → Type 0

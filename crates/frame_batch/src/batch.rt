@@ -1,17 +1,17 @@
 //! One batch, by the lane that is in.
 ghost use Rattle.frame_stats.specs.Figures.{AreCountsOf};
-ghost use Rattle.std.specs.Prelude.{◌≡◌, ◌<◌, ◌↔◌, ◌≤◌, ◌⊎◌, ℕ, IfOk, IsErrOf, length, true, false};
+ghost use Rattle.std.specs.Prelude.{◌≡◌, ◌<◌, ◌↔◌, ◌≤◌, ◌⊎◌, ℕ, [], IfOk, OnOk, IsErrOf, length, true, false};
 ghost use Rattle.frame_stats.specs.Figures.{SomePasses};
 ghost use Rattle.plan_publish.specs.Lane.{number_of};
 ghost use Rattle.plan_publish.specs.Held.{held_entities, held_lane, held_version};
 ghost use Rattle.frame_batch.specs.Batches.{meanings, most_frames};
 
 use crate::fault::BatchFault;
-use crate::forwarding::{MOST, forward_each};
-use forward_plan::Verdict;
-use frame_stats::{CountFault, Counts, count_of};
+use crate::forwarding::MOST;
+use forward_plan::{Live, Verdict};
+use frame_stats::{CountFault, Counts};
 use plan_publish::Held;
-use std::alloc::Global;
+use std::alloc::{AllocError, Global};
 
 /// Lets batches pass, or not. Who runs batches in step, or means to stop them, implements it, and may say what it may answer to a
 /// lane, a batch and a number of turns.
@@ -52,7 +52,27 @@ pub struct Report<'a> {
     ghost exact: { AreCountsOf verdicts.items counts },
 }
 
-impl Report<'_> {
+impl<'a> Report<'a> {
+    ghost use Rattle.std.specs.Prelude.{◌≡◌, [], IfOk, OnOk, OnErr, IsErrOf};
+    ghost use Rattle.frame_stats.specs.Figures.{AreCountsOf, SomePasses};
+    ghost use Rattle.frame_batch.specs.Batches.{meanings};
+
+    /// The report of no frames, by lane 0 and version 0, with the number 0. A lane has it for [`run_batch_into`]. It takes no memory.
+    pub fn empty(alloc: Global) -> Self
+        ensures lane { result.lane ≡ 0 }
+        ensures number { result.batch ≡ 0 }
+        ensures version { result.version ≡ 0 }
+        ensures verdicts { result.verdicts.items ≡ [] }
+    {
+        Report {
+            lane: 0,
+            batch: 0,
+            version: 0,
+            verdicts: Vec::new(alloc),
+            counts: Counts::zero(alloc),
+        }
+    }
+
     /// The report without its verdicts, whose memory is given back.
     pub fn tally(self) -> Tally
         ensures { result
@@ -75,6 +95,46 @@ impl Report<'_> {
             batch,
             version,
             counts,
+        }
+    }
+
+    /// What [`tally`](Report::tally) gives, of a report that is kept. It takes memory for the GEM ports that had to give up their
+    /// places to others.
+    pub fn copy_tally(&self, alloc: Global) -> Result<Tally, AllocError>
+        ensures lane { IfOk result (λ tally. tally.lane ≡ self.now.lane) }
+        ensures number { IfOk result (λ tally. tally.batch ≡ self.now.batch) }
+        ensures version { IfOk result (λ tally. tally.version ≡ self.now.version) }
+        ensures counts { IfOk result (λ tally. AreCountsOf self.now.verdicts.items tally.counts) }
+    {
+        let counts = self.counts.copy(alloc)?;
+        Ok(Tally {
+            lane: self.lane,
+            batch: self.batch,
+            version: self.version,
+            counts,
+        })
+    }
+
+    /// Puts what becomes of frames in place of the verdicts, with their counts. On a fault there is nothing in it.
+    fn refill(&mut self, live: &Live, port: u16, frames: &[&'a [u8]]) -> Result<(), CountFault>
+        ensures verdicts { OnOk result
+            (self.new.verdicts.items ≡ meanings live.now port frames.now) }
+        ensures nothing { OnErr result (self.new.verdicts.items ≡ []) }
+        ensures full { IsErrOf result CountFault.CountFull
+            → SomePasses (meanings live.now port frames.now) }
+    {
+        self.verdicts.clear();
+        let Ok(()) = self.verdicts.reserve_exact(frames.len()) else {
+            self.counts.clear();
+            return Err(CountFault::NoMemory);
+        };
+        live.port(port).push_all(frames, &mut self.verdicts);
+        match self.counts.recount(self.verdicts.as_slice()) {
+            Ok(()) => Ok(()),
+            Err(fault) => {
+                self.verdicts.clear();
+                Err(fault)
+            }
         }
     }
 }
@@ -122,6 +182,45 @@ pub fn run_batch<'a, G: Gate>(
     ensures full { IsErrOf result BatchFault.CountFull
         → SomePasses (meanings (held_entities held.now) batch.entry.port batch.entry.frames.now) }
 {
+    let mut report = Report::empty(alloc);
+    match run_batch_into(&mut report, held, batch, turns, gate) {
+        Ok(()) => Ok(report),
+        Err(fault) => Err(fault),
+    }
+}
+
+/// Forwards the frames of a batch as [`run_batch`] does, and puts what becomes of them in place of what a report says. A lane that
+/// has one report for all its batches takes memory for the longest alone, and counts faster.
+///
+/// The faults are those of [`run_batch`], in the same order. A batch with too many frames, or one that the gate stops, leaves the
+/// report as it was. Otherwise a fault leaves it without verdicts.
+pub fn run_batch_into<'a, G: Gate>(
+    report: &mut Report<'a>,
+    held: &Held<'_>,
+    batch: Batch<'_, 'a>,
+    turns: u32,
+    gate: &G,
+) -> Result<(), BatchFault>
+    ensures lane { OnOk result (report.new.lane ≡ number_of (held_lane held.now)) }
+    ensures number { OnOk result (report.new.batch ≡ batch.entry.number) }
+    ensures version { OnOk result (report.new.version ≡ held_version held.now) }
+    ensures verdicts { OnOk result (report.new.verdicts.items
+        ≡ meanings (held_entities held.now) batch.entry.port batch.entry.frames.now) }
+    ensures too_many { (n : ℕ) → IsErrOf result (BatchFault.TooMany n)
+        ↔ ((n ≡ length batch.entry.frames.now) × (most_frames < n)) }
+    ensures passed { OnOk result
+        (G.may_answer gate.now (number_of (held_lane held.now)) batch.entry.number turns true) }
+    ensures stalled { IsErrOf result BatchFault.Stalled
+        → G.may_answer gate.now (number_of (held_lane held.now)) batch.entry.number turns false }
+    ensures behind { IsErrOf result BatchFault.NoMemory ⊎ IsErrOf result BatchFault.CountFull
+        → G.may_answer gate.now (number_of (held_lane held.now)) batch.entry.number turns true }
+    ensures full { IsErrOf result BatchFault.CountFull
+        → SomePasses (meanings (held_entities held.now) batch.entry.port batch.entry.frames.now) }
+    ensures unchanged { ((n : ℕ) → IsErrOf result (BatchFault.TooMany n) → report.new ≡ report.old)
+        × (IsErrOf result BatchFault.Stalled → report.new ≡ report.old) }
+    ensures nothing { IsErrOf result BatchFault.NoMemory ⊎ IsErrOf result BatchFault.CountFull
+        → report.new.verdicts.items ≡ [] }
+{
     let Batch {
         number,
         port,
@@ -133,17 +232,13 @@ pub fn run_batch<'a, G: Gate>(
     if !gate.pass(held.lane(), number, turns) {
         return Err(BatchFault::Stalled);
     }
-    let Ok(verdicts) = forward_each(alloc, held.live(), port, frames) else {
-        return Err(BatchFault::NoMemory);
-    };
-    match count_of(alloc, verdicts.as_slice()) {
-        Ok(counts) => Ok(Report {
-            lane: held.lane(),
-            batch: number,
-            version: held.version(),
-            verdicts,
-            counts,
-        }),
+    match report.refill(held.live(), port, frames) {
+        Ok(()) => {
+            report.lane = held.lane();
+            report.batch = number;
+            report.version = held.version();
+            Ok(())
+        }
         Err(CountFault::CountFull) => Err(BatchFault::CountFull),
         Err(CountFault::NoMemory) => Err(BatchFault::NoMemory),
     }

@@ -80,7 +80,7 @@ pub fn gather_tallies(
 }
 
 /// The items by ascending batch, with the sums of their counts.
-fn in_order_with_counts<T: Numbered>(
+pub(crate) fn in_order_with_counts<T: Numbered>(
     alloc: Global,
     items: Vec<T>,
     count: u32,

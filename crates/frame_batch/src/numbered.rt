@@ -47,3 +47,17 @@ impl Numbered for Tally {
         &self.counts
     }
 }
+
+impl Numbered for &Tally {
+    ghost number = { λ tally. tally.now.batch };
+
+    ghost counts_of = { λ tally. tally.now.counts };
+
+    fn batch(&self) -> u32 {
+        self.batch
+    }
+
+    fn counts(&self) -> &Counts {
+        &self.counts
+    }
+}

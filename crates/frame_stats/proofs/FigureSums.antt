@@ -31,7 +31,8 @@ figure-cons (DropsFor reason) (Drop found) vs = more_that_pass (is_drop_for reas
 figure-cons (FramesTo port) (Forward gem frame) vs = more_that_pass (leaves_by_port port (Forward gem frame)) (Forward gem frame) (filter (leaves_by_port port) vs)
 figure-cons (FramesTo port) (Drop found) vs = omega arith
 
-figure-none : (f : Figure) → figure f [] ≡ 0
+-- nothing has none of any figure
+pub figure-none : (f : Figure) → figure f [] ≡ 0
 figure-none Frames = refl
 figure-none Bytes = refl
 figure-none (DropsFor reason) = refl

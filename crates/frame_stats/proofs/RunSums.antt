@@ -93,3 +93,18 @@ runs_hold P q (x ∷ xs) all some =
     (cases_eq x.frames 0))
     (λ (other : x.port ≢ q). behind (grind (arith, nat_tests)))
     (cases_eq x.port q)
+
+-- where no run has frames, no port has
+pub no_frames : (q : ℕ) (runs : List Run) → ((k : ℕ) → (get_or runs k no_run).frames ≡ 0) → in_runs q runs ≡ 0
+no_frames q [] none = refl
+no_frames q (x ∷ xs) none =
+    let zero_here : x.frames ≡ 0 = none 0 in
+    let here : of_run q x ≡ 0 = ⊎_elim (λ (same : x.port ≡ q). grind (arith, nat_tests)) (λ (other : x.port ≢ q). grind (arith, nat_tests)) (cases_eq x.port q) in
+    let rest = no_frames q xs (λ k. none (suc k)) in
+    omega (arith, in_runs-cons q x xs, here, rest)
+
+-- runs that have none at any of their places have none behind them either
+pub none_anywhere : (runs : List Run) → ((k : ℕ) → k < length runs → (get_or runs k no_run).frames ≡ 0) → (k : ℕ) → (get_or runs k no_run).frames ≡ 0
+none_anywhere [] none k = refl
+none_anywhere (x ∷ xs) none zero = none 0 (omega arith)
+none_anywhere (x ∷ xs) none (suc k) = none_anywhere xs (λ j lt. none (suc j) (omega (arith, lt))) k

@@ -1,6 +1,6 @@
 //! Counts of verdicts.
 use crate::port_counts::PortCounts;
-use std::alloc::Global;
+use std::alloc::{AllocError, Global};
 
 /// What is counted of verdicts on frames.
 #[derive(Debug, Drop)]
@@ -16,8 +16,9 @@ pub struct Counts {
 }
 
 impl Counts {
+    ghost use Rattle.std.specs.Prelude.{◌≡◌, IfOk};
     ghost use Rattle.frame_stats.specs.Books.{IsZero};
-    ghost use Rattle.frame_stats.specs.Figures.{HasNoZeros};
+    ghost use Rattle.frame_stats.specs.Figures.{Figure, counted, HasNoZeros};
 
     /// Nothing is counted. It takes no memory.
     pub fn zero(alloc: Global) -> Counts
@@ -30,5 +31,30 @@ impl Counts {
             drops: [0; 9],
             ports: PortCounts::new(alloc),
         }
+    }
+
+    /// Nothing is counted any more. GEM ports keep their places.
+    pub fn clear(&mut self)
+        ensures zero { IsZero self.new }
+        ensures no_zeros { HasNoZeros self.new.ports }
+    {
+        self.frames = 0;
+        self.bytes = 0;
+        self.drops = [0; 9];
+        self.ports.clear();
+    }
+
+    /// The same counts again. It takes memory for the GEM ports that had to give up their places to others.
+    pub fn copy(&self, alloc: Global) -> Result<Counts, AllocError>
+        ensures same { IfOk result (λ c. (f : Figure) → counted c f ≡ counted self.now f) }
+        ensures no_zeros { IfOk result (λ c. HasNoZeros c.ports) }
+    {
+        let ports = self.ports.copy(alloc)?;
+        Ok(Counts {
+            frames: self.frames,
+            bytes: self.bytes,
+            drops: self.drops,
+            ports,
+        })
     }
 }

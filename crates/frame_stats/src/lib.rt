@@ -5,7 +5,8 @@
 //! made figure by figure, where a GEM port that is absent counts 0.
 //!
 //! **A count per port costs little.** The frames of a port gather in one of 16 places, which its number chooses, and go to a map only
-//! where another port takes that place. So the counts of a batch mostly take no memory.
+//! where another port takes that place. So the counts of a batch mostly take no memory. [`Counts::recount`] leaves the ports at their
+//! places for the next list of verdicts.
 //!
 //! **A book** keeps a part for each lane and their total. Its type says that the total is the sum of the parts, so whoever holds
 //! the lock round it finds it so. An addition is made aside and then put in place, so a refused one changes nothing.

@@ -2,7 +2,7 @@
 ghost use Rattle.frame_stats.specs.Ports.{AllFit, ArePlaced, NoneIsZero};
 
 use crate::ports::{add_all, add_frames, end_runs};
-use crate::run::{RUNS, Run, place_of};
+use crate::run::{RUNS, Run, end_frames, place_of};
 use std::alloc::{AllocError, Global};
 use std::collections::BTreeMap;
 
@@ -67,20 +67,14 @@ impl PortCounts {
         ensures memory { OnErr result ((port : ℕ) × (0 < at_port self.old port)) }
     {
         let place = place_of(gem);
-        let run = self.runs[place];
-        // Without a branch on either alone: nobody foresees the first frame of a port.
-        let is_other = (run.frames != 0) & (run.port != gem);
-        if is_other {
+        if self.runs[place].port != gem {
             return self.begin_run(gem, frames);
         }
-        self.runs[place] = Run {
-            port: gem,
-            frames: run.frames + frames,
-        };
+        self.runs[place].frames += frames;
         Ok(())
     }
 
-    /// Counts frames of a GEM port in place of the run of another, whose frames go to the map.
+    /// Counts frames of a GEM port in place of the run of another, whose frames go to the map if it has some.
     #[cold]
     #[inline(never)]
     fn begin_run(&mut self, gem: u16, frames: u64) -> Result<(), AllocError>
@@ -95,6 +89,14 @@ impl PortCounts {
         };
         self.runs[place] = Run { port: gem, frames };
         Ok(())
+    }
+
+    /// No frames any more. Each place keeps its port, so the next frames of this port begin no run.
+    pub(crate) fn clear(&mut self)
+        ensures { (port : ℕ) → at_port self.new port ≡ 0 }
+    {
+        self.others.clear();
+        end_frames(&mut self.runs);
     }
 
     /// The same counts again. It takes memory for the ports of the map.

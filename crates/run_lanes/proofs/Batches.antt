@@ -1,15 +1,12 @@
 -- The frames of a batch, wherever those of the run are.
-use Rattle.std.proofs.Common.{◌≡◌, ℕ, ◌*◌, List, map, take, drop, ap, sym, subst, ◌∙◌}
+use Rattle.std.proofs.Common.{◌≡◌, ℕ, ◌*◌, List, take, drop, ap, sym, subst, ◌∙◌}
 use Rattle.std.specs.Borrow.{Bor}
 use Rattle.std.proofs.lemmas.List.{drop-map, take-map}
 use Rattle.capture_pieces.specs.Cut.{Cut, batch_of}
+use Rattle.capture_pieces.proofs.Listed.{bytes_of}
 use Rattle.run_lanes.specs.declared.frames.RunFrames.{RunFrames}
 use Rattle.run_lanes.specs.declared.frames.RunFrames.TheVariants as source
 use Rattle.run_lanes.specs.Frames.{IsCutFor, frames_in}
-
--- the bytes of frames
-abbrev pub bytes_of : List (Bor (List ℕ)) → List (List ℕ)
-bytes_of frames = map (λ (frame : Bor (List ℕ)). frame.now) frames
 
 bytes_of_batch : (size k : ℕ) (frames : List (Bor (List ℕ))) → bytes_of (batch_of size k frames) ≡ batch_of size k (bytes_of frames)
 bytes_of_batch size k frames =

@@ -7,18 +7,12 @@ use Rattle.std.proofs.lemmas.List.Sums.{sum_by-cons}
 use Rattle.omci_msg.specs.declared.Request.{Request}
 use Rattle.mib_state.specs.After.{after}
 use Rattle.mib_state.specs.Entities.{Entities}
-use Rattle.frame_stats.specs.Figures.{Figure, Frames, Bytes, DropsFor, FramesTo, figure, counted, AreCountsOf}
-use Rattle.frame_stats.proofs.FigureSums.{figure-append}
+use Rattle.frame_stats.specs.Figures.{Figure, figure, counted, AreCountsOf}
+use Rattle.frame_stats.proofs.FigureSums.{figure-append, figure-none}
 use Rattle.frame_batch.specs.declared.batch.Tally.{Tally}
 use Rattle.capture_pieces.specs.Cut.{batch_of}
 use Rattle.run_lanes.specs.Run.{verdicts_from}
 use Rattle.run_lanes.specs.Work.{verdicts_on}
-
-figure_of_none : (f : Figure) → figure f [] ≡ 0
-figure_of_none Frames = refl
-figure_of_none Bytes = refl
-figure_of_none (DropsFor reason) = refl
-figure_of_none (FramesTo port) = refl
 
 abbrev pub versions_of : List Tally → List ℕ
 versions_of tallies = map (λ (t : Tally). t.version) tallies
@@ -43,7 +37,7 @@ module _ (accepted : List Request) (port size : ℕ) where
 
   pub sums_are : (f : Figure) (frames : List (List ℕ)) (tallies : List Tally) → AreMeant frames tallies
       → sum_by (λ (t : Tally). counted t.counts f) tallies ≡ figure f (verdicts_from accepted port size frames (versions_of tallies))
-  sums_are f frames [] meant = sym (figure_of_none f)
+  sums_are f frames [] meant = sym (figure-none f)
   sums_are f frames (t ∷ ts) meant =
       let e : Entities = after (take t.version accepted) in
       let this : counted t.counts f ≡ figure f (verdicts_on e port (take size frames)) =

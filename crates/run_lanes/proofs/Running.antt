@@ -17,6 +17,7 @@ use Rattle.plan_publish.specs.Lane.{number_of, learnt_by, home_of, IsNew}
 use Rattle.frame_stats.specs.Figures.{Figure, figure, counted, AreCountsOf, HasNoZeros}
 use Rattle.frame_batch.specs.declared.batch.Tally.{Tally}
 use Rattle.frame_batch.specs.Gathering.{SumPasses}
+use Rattle.frame_batch.proofs.Lent.{mapped_at}
 use Rattle.capture_pieces.specs.Cut.{batch_of}
 use Rattle.run_settings.specs.declared.settings.RunSettings.{RunSettings}
 use Rattle.run_lanes.specs.declared.settling.Done.{Done}
@@ -73,11 +74,6 @@ on_ok r v P is h = subst (λ (o : Result _ _). OnOk o P) is h
 
 is_at : (xs : List Tally) (t : Tally) → Contains xs t → (i : ℕ) × (slice_get xs i ≡ Some t)
 is_at xs t h = (h.0, slice_get-get_or xs h.0 t h.1 ∙ ap Some h.2)
-
-mapped_at : {X Y : Type 0} (f : X → Y) (xs : List X) (k : ℕ) (y : Y) → slice_get (map f xs) k ≡ Some y → (x : X) × (slice_get xs k ≡ Some x) × (f x ≡ y)
-mapped_at f [] k y h = absurd (let e : ⊥ = cc in e)
-mapped_at f (x ∷ xs) zero y h = (x, refl, (let e : f x ≡ y = cc in e))
-mapped_at f (x ∷ xs) (suc k) y h = mapped_at f xs k y h
 
 all_mapped : {X Y : Type 0} (f : X → Y) (P : Y → Type 0) (xs : List X) → ((k : ℕ) (x : X) → slice_get xs k ≡ Some x → P (f x)) → (k : ℕ) (d : Y) → k < length (map f xs) → P (get_or (map f xs) k d)
 all_mapped f P [] each k d lt = absurd (omega (arith, lt))

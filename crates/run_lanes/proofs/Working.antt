@@ -11,7 +11,6 @@ use Rattle.mib_state.specs.Entities.{Entities}
 use Rattle.mib_state.specs.After.{after}
 use Rattle.frame_meaning.specs.declared.verdict.Verdict.{Verdict}
 use Rattle.frame_meaning.specs.Meaning.{meaning}
-use Rattle.frame_stats.specs.declared.counts.Counts.{Counts}
 use Rattle.frame_stats.specs.Figures.{AreCountsOf, SomePasses, figure}
 use Rattle.frame_batch.specs.Batches.{meanings}
 use Rattle.plan_publish.specs.Requests.{StartsWith, StartsWithEach, version_of}
@@ -19,10 +18,10 @@ use Rattle.plan_publish.specs.Holding.{Holds}
 use Rattle.plan_publish.proofs.Beginnings.{version_grows}
 use Rattle.frame_batch.specs.declared.batch.Tally.{Tally}
 use Rattle.capture_pieces.specs.Cut.{batch_of}
+use Rattle.capture_pieces.proofs.Listed.{bytes_of}
 use Rattle.capture_pieces.proofs.Starts.{last_or_before}
 use Rattle.run_settings.specs.declared.settings.RunSettings.{RunSettings}
 use Rattle.run_lanes.specs.Work.{BatchPasses, IsTally, Forwarded, OfLane, Worked, verdicts_on}
-use Rattle.run_lanes.proofs.Batches.{bytes_of}
 
 -- what begins with each list begins with any of them
 pub starts_with_one : (all : List Request) (held : List (List Request)) (one : List Request) → StartsWithEach all held → Contains held one → StartsWith all one
@@ -36,21 +35,21 @@ same_verdicts e port given bytes same = sym (map-map (meaning e port) (λ (frame
 
 -- the tally of a report by a lane that is in
 pub is_forwarded : (s : RunSettings) (frames : List (List ℕ)) (given : List (Bor (List ℕ))) (before : List (List Request)) (learnt : List Request) (entities : Entities) (version : ℕ) (lists : List (List Request)) (batch : ℕ)
-    (lane number held : ℕ) (verdicts : List Verdict) (counts : Counts) (t : Tally)
-    → Holds before learnt entities version lists → bytes_of given ≡ batch_of s.batch batch frames → number ≡ batch → held ≡ version → verdicts ≡ meanings entities s.port given → AreCountsOf verdicts counts
-    → t ≡ record { lane = lane; batch = number; version = held; counts = counts } → Forwarded s frames before learnt lists batch t
-is_forwarded s frames given before learnt entities version lists batch lane number held verdicts counts t h same number_is held_is meant exact is = record {
+    (verdicts : List Verdict) (t : Tally)
+    → Holds before learnt entities version lists → bytes_of given ≡ batch_of s.batch batch frames → t.batch ≡ batch → t.version ≡ version → verdicts ≡ meanings entities s.port given → AreCountsOf verdicts t.counts
+    → Forwarded s frames before learnt lists batch t
+is_forwarded s frames given before learnt entities version lists batch verdicts t h same number_is held_is meant exact = record {
   requests = h.now;
   held = h.held;
   begins_held = h.begins_held;
   begins_learnt = h.begins_learnt;
-  number = ap (λ (x : Tally). x.batch) is ∙ number_is;
+  number = number_is;
   tally = record {
-    version = ap (λ (x : Tally). x.version) is ∙ held_is ∙ h.version_is;
+    version = held_is ∙ h.version_is;
     counts =
         let all : verdicts ≡ verdicts_on (after h.now) s.port (batch_of s.batch batch frames) =
         meant ∙ ap (λ (e : Entities). meanings e s.port given) h.entities_are ∙ same_verdicts (after h.now) s.port given (batch_of s.batch batch frames) same in
-        subst (λ (x : Tally). AreCountsOf (verdicts_on (after h.now) s.port (batch_of s.batch batch frames)) x.counts) (sym is) (subst (λ (l : List Verdict). AreCountsOf l counts) all exact);
+        subst (λ (l : List Verdict). AreCountsOf l t.counts) all exact;
   };
 }
 

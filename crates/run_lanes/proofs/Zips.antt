@@ -12,10 +12,6 @@ zip_by_index R (j ∷ js) (d ∷ ds) len each =
     let first = each 0 d (omega arith) in
     (subst (λ x. R x d) first.1 first.2, zip_by_index R js ds (omega arith) (λ i e lt. each (suc i) e (omega arith)))
 
-pub ok_both : {T E : Type 0} (r : Result T E) (P Q S : T → Type 0) → IfOk r P → IfOk r Q → ((v : T) → P v → Q v → S v) → IfOk r S
-ok_both (Ok v) P Q S p q f = f v p q
-ok_both (Err e) P Q S p q f = tt
-
 pub ok_then : {T E : Type 0} (r : Result T E) (P Q : T → Type 0) → IfOk r P → ((v : T) → P v → Q v) → IfOk r Q
 ok_then (Ok v) P Q p f = f v p
 ok_then (Err e) P Q p f = tt

@@ -46,6 +46,15 @@ pub record BatchPasses (s : RunSettings) (frames : List (List ℕ)) (held : List
   pub begins_learnt : StartsWith requests learnt
   pub passes : SomePasses (verdicts_on (after requests) s.port (batch_of s.batch batch frames))
 
+-- a lane forwarded a batch: it held a list more, and the tally is of that
+abbrev pub HasForwarded : RunSettings → List (List ℕ) → ℕ → Lane → Lane → Tally → Type 0
+HasForwarded s frames batch old new t =
+    (before : List (List Request)) × (now : List (List Request)) × (held_by old ≡ Some before) × (held_by new ≡ Some now) × Forwarded s frames before (learnt_by old) now batch t
+
+-- a lane has held a list by which a sum of the batch passes 64 bits
+abbrev pub HasPassed : RunSettings → List (List ℕ) → ℕ → Lane → Lane → Type 0
+HasPassed s frames batch old new = (now : List (List Request)) × (held_by new ≡ Some now) × BatchPasses s frames now (learnt_by old) batch
+
 -- tally i of a lane is of a list that it held, and of its i-th batch
 pub record OfLane (s : RunSettings) (frames : List (List ℕ)) (held : List (List Request)) (learnt : List Request) (number i : ℕ) (t : Tally) : Type 0 where
   pub requests : List Request

@@ -4,12 +4,12 @@ ghost use Rattle.plan_publish.specs.Lane.{number_of, held_by, learnt_by, IsSameL
 ghost use Rattle.capture_pieces.specs.Cut.{batch_of};
 ghost use Rattle.run_settings.specs.Settings.{batch_limit};
 ghost use Rattle.run_lanes.specs.Frames.{frames_in};
-ghost use Rattle.run_lanes.specs.Work.{BatchPasses, Forwarded, IsOut, SomeBatchPasses, Worked};
+ghost use Rattle.run_lanes.specs.Work.{HasForwarded, HasPassed, IsOut, SomeBatchPasses, Worked};
 
 use crate::fault::{LaneFault, forwarding};
 use crate::frames::RunFrames;
 use crate::job::Job;
-use frame_batch::{Batch, Gate, Tally, run_batch};
+use frame_batch::{Batch, Gate, Report, Tally, run_batch_into};
 use frame_stats::{StatBook, StatFault};
 use plan_publish::Lane;
 use std::sync::{Mutex, Wait};
@@ -31,9 +31,10 @@ pub(crate) fn lane_batches<'a, G: Gate, R: Wait>(
         lane.new }
 {
     let mut tallies = Vec::new(job.alloc);
+    let mut report = Report::empty(job.alloc);
     let mut k = u32::from(lane.number());
     while k < job.count {
-        let tally = forward_batch(lane, job, k, gate)?;
+        let tally = forward_batch(lane, job, k, gate, &mut report)?;
         note(rt, job.book, &tally)?;
         let Ok(()) = tallies.push(tally) else {
             return Err(LaneFault::NoMemory);
@@ -49,23 +50,21 @@ fn forward_batch<'a, G: Gate>(
     job: &Job<'_, 'a>,
     batch: u32,
     gate: &G,
+    report: &mut Report<'a>,
 ) -> Result<Tally, LaneFault>
     ensures same { IsSameLane lane.old lane.new }
-    ensures forwarded { IfOk result (λ tally. (before now : _) × (held_by lane.old ≡ Some before)
-        × (held_by lane.new ≡ Some now)
-        × Forwarded job.now.settings (frames_in job.now.frames) before (learnt_by lane.old) now
-        batch tally) }
+    ensures forwarded { IfOk result (λ tally. HasForwarded job.now.settings
+        (frames_in job.now.frames) batch lane.old lane.new tally) }
     ensures full { IsErrOf result LaneFault.CountFull
-        → (now : _) × (held_by lane.new ≡ Some now)
-        × BatchPasses job.now.settings (frames_in job.now.frames) now (learnt_by lane.old) batch }
+        → HasPassed job.now.settings (frames_in job.now.frames) batch lane.old lane.new }
 {
     match job.frames {
         RunFrames::Listed(list) => {
             let frames = listed_frames(list, job.settings.batch, batch);
-            forward_frames(lane, job, batch, frames, gate)
+            forward_frames(lane, job, batch, frames, gate, report)
         }
         RunFrames::Cut(batches) => match batches.frames_of(job.alloc, batch) {
-            Ok(frames) => forward_frames(lane, job, batch, &frames, gate),
+            Ok(frames) => forward_frames(lane, job, batch, &frames, gate, report),
             Err(_) => Err(LaneFault::NoMemory),
         },
     }
@@ -78,17 +77,15 @@ fn forward_frames<'a, G: Gate>(
     batch: u32,
     frames: &[&'a [u8]],
     gate: &G,
+    report: &mut Report<'a>,
 ) -> Result<Tally, LaneFault>
     requires { map (λ frame. frame.now) frames.now
         ≡ batch_of job.now.settings.batch batch (frames_in job.now.frames) }
     ensures same { IsSameLane lane.old lane.new }
-    ensures forwarded { IfOk result (λ tally. (before now : _) × (held_by lane.old ≡ Some before)
-        × (held_by lane.new ≡ Some now)
-        × Forwarded job.now.settings (frames_in job.now.frames) before (learnt_by lane.old) now
-        batch tally) }
+    ensures forwarded { IfOk result (λ tally. HasForwarded job.now.settings
+        (frames_in job.now.frames) batch lane.old lane.new tally) }
     ensures full { IsErrOf result LaneFault.CountFull
-        → (now : _) × (held_by lane.new ≡ Some now)
-        × BatchPasses job.now.settings (frames_in job.now.frames) now (learnt_by lane.old) batch }
+        → HasPassed job.now.settings (frames_in job.now.frames) batch lane.old lane.new }
 {
     if !gate.pass(lane.number(), batch, job.turns) {
         return Err(LaneFault::Refused);
@@ -96,8 +93,8 @@ fn forward_frames<'a, G: Gate>(
     let Some(held) = lane.enter() else {
         return Err(LaneFault::Refused);
     };
-    let done = run_batch(
-        job.alloc,
+    let done = run_batch_into(
+        report,
         &held,
         Batch {
             number: batch,
@@ -109,7 +106,10 @@ fn forward_frames<'a, G: Gate>(
     );
     held.leave();
     match done {
-        Ok(report) => Ok(report.tally()),
+        Ok(()) => match report.copy_tally(job.alloc) {
+            Ok(tally) => Ok(tally),
+            Err(_) => Err(LaneFault::NoMemory),
+        },
         Err(fault) => Err(forwarding(fault)),
     }
 }

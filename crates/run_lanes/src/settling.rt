@@ -1,11 +1,11 @@
 //! What is known once the lanes are back.
-ghost use Rattle.std.specs.Prelude.{◌≡◌, ◌++◌, ◌⊎◌, Ok, IfOk, IsErrOf, All, map};
+ghost use Rattle.std.specs.Prelude.{◌≡◌, ◌++◌, ◌⊎◌, Ok, IfOk, IsErrOf, All};
 ghost use Rattle.plan_publish.specs.Lane.{home_of, HeldBeginnings};
 ghost use Rattle.plan_publish.specs.Told.{told_home, told_list};
 ghost use Rattle.run_lanes.specs.Settling.{AllAreFull, Collected, IsSettled, SomeLaneIsFull};
 
 use crate::fault::{LaneFault, gathering};
-use frame_batch::{Tally, gather_tallies};
+use frame_batch::{Tally, gather_versions};
 use frame_stats::Counts;
 use plan_publish::{Lane, Told};
 use std::alloc::Global;
@@ -30,7 +30,7 @@ pub(crate) struct Settled {
     pub(crate) counts: Counts,
 }
 
-/// Settles what the lanes did: each shows that it holds what was told, and the tallies of their batches are put in order.
+/// Settles what the lanes did: each shows that it holds what was told, and the versions of their batches are put in order.
 pub(crate) fn settle(
     alloc: Global,
     all_done: Vec<Done>,
@@ -45,31 +45,14 @@ pub(crate) fn settle(
 {
     let accepted = told.version();
     let tallies = collect(alloc, all_done, told)?;
-    let gathered = match gather_tallies(alloc, tallies, count) {
-        Ok(gathered) => gathered,
-        Err(fault) => return Err(gathering(fault)),
-    };
-    let versions = versions_of(alloc, &gathered.tallies)?;
-    Ok(Settled {
-        accepted,
-        versions,
-        counts: gathered.counts,
-    })
-}
-
-/// The versions of batches.
-fn versions_of(alloc: Global, tallies: &[Tally]) -> Result<Vec<u64>, LaneFault>
-    ensures versions { IfOk result (λ versions.
-        versions.items ≡ map (λ t. t.version) tallies.now) }
-    ensures full { ¬ (IsErrOf result LaneFault.CountFull) }
-{
-    let Ok(mut versions) = Vec::with_capacity(alloc, tallies.len()) else {
-        return Err(LaneFault::NoMemory);
-    };
-    for tally in tallies {
-        versions.push_reserved(tally.version);
+    match gather_versions(alloc, tallies.as_slice(), count) {
+        Ok(gathered) => Ok(Settled {
+            accepted,
+            versions: gathered.versions,
+            counts: gathered.counts,
+        }),
+        Err(fault) => Err(gathering(fault)),
     }
-    Ok(versions)
 }
 
 /// The tallies of a lane, which then holds what was told.
@@ -94,6 +77,10 @@ fn add_tallies(all: Vec<Tally>, more: Vec<Tally>) -> Result<Vec<Tally>, LaneFaul
     ensures added { IfOk result (λ both. both.items ≡ all.items ++ more.items) }
     ensures full { ¬ (IsErrOf result LaneFault.CountFull) }
 {
+    // The first lane's tallies are all there are so far, and stay where they are.
+    if all.is_empty() {
+        return Ok(more);
+    }
     let mut all = all;
     let mut more = more;
     match all.append(&mut more) {

@@ -1,7 +1,7 @@
 use forward_plan::{Reason, Verdict};
 use frame_batch::{
     Batch, BatchFault, Gate, GatherFault, Report, Tally, forward_all, gather, gather_tallies,
-    law_of_arrival, run_batch,
+    gather_versions, law_of_arrival, run_batch, run_batch_into,
 };
 use frame_stats::{Counts, count_of};
 use plan_publish::{Control, Held, Lane, open};
@@ -88,21 +88,29 @@ impl Gate for Meeting {
     }
 }
 
-/// A report of a batch of this number: of two frames that are tagged for batch 0, else of one that is cut.
-fn report_of(alloc: Global, held: &Held<'_>, number: u32) -> Result<Report<'static>, BatchFault> {
-    let whole = [UNTAGGED.as_slice(), UNTAGGED.as_slice()];
-    let cut = [CUT.as_slice()];
+/// The frames of batch 0, which are tagged.
+const WHOLE: [&[u8]; 2] = [&UNTAGGED, &UNTAGGED];
+
+/// The frame of any other batch, which is cut.
+const BEHIND: [&[u8]; 1] = [&CUT];
+
+/// A batch of this number.
+fn batch_of(number: u32) -> Batch<'static, 'static> {
     let frames = if number == 0 {
-        whole.as_slice()
+        WHOLE.as_slice()
     } else {
-        cut.as_slice()
+        BEHIND.as_slice()
     };
-    let batch = Batch {
+    Batch {
         number,
         port: 257,
         frames,
-    };
-    run_batch(alloc, held, batch, 1, &Open)
+    }
+}
+
+/// The report of a batch of this number.
+fn report_of(alloc: Global, held: &Held<'_>, number: u32) -> Result<Report<'static>, BatchFault> {
+    run_batch(alloc, held, batch_of(number), 1, &Open)
 }
 
 /// What gathering gives: how many there are, and whether each is in its place and the counts are those of the frames.
@@ -153,6 +161,17 @@ fn tallied(alloc: Global, tallies: Vec<Tally>, count: u32) -> Outcome {
     ))
 }
 
+/// What gathering the versions of tallies gives.
+fn versions_gathered(alloc: Global, tallies: &[Tally], count: u32) -> Outcome {
+    let all = gather_versions(alloc, tallies, count)?;
+    let number = all.versions.len();
+    let mut same = counted(number, &all.counts);
+    for version in &all.versions {
+        same = same && *version == 5;
+    }
+    Ok((number, same))
+}
+
 /// Whether each report is in its place.
 fn in_places(reports: &[Report<'_>]) -> bool {
     let mut place = 0u32;
@@ -165,19 +184,28 @@ fn in_places(reports: &[Report<'_>]) -> bool {
     true
 }
 
+/// Whether counts are those of a batch of this number.
+fn are_of_batch(counts: &Counts, number: u32) -> bool {
+    if number == 0 {
+        show(counts, 2, 40, [0; 9], 2)
+    } else {
+        show(counts, 1, 0, [0, 1, 0, 0, 0, 0, 0, 0, 0], 0)
+    }
+}
+
+/// Whether it is the tally of a batch of this number.
+fn is_tally(tally: &Tally, number: u32) -> bool {
+    tally.batch == number
+        && tally.version == 5
+        && tally.lane == 0
+        && are_of_batch(&tally.counts, number)
+}
+
 /// Whether each tally is in its place, with the counts of its batch.
 fn tallies_in_places(tallies: &[Tally]) -> bool {
     let mut place = 0u32;
     for tally in tallies {
-        if tally.batch != place || tally.version != 5 || tally.lane != 0 {
-            return false;
-        }
-        let own = if place == 0 {
-            show(&tally.counts, 2, 40, [0; 9], 2)
-        } else {
-            show(&tally.counts, 1, 0, [0, 1, 0, 0, 0, 0, 0, 0, 0], 0)
-        };
-        if !own {
+        if !is_tally(tally, place) {
             return false;
         }
         place = place.wrapping_add(1);
@@ -198,6 +226,43 @@ fn counted(batches: usize, counts: &Counts) -> bool {
         [0, cut, 0, 0, 0, 0, 0, 0, 0],
         2,
     )
+}
+
+/// Puts a batch into a report that another lane may have had; its verdicts, and its tally, are those of the batch.
+fn run_into(
+    rt: &impl Abort,
+    alloc: Global,
+    held: &Held<'_>,
+    report: &mut Report<'static>,
+    number: u32,
+) {
+    let batch = batch_of(number);
+    let many = batch.frames.len();
+    let done = run_batch_into(report, held, batch, 1, &Open);
+    same!(rt; done, Ok(()), "batch {number}");
+    same!(rt; report.verdicts.len(), many, "verdicts of batch {number}");
+    let tally = report.copy_tally(alloc).ok().expect(rt, "a tally");
+    holds!(rt; is_tally(&tally, number), "the tally of batch {number}");
+    holds!(rt; are_of_batch(&report.counts, number), "the counts of batch {number}");
+}
+
+/// Puts one batch after another into a report. One with a frame too many leaves it as it was.
+fn fill_a_report(rt: &impl Abort, alloc: Global, held: &Held<'_>) {
+    let mut report = Report::empty(alloc);
+    same!(rt; report.verdicts.len(), 0);
+    for number in [1, 0, 2, 0] {
+        run_into(rt, alloc, held, &mut report, number);
+    }
+    let frames = repeated(rt, alloc, &CUT, 65_537);
+    let more = Batch {
+        number: 9,
+        port: 257,
+        frames: &frames,
+    };
+    let done = run_batch_into(&mut report, held, more, 1, &Open);
+    same!(rt; done, Err(BatchFault::TooMany(65_537)));
+    same!(rt; report.batch, 0);
+    holds!(rt; are_of_batch(&report.counts, 0), "the report is as it was");
 }
 
 /// So many times the same frame.
@@ -323,6 +388,8 @@ fn gather_case(rt: &impl Abort, alloc: Global, held: &Held<'_>, case: &Case) {
     let reports = reports_of(rt, alloc, held, batches);
     same!(rt; gathered(alloc, reports, count), expected, "{what}");
     let tallies = tallies_of(rt, alloc, held, batches);
+    let versions = versions_gathered(alloc, &tallies, count);
+    same!(rt; versions, expected, "{what}, versions");
     same!(rt; tallied(alloc, tallies, count), expected, "{what}, tallies");
 }
 
@@ -396,6 +463,7 @@ fn meet(
 enum Scene {
     ForwardLists,
     GatherReports,
+    FillReport,
     CountTallies,
     MeetOnThreads,
     MeetInTurn,
@@ -412,6 +480,7 @@ fn with_held<R: Wait + Threads + Abort + Sync>(
     match scene {
         Scene::ForwardLists => forward_lists(rt, alloc, &held),
         Scene::GatherReports => gather_reports(rt, alloc, &held),
+        Scene::FillReport => fill_a_report(rt, alloc, &held),
         _ => count_tallies(rt, alloc, &held),
     }
 }
@@ -489,6 +558,11 @@ fn reports_are_gathered_in_every_order(rt: HostRuntime) {
 #[test]
 fn tallies_have_the_counts_of_their_reports(rt: HostRuntime) {
     play(&rt, rt.alloc(), Scene::CountTallies);
+}
+
+#[test]
+fn a_report_takes_one_batch_after_another(rt: HostRuntime) {
+    play(&rt, rt.alloc(), Scene::FillReport);
 }
 
 #[test]

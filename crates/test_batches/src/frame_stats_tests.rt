@@ -274,6 +274,49 @@ fn other(alloc: Global) -> Result<Counts, CountFault> {
     count_of(alloc, &[leaves(1025, 0), leaves(1024, 1)])
 }
 
+/// Stops a test in which counts that are taken again, of other verdicts, aren't those of them.
+fn must_recount(
+    rt: &impl Abort,
+    alloc: Global,
+    counts: &mut Counts,
+    verdicts: &[Verdict<'_>],
+    want: &Figures,
+) {
+    same!(rt; counts.recount(verdicts), Ok(()));
+    must_show(rt, alloc, "counts taken again", counts, want);
+}
+
+#[test]
+fn counts_are_taken_again(rt: HostRuntime) {
+    let mut counts = sample(rt.alloc()).expect(&rt, "counts");
+    // GEM ports 1024 and 1295 have the same place.
+    let both = [leaves(1295, 0), leaves(1024, 0), leaves(1295, 1)];
+    let of_both = Figures {
+        frames: 3,
+        bytes: 52,
+        drops: [0; 9],
+        ports: &[(1024, 1), (1295, 2)],
+    };
+    must_recount(&rt, rt.alloc(), &mut counts, &both, &of_both);
+    let runt = [Verdict::Drop(Reason::Runt)];
+    let of_runt = Figures {
+        drops: [1, 0, 0, 0, 0, 0, 0, 0, 0],
+        ..of_frames(1)
+    };
+    must_recount(&rt, rt.alloc(), &mut counts, &runt, &of_runt);
+    must_recount(&rt, rt.alloc(), &mut counts, &both, &of_both);
+    must_recount(&rt, rt.alloc(), &mut counts, &[], &of_frames(0));
+}
+
+#[test]
+fn a_copy_of_counts_stays(rt: HostRuntime) {
+    let mut counts = sample(rt.alloc()).expect(&rt, "counts");
+    let copy = counts.copy(rt.alloc()).ok().expect(&rt, "a copy");
+    counts.clear();
+    must_show(&rt, rt.alloc(), "cleared counts", &counts, &of_frames(0));
+    must_show(&rt, rt.alloc(), "the copy", &copy, &SAMPLE);
+}
+
 #[test]
 fn counts_are_added_up(rt: HostRuntime) {
     let counts = sample(rt.alloc()).expect(&rt, "counts");

@@ -6,7 +6,7 @@ use crate::seen::{REFUSED_AGAIN, Seen, must, report};
 use forward_plan::{Reason, Verdict};
 use frame_batch::{
     Batch, BatchFault, Gate, GatherFault, Gathered, GatheredTallies, Report, Tally, forward_all,
-    gather, gather_tallies, run_batch,
+    gather, gather_tallies, gather_versions, run_batch, run_batch_into,
 };
 use plan_publish::Held;
 use std::thread::Threads;
@@ -88,6 +88,35 @@ fn report_of(memory: &Memory, held: &Held<'_>, number: u32) -> Result<Report<'st
     }
 }
 
+/// Puts a batch into a report, again where there was no memory, which leaves it without verdicts. Then its tally, asked for likewise.
+fn run_into(memory: &Memory, held: &Held<'_>, report: &mut Report<'static>, number: u32) -> Seen {
+    let batch = Batch {
+        number,
+        port: 257,
+        frames: &FRAMES,
+    };
+    match run_batch_into(report, held, batch, 1, &Open) {
+        Ok(()) => {}
+        Err(BatchFault::NoMemory) => {
+            must(report.verdicts.is_empty(), "verdicts without memory")?;
+            memory.again();
+            let done = run_batch_into(report, held, batch, 1, &Open);
+            must(done.is_ok(), REFUSED_AGAIN)?;
+        }
+        Err(_) => return Err("another fault"),
+    }
+    must(is_report(report, number), "another report")?;
+    let tally = match report.copy_tally(memory.first()) {
+        Err(_) => report.copy_tally(memory.again()),
+        tally => tally,
+    };
+    let Ok(tally) = tally else {
+        return Err(REFUSED_AGAIN);
+    };
+    let same = tally.batch == number && tally.version == 5 && are_counts(&tally.counts, 1);
+    must(same, "another tally")
+}
+
 /// Whether it is the report of a batch of this number.
 fn is_report(report: &Report<'_>, batch: u32) -> bool {
     report.batch == batch
@@ -115,8 +144,8 @@ fn gathered(memory: &Memory, held: &Held<'_>) -> Result<Gathered<'static>, Gathe
     gather(memory.first(), reports, 2)
 }
 
-/// The tallies of batches 1 and 0, gathered, as if the frames of each had left by both ports of one place.
-fn tallied(memory: &Memory, held: &Held<'_>) -> Result<GatheredTallies, GatherFault> {
+/// The tallies of batches 1 and 0, as if the frames of each had left by both ports of one place.
+fn two_tallies(memory: &Memory, held: &Held<'_>) -> Result<Vec<Tally>, GatherFault> {
     let mut tallies = room_for_two(memory)?;
     for batch in [1, 0] {
         let (report, counts) = (report_of(memory, held, batch), counts_of_both(memory));
@@ -129,7 +158,12 @@ fn tallied(memory: &Memory, held: &Held<'_>) -> Result<GatheredTallies, GatherFa
             });
         }
     }
-    gather_tallies(memory.first(), tallies, 2)
+    Ok(tallies)
+}
+
+/// They are gathered.
+fn tallied(memory: &Memory, held: &Held<'_>) -> Result<GatheredTallies, GatherFault> {
+    gather_tallies(memory.first(), two_tallies(memory, held)?, 2)
 }
 
 /// Whether it is the tally of a batch of this number.
@@ -156,6 +190,12 @@ fn call_run_batch(memory: &Memory, held: &Held<'_>) -> Seen {
         Ok(report) => must(is_report(&report, 7), "another report"),
         Err(_) => Err(REFUSED_AGAIN),
     }
+}
+
+fn call_run_batch_into(memory: &Memory, held: &Held<'_>) -> Seen {
+    let mut report = Report::empty(memory.first());
+    run_into(memory, held, &mut report, 7)?;
+    run_into(memory, held, &mut report, 8)
 }
 
 fn call_gather(memory: &Memory, held: &Held<'_>) -> Seen {
@@ -194,6 +234,24 @@ fn call_gather_tallies(memory: &Memory, held: &Held<'_>) -> Seen {
     must(in_order && are_of_both(&all.counts, 2), "other tallies")
 }
 
+/// Their versions, asked for again where there was no memory: the tallies stay.
+fn call_gather_versions(memory: &Memory, held: &Held<'_>) -> Seen {
+    let Ok(tallies) = two_tallies(memory, held) else {
+        return Err(REFUSED_AGAIN);
+    };
+    let all = match gather_versions(memory.first(), &tallies, 2) {
+        Err(GatherFault::NoMemory) => gather_versions(memory.again(), &tallies, 2),
+        all => all,
+    };
+    match all {
+        Ok(all) => must(
+            all.versions.as_slice() == [5, 5].as_slice() && are_of_both(&all.counts, 2),
+            "other versions",
+        ),
+        Err(_) => Err(REFUSED_AGAIN),
+    }
+}
+
 pub(crate) fn make_calls<R: Threads + Sync + Print>(rt: &R, memory: &Memory, held: &Held<'_>) {
     report(
         rt,
@@ -208,11 +266,23 @@ pub(crate) fn make_calls<R: Threads + Sync + Print>(rt: &R, memory: &Memory, hel
         call_forward_pieces(rt, memory, held),
     );
     report(rt, memory, "run_batch", call_run_batch(memory, held));
+    report(
+        rt,
+        memory,
+        "run_batch_into",
+        call_run_batch_into(memory, held),
+    );
     report(rt, memory, "gather", call_gather(memory, held));
     report(
         rt,
         memory,
         "gather_tallies",
         call_gather_tallies(memory, held),
+    );
+    report(
+        rt,
+        memory,
+        "gather_versions",
+        call_gather_versions(memory, held),
     );
 }

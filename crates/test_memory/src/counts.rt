@@ -35,13 +35,18 @@ fn leaves(gem: u16) -> Verdict<'static> {
     Verdict::Forward { gem, frame }
 }
 
-/// The counts of a batch whose frames leave by both ports, asked for again where there was no memory.
-pub(crate) fn counts_of_both(memory: &Memory) -> Result<Counts, &'static str> {
-    let verdicts = [
+/// The verdicts on a batch whose frames leave by both ports.
+fn verdicts_of_both() -> [Verdict<'static>; 3] {
+    [
         leaves(PORTS[0]),
         Verdict::Drop(Reason::Runt),
         leaves(PORTS[1]),
-    ];
+    ]
+}
+
+/// The counts of such a batch, asked for again where there was no memory.
+pub(crate) fn counts_of_both(memory: &Memory) -> Result<Counts, &'static str> {
+    let verdicts = verdicts_of_both();
     let counts = match count_of(memory.first(), &verdicts) {
         Err(CountFault::NoMemory) => count_of(memory.again(), &verdicts),
         counts => counts,
@@ -94,6 +99,34 @@ fn call_count_of(memory: &Memory) -> Seen {
     must(are_of_both(&counts, 1), "other counts")
 }
 
+/// Counts a batch in place of others; where there was no memory nothing is counted, and it is counted again.
+fn call_recount(memory: &Memory) -> Seen {
+    let verdicts = verdicts_of_both();
+    let mut counts = Counts::zero(memory.first());
+    match counts.recount(&verdicts) {
+        Ok(()) => {}
+        Err(CountFault::NoMemory) => {
+            must(are_of_both(&counts, 0), "something is counted")?;
+            memory.again();
+            must(counts.recount(&verdicts).is_ok(), REFUSED_AGAIN)?;
+        }
+        Err(_) => return Err("another fault"),
+    }
+    must(are_of_both(&counts, 1), "other counts")
+}
+
+fn call_copy(memory: &Memory) -> Seen {
+    let counts = counts_of_both(memory)?;
+    let copy = match counts.copy(memory.first()) {
+        Err(_) => counts.copy(memory.again()),
+        copy => copy,
+    };
+    match copy {
+        Ok(copy) => must(are_of_both(&copy, 1), "another copy"),
+        Err(_) => Err(REFUSED_AGAIN),
+    }
+}
+
 fn call_counts_sum(memory: &Memory) -> Seen {
     let counts = counts_of_both(memory)?;
     let sums = match counts_sum(memory.first(), &counts, &counts) {
@@ -122,6 +155,8 @@ fn add_to_book(memory: &Memory) -> Seen {
 
 pub(crate) fn make_calls<R: Print>(rt: &R, memory: &Memory) {
     report(rt, memory, "count_of", call_count_of(memory));
+    report(rt, memory, "Counts::recount", call_recount(memory));
+    report(rt, memory, "Counts::copy", call_copy(memory));
     report(rt, memory, "counts_sum", call_counts_sum(memory));
     report(rt, memory, "StatBook::new", new_book(memory));
     report(rt, memory, "StatBook::add", add_to_book(memory));

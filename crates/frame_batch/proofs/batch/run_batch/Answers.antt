@@ -1,10 +1,14 @@
-use Rattle.std.proofs.Common.{◌≡◌, refl, true}
+use Rattle.std.proofs.Common.{◌≡◌, ap}
+use Rattle.std.specs.Prelude.{Err}
+use Rattle.frame_batch.specs.declared.fault.BatchFault.TheVariants.{TooMany}
 use Rattle.frame_batch.proofs.batch.run_batch.Goals as goal
 
-pub returns-in-Ok-count_of-clause-number : goal.returns-in-Ok-count_of-clause-number
-returns-in-Ok-count_of-clause-number g c = refl
+pub returns-in-Ok-clause-too_many : goal.returns-in-Ok-clause-too_many
+returns-in-Ok-clause-too_many g c = λ n. (λ is. absurd (let e : ⊥ = cc in e), λ more. absurd (let is = (c.in-Ok.ensures.too_many n).1 more in let e : ⊥ = cc in e))
 
-pub returns-in-Ok-count_of-clause-passed : goal.returns-in-Ok-count_of-clause-passed
-returns-in-Ok-count_of-clause-passed g c =
-    let passed : c.pass.result ≡ true = cc in
-    rw (c.lane.ensures, passed) at c.pass.ensures
+pub returns-clause-too_many : goal.returns-clause-too_many
+returns-clause-too_many g c = λ n.
+    let told = c.in-Err.ensures.too_many n in (
+      λ is. told.0 (let same : c.in-Err.fault ≡ TooMany n = cc in ap Err same),
+      λ more. let is = told.1 more in let same : c.in-Err.fault ≡ TooMany n = cc in ap Err same,
+    )

@@ -1,7 +1,8 @@
 use Rattle.std.proofs.Common.{arith, subst, sym}
 use Rattle.run_lanes.specs.Frames.{frames_in}
 use Rattle.run_lanes.specs.Work.{Did, IsOut}
-use Rattle.run_lanes.proofs.Zips.{zip_by_index, ok_both}
+use Rattle.capture_pieces.proofs.Files.{ok_both}
+use Rattle.run_lanes.proofs.Zips.{zip_by_index}
 use Rattle.run_lanes.proofs.threads.lanes_work.Goals as goal
 
 pub map_vec-requires-after_bounds : goal.map_vec-requires-after_bounds

@@ -3,7 +3,7 @@ use Rattle.std.specs.Prelude.{slice_index}
 use Rattle.frame_meaning.specs.Reason.{number_of_reason}
 use Rattle.frame_meaning.specs.declared.reason.Reason.{Reason}
 use Rattle.frame_stats.specs.Figures.{at_port, Bytes, DropsFor, FramesTo, figure}
-use Rattle.frame_stats.proofs.count.count_of.Given as goal
+use Rattle.frame_stats.proofs.count.note_all.Given as goal
 
 abbrev pub invariant-loop-verdict : goal.invariant-loop-verdict
 invariant-loop-verdict l = record {
