@@ -8,7 +8,7 @@ use Rattle.tag_view.specs.Word.{tag_of}
 use Rattle.tag_view.specs.Dscp.{dscp_of}
 use Rattle.port_plan.specs.declared.port_plan.Tagging.{Tagging}
 use Rattle.tag_view.proofs.Readings.{exactly_one, one_reading}
-use Rattle.rule_index.specs.Head.{FrameHead, head_in, head_of, head_read}
+use Rattle.rule_index.specs.Head.{FrameHead, head_in, head_of, head_read, tags_ahead}
 use Rattle.mib_state.specs.Entities.{Entities}
 use Rattle.frame_meaning.specs.declared.reason.Reason.{Reason}
 use Rattle.frame_meaning.specs.declared.verdict.Verdict.TheVariants.{Forward, Drop}
@@ -16,7 +16,7 @@ use Rattle.port_plan.specs.declared.port_plan.PortPlan.{PortPlan}
 use Rattle.frame_meaning.specs.Reason.{reason_of_fault}
 use Rattle.frame_meaning.specs.Meaning.{Table, forwarded_by, found_then, gem_port_at, input_tpid_of, meaning, table_at, tags_at}
 use Rattle.port_plan.specs.Plan.{transparent}
-use Rattle.port_plan.specs.Leaving.{IsFrameOf, IsHeadOf, IsPlanOf, leaves_by, tags_made, words_made}
+use Rattle.port_plan.specs.Leaving.{IsForeseen, IsFrameOf, IsHeadOf, IsPlanOf, leaves_by, tags_made, words_made}
 use Rattle.std.proofs.lemmas.List.{length-take-le, length-drop, length-map}
 use Rattle.frame_meaning.specs.Size.{GrowsLittle}
 use Rattle.frame_meaning.proofs.Spellings.{length-spelled}
@@ -133,6 +133,12 @@ is_head plan bytes head fits each is =
       };
       whole = omega arith;
     }
+
+-- the head of a frame whose number of tags was found ahead
+pub foreseen_head : (plan : PortPlan) (bytes : List ℕ) (head : FrameHead) (tags n : ℕ) → IsForeseen plan bytes tags → All (λ b. b < 2 ^ 8) bytes
+    → tags ≡ n → n < 3 → ((input : ℕ) → n ≡ tags_ahead input bytes → head_read input bytes ≡ Ok head) → IsHeadOf plan bytes head
+foreseen_head plan bytes head tags n foreseen each is few read =
+    is_head plan bytes head foreseen.type_fits each (sym (read plan.table.now.table.settings.input_tpid (sym is ∙ foreseen.count (omega (arith, is, few)))))
 
 fault_or : FrameFault → Result FrameHead FrameFault → FrameFault
 fault_or other (Ok head) = other

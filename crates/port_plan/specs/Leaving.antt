@@ -1,11 +1,11 @@
 -- The plan of a port, and what it decides of a frame that was read.
-use Rattle.std.specs.Prelude.{◌≡◌, ◌≤◌, ◌⊎◌, ◌+◌, ◌*◌, ℕ, drop, zero, suc, List, All, false, length, map, Option, Result, Ok, Err, slice_index, take}
+use Rattle.std.specs.Prelude.{◌≡◌, ◌≤◌, ◌<◌, ◌⊎◌, ◌+◌, ◌*◌, ◌^◌, ℕ, drop, zero, suc, List, All, false, length, map, Option, Result, Ok, Err, slice_index, take}
 use Rattle.std.specs.Option.{unwrap_or}
 use Rattle.tag_view.specs.Tag.{TagFields, IsInRange}
 use Rattle.tag_view.specs.Word.{tag_of}
 use Rattle.tag_view.specs.Frame.{Reading, frame_bytes, frame_of, reading_of}
 use Rattle.tag_view.specs.Dscp.{dscp_of}
-use Rattle.rule_index.specs.Head.{FrameHead, head_of}
+use Rattle.rule_index.specs.Head.{FrameHead, head_of, tags_ahead}
 use Rattle.treatment.specs.Compiled.{words_by}
 use Rattle.managed_entity.specs.Instance.{Instance}
 use Rattle.mib_state.specs.Entities.{Entities}
@@ -76,6 +76,11 @@ pub record IsHeadOf (plan : PortPlan) (bytes : List ℕ) (head : FrameHead) : Ty
   pub read : frame_of plan.table.now.table.settings.input_tpid bytes ≡ Ok (reading_of plan.table.now.table.settings.input_tpid bytes)
   pub of : IsFrameOf head (drop (12 + 4 * length head.tags) bytes) (reading_of plan.table.now.table.settings.input_tpid bytes)
   pub whole : 14 + 4 * length head.tags ≤ length bytes
+
+-- a number under 3 is how many tags the port of a plan reads of a frame, by tag types that have two bytes each
+pub record IsForeseen (plan : PortPlan) (bytes : List ℕ) (tags : ℕ) : Type 0 where
+  pub type_fits : plan.table.now.table.settings.input_tpid < 2 ^ 16
+  pub count : tags < 3 → tags ≡ tags_ahead plan.table.now.table.settings.input_tpid bytes
 
 -- ---- what comes of a frame
 

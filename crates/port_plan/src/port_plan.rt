@@ -1,5 +1,6 @@
 //! The plan of one port, and its frames.
-ghost use Rattle.std.specs.Prelude.{◌≡◌, ◌<◌, ◌≤◌, ◌+◌, ◌*◌, [], ◌∷◌, ◌++◌, ℕ, List, Option, map, take, drop, IfOk, IfErr, Ok, Err, length, vec_len, vec_capacity};
+ghost use Rattle.std.specs.Prelude.{◌≡◌, ◌<◌, ◌≤◌, ◌+◌, ◌*◌, [], ◌∷◌, ◌++◌, ℕ, List, Option, Some, map, take, drop, IfOk, IfErr, Ok, Err, length, slice_get, vec_len, vec_capacity};
+ghost use Rattle.std.specs.Borrow.{Bor};
 ghost use Rattle.tag_view.specs.Tag.{TagFields};
 ghost use Rattle.tag_view.specs.Word.{tag_of};
 ghost use Rattle.tag_view.specs.Frame.{Reading, type_at, with_tags};
@@ -10,7 +11,7 @@ ghost use Rattle.mib_state.specs.Entities.{Entities};
 ghost use Rattle.frame_meaning.specs.Meaning.{gem_port_at, mapper_at, meaning, table_at, tags_at};
 ghost use Rattle.port_plan.specs.Plan.{untagged_priority};
 ghost use Rattle.frame_meaning.specs.Size.{LeavesLittleMore};
-ghost use Rattle.port_plan.specs.Leaving.{HasHead, IsFrameOf, IsHeadOf, IsPlaceFor, IsPlanOf, leaves_by, outcome_of, priority_made, tags_made, words_made};
+ghost use Rattle.port_plan.specs.Leaving.{HasHead, IsForeseen, IsFrameOf, IsHeadOf, IsPlaceFor, IsPlanOf, leaves_by, outcome_of, priority_made, tags_made, words_made};
 
 use crate::compiled_table::CompiledTable;
 use crate::dscp::place_of_dscp;
@@ -274,9 +275,55 @@ impl<'p> PortPlan<'p> {
         }
     }
 
+    /// How many tags the first of some frames has, or 128 where that isn't known so early or there is none.
+    #[inline(always)]
+    fn tags_ahead(&self, input_tpid: u16, frames: &[&[u8]]) -> u8
+        requires { input_tpid ≡ self.now.table.now.table.settings.input_tpid }
+        ensures foreseen { (frame : Bor (List ℕ)) → slice_get frames.now 0 ≡ Some frame
+            → IsForeseen self.now frame.now result }
+    {
+        match frames.first() {
+            Some(frame) => Head::tags_ahead(frame, input_tpid),
+            None => 128,
+        }
+    }
+
+    /// Appends the verdict on a frame that has so many tags, or on any where that isn't known.
+    #[inline(always)]
+    fn push_foreseen<'a>(&self, bytes: &'a [u8], tags: u8, verdicts: &mut Vec<Verdict<'a>>)
+        requires foreseen { IsForeseen self.now bytes.now tags }
+        requires free { vec_len verdicts.old < vec_capacity verdicts.old }
+        ensures verdict { (e : Entities) (port : ℕ) → IsPlanOf e port self.now
+            → verdicts.new.items ≡ verdicts.old.items ++ meaning e port bytes.now ∷ [] }
+        ensures one { vec_len verdicts.new ≡ vec_len verdicts.old + 1 }
+        ensures room { vec_capacity verdicts.new ≡ vec_capacity verdicts.old }
+    {
+        match tags {
+            // Each number of tags is a path of its own.
+            0 => self.push_read(&Head::of_tags(bytes, 0), 0, bytes, verdicts),
+            1 => self.push_read(&Head::of_tags(bytes, 1), 1, bytes, verdicts),
+            2 => self.push_read(&Head::of_tags(bytes, 2), 2, bytes, verdicts),
+            _ => self.push_apart(bytes, verdicts),
+        }
+    }
+
+    /// Appends the verdict on a short frame. It stands apart, so that the other frames don't wait for it.
+    #[cold]
+    #[inline(never)]
+    fn push_apart<'a>(&self, bytes: &'a [u8], verdicts: &mut Vec<Verdict<'a>>)
+        requires free { vec_len verdicts.old < vec_capacity verdicts.old }
+        ensures verdict { (e : Entities) (port : ℕ) → IsPlanOf e port self.now
+            → verdicts.new.items ≡ verdicts.old.items ++ meaning e port bytes.now ∷ [] }
+        ensures one { vec_len verdicts.new ≡ vec_len verdicts.old + 1 }
+        ensures room { vec_capacity verdicts.new ≡ vec_capacity verdicts.old }
+    {
+        self.push(bytes, verdicts);
+    }
+
     /// Appends what becomes of each frame, in order, to verdicts that there is room for. It takes no memory, and the verdicts
     /// borrow the frames alone. This is the fast way to forward many frames: each verdict is written where it is to lie, by one
-    /// loop into which all that a frame goes through is put, whoever calls it.
+    /// loop into which all that a frame goes through is put, whoever calls it. The number of a frame's tags is found while the frame
+    /// before it is forwarded, so a processor that guesses wrong which way a frame goes knows it at once.
     #[inline(never)]
     pub fn push_all<'a>(&self, frames: &[&'a [u8]], verdicts: &mut Vec<Verdict<'a>>)
         requires { vec_len verdicts.old + length frames.now ≤ vec_capacity verdicts.old }
@@ -285,8 +332,16 @@ impl<'p> PortPlan<'p> {
             ≡ verdicts.old.items ++ map (λ frame. meaning e port frame.now) frames.now }
         ensures room { vec_capacity verdicts.new ≡ vec_capacity verdicts.old }
     {
-        for frame in frames {
-            self.push(frame, verdicts);
+        // Lent once, and not looked up for each frame.
+        let plan = *self;
+        let input_tpid = plan.table.input_tpid();
+        let mut tags = plan.tags_ahead(input_tpid, frames);
+        let mut left = frames;
+        while let [frame, behind @ ..] = left {
+            let next = plan.tags_ahead(input_tpid, behind);
+            plan.push_foreseen(frame, tags, verdicts);
+            tags = next;
+            left = behind;
         }
     }
 

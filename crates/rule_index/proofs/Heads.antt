@@ -1,7 +1,8 @@
 -- The head of a frame by the words that stand in its bytes.
-use Rattle.std.proofs.Common.{◌≡◌, ◌<◌, ◌≤◌, ℕ, ◌+◌, ◌/◌, ◌%◌, ◌^◌, ◌==◌, Bool, true, false, List, [], ◌∷◌, length, take, drop, Some, None, Ok, Err, arith, refl, ap, ap₂, ◌∙◌, sym}
-use Rattle.std.specs.Prelude.{nat_lt}
-use Rattle.std.proofs.lemmas.Bool.{le-ltb, lt-ltb}
+use Rattle.std.proofs.Common.{◌≡◌, ◌<◌, ◌≤◌, ℕ, ◌+◌, ◌/◌, ◌%◌, ◌^◌, ◌==◌, ◌⊎◌, inl, inr, Bool, true, false, List, [], ◌∷◌, length, take, drop, Some, None, Ok, Err, arith, refl, ap, ap₂, ◌∙◌, sym}
+use Rattle.std.specs.Prelude.{nat_lt, ◌&&◌}
+use Rattle.std.specs.Int.{from_bool}
+use Rattle.std.proofs.lemmas.Bool.{cases_lt, le-ltb, lt-ltb}
 use Rattle.std.proofs.lemmas.List.{drop-drop}
 use Rattle.byteorder.specs.Endian.{big_number}
 use Rattle.tag_view.specs.declared.fault.FrameFault.TheVariants.{Runt, CutTag}
@@ -9,7 +10,7 @@ use Rattle.tag_view.specs.Tag.{TagFields, is_tag_type}
 use Rattle.tag_view.specs.Frame.{Reading, type_at, tag_at, reading_of, fault_of}
 use Rattle.tag_view.proofs.Readings.{frame_read, frame_refused, runt_frame}
 use Rattle.tag_view.specs.Word.{tag_of}
-use Rattle.rule_index.specs.Head.{head_in, head_of, head_read}
+use Rattle.rule_index.specs.Head.{head_in, head_of, head_read, tags_ahead}
 
 -- ---- behind the addresses
 
@@ -96,3 +97,78 @@ two_tags input first second outer inner type bytes h is tag is_outer is_next nex
 
     parts : reading_of input bytes ≡ record { addresses = take 12 bytes; tags = tag_of outer ∷ tag_of inner ∷ []; rest = drop 20 bytes }
     parts = rw (is_tag_past input 0 first true bytes is tag, is_tag_past input 4 second true bytes is_next next, tag_past 0 outer bytes is_outer, tag_past 4 inner bytes is_inner) refl
+
+-- ---- how many tags, found ahead
+
+-- by whether the first and the second type begin a tag
+abbrev ahead_by : Bool → Bool → ℕ
+ahead_by false second = 0
+ahead_by true false = 1
+ahead_by true true = 2
+
+by_types : (input : ℕ) (bytes : List ℕ) (first second : Bool) → 22 ≤ length bytes → is_tag_type input (type_at 12 bytes) ≡ first
+    → is_tag_type input (type_at 16 bytes) ≡ second → tags_ahead input bytes ≡ ahead_by first second
+by_types input bytes false second h a b = rw (long bytes 22 h, is_tag_past input 0 (type_at 12 bytes) false bytes refl a) refl
+by_types input bytes true false h a b =
+    rw (long bytes 22 h, is_tag_past input 0 (type_at 12 bytes) true bytes refl a, is_tag_past input 4 (type_at 16 bytes) false bytes refl b) refl
+by_types input bytes true true h a b =
+    rw (long bytes 22 h, is_tag_past input 0 (type_at 12 bytes) true bytes refl a, is_tag_past input 4 (type_at 16 bytes) true bytes refl b) refl
+
+pub counted_ahead : (input : ℕ) (bytes : List ℕ) (first second : Bool) → 22 ≤ length bytes → is_tag_type input (type_at 12 bytes) ≡ first
+    → is_tag_type input (type_at 16 bytes) ≡ second → from_bool first + from_bool (first && second) ≡ tags_ahead input bytes
+counted_ahead input bytes false second h a b = sym (by_types input bytes false second h a b)
+counted_ahead input bytes true false h a b = sym (by_types input bytes true false h a b)
+counted_ahead input bytes true true h a b = sym (by_types input bytes true true h a b)
+
+-- both types of a frame that is long enough
+pub record AreTypes (input : ℕ) (bytes : List ℕ) (a b : Bool) : Type 0 where
+  pub first : is_tag_type input (type_at 12 bytes) ≡ a
+  pub second : is_tag_type input (type_at 16 bytes) ≡ b
+
+types_ahead : (input : ℕ) (bytes : List ℕ) (tags : ℕ) → 22 ≤ length bytes → tags ≡ tags_ahead input bytes
+    → (first : Bool) × (second : Bool) × AreTypes input bytes first second × (tags ≡ ahead_by first second)
+types_ahead input bytes tags h is =
+    let first = is_tag_type input (type_at 12 bytes) in
+    let second = is_tag_type input (type_at 16 bytes) in
+    (first, second, record { first = refl; second = refl }, is ∙ by_types input bytes first second h refl refl)
+
+pub none_ahead : (input : ℕ) (bytes : List ℕ) → 22 ≤ length bytes → 0 ≡ tags_ahead input bytes → is_tag_type input (type_at 12 bytes) ≡ false
+none_ahead input bytes h is = by_case _ _ found.2 found.3
+  where
+    found : (first : Bool) × (second : Bool) × AreTypes input bytes first second × (0 ≡ ahead_by first second)
+    found = types_ahead input bytes 0 h is
+
+    by_case : (first second : Bool) → AreTypes input bytes first second → 0 ≡ ahead_by first second → is_tag_type input (type_at 12 bytes) ≡ false
+    by_case false second are same = are.first
+    by_case true false are same = absurd (let e : ⊥ = cc in e)
+    by_case true true are same = absurd (let e : ⊥ = cc in e)
+
+pub one_ahead : (input : ℕ) (bytes : List ℕ) → 22 ≤ length bytes → 1 ≡ tags_ahead input bytes → AreTypes input bytes true false
+one_ahead input bytes h is = by_case _ _ found.2 found.3
+  where
+    found : (first : Bool) × (second : Bool) × AreTypes input bytes first second × (1 ≡ ahead_by first second)
+    found = types_ahead input bytes 1 h is
+
+    by_case : (first second : Bool) → AreTypes input bytes first second → 1 ≡ ahead_by first second → AreTypes input bytes true false
+    by_case true false are same = are
+    by_case false second are same = absurd (let e : ⊥ = cc in e)
+    by_case true true are same = absurd (let e : ⊥ = cc in e)
+
+pub two_ahead : (input : ℕ) (bytes : List ℕ) → 22 ≤ length bytes → 2 ≡ tags_ahead input bytes → AreTypes input bytes true true
+two_ahead input bytes h is = by_case _ _ found.2 found.3
+  where
+    found : (first : Bool) × (second : Bool) × AreTypes input bytes first second × (2 ≡ ahead_by first second)
+    found = types_ahead input bytes 2 h is
+
+    by_case : (first second : Bool) → AreTypes input bytes first second → 2 ≡ ahead_by first second → AreTypes input bytes true true
+    by_case true true are same = are
+    by_case false second are same = absurd (let e : ⊥ = cc in e)
+    by_case true false are same = absurd (let e : ⊥ = cc in e)
+
+-- a number of tags says that the frame is long enough
+pub long_ahead : (input : ℕ) (bytes : List ℕ) (tags : ℕ) → tags ≤ 2 → tags ≡ tags_ahead input bytes → 22 ≤ length bytes
+long_ahead input bytes tags few is = by_case (cases_lt (length bytes) 22)
+  where
+    by_case : (length bytes < 22) ⊎ (22 ≤ length bytes) → 22 ≤ length bytes
+    by_case (inl less) = absurd (let e : tags ≡ 128 = is ∙ rw (short bytes 22 less) refl in omega (arith, few, e))
+    by_case (inr more) = more

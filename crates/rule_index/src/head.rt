@@ -1,9 +1,9 @@
 //! The head of a frame: what the filters of an entry look at.
-ghost use Rattle.std.specs.Prelude.{◌≡◌, ◌≤◌, ◌+◌, ◌-◌, [], ◌∷◌, length, slice_index_or};
+ghost use Rattle.std.specs.Prelude.{◌≡◌, ◌≤◌, ◌+◌, ◌-◌, [], ◌∷◌, ℕ, Ok, length, slice_index_or};
 ghost use Rattle.tag_view.specs.Tag.{missing_tag};
 ghost use Rattle.tag_view.specs.Frame.{tag_at, type_at};
 ghost use Rattle.tag_view.specs.Word.{tag_of};
-ghost use Rattle.rule_index.specs.Head.{head_of, head_read};
+ghost use Rattle.rule_index.specs.Head.{head_of, head_read, tags_ahead};
 
 use byteorder::{BigEndian, ByteOrder};
 use std::marker::Model;
@@ -82,6 +82,38 @@ impl Head {
         }
         let inner = word_at(bytes, 16);
         Ok(two_tags(outer, inner, type_at(bytes, 20)))
+    }
+
+    /// How many tags are read of the frame that the bytes are, two at most, where it has at least 22 bytes, and 128 where it has
+    /// fewer. No branch depends on the tags, so a processor can find it while the frames before are under way. Who asks that early
+    /// knows in time which way a frame goes, and has its head by [`Head::of_tags`].
+    #[inline(always)]
+    pub fn tags_ahead(bytes: &[u8], input_tpid: u16) -> u8
+        ensures { result ≡ tags_ahead input_tpid bytes.now }
+    {
+        if bytes.len() < 22 {
+            // A match on this and the others becomes comparisons. With 3 it would be a table of jumps, which is slower.
+            return 128;
+        }
+        let first = is_tag_type(type_at(bytes, 12), input_tpid);
+        let second = first & is_tag_type(type_at(bytes, 16), input_tpid);
+        u8::from(first) + u8::from(second)
+    }
+
+    /// The head of the frame that the bytes are, of which so many tags are read.
+    #[inline(always)]
+    pub fn of_tags(bytes: &[u8], tags: u8) -> Self
+        requires whole { 22 ≤ length bytes.now }
+        requires two { tags ≤ 2 }
+        ensures read { (input : ℕ) → tags ≡ tags_ahead input bytes.now
+            → head_read input bytes.now ≡ Ok result }
+        ensures tags { length result.tags ≡ tags }
+    {
+        match tags {
+            0 => untagged(type_at(bytes, 12)),
+            1 => one_tag(word_at(bytes, 12), type_at(bytes, 16)),
+            _ => two_tags(word_at(bytes, 12), word_at(bytes, 16), type_at(bytes, 20)),
+        }
     }
 
     /// The number of tags that were read, two at most.

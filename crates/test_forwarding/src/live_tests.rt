@@ -99,7 +99,59 @@ fn check_tagging(rt: &impl Abort, alloc: Global, live: &mut Live) -> Result<(), 
     check_left(rt, alloc, live, &UNTAGGED, &UNTAGGED)?;
     live.apply(&tagging());
     check_left(rt, alloc, live, &UNTAGGED, &TAGGED)?;
-    check_left(rt, alloc, live, &DOUBLE, &DOUBLE)
+    check_left(rt, alloc, live, &DOUBLE, &DOUBLE)?;
+    check_mix(rt, alloc, live)
+}
+
+/// The frame without a tag, with bytes behind it.
+const LONG: [u8; 24] = [
+    2, 0, 0, 0, 0, 1, 2, 0, 0, 0, 0, 2, 0x08, 0x00, 0x45, 0x00, 0, 0, 0, 0, 0, 0, 0, 0,
+];
+
+/// The frames of a list, of which each has another length or number of tags than the one before: how many bytes of which frame, and
+/// the words of the tags that each leaves with.
+const MIX: [(&[u8], usize, Result<&[u32], Reason>); 6] = [
+    (&LONG, 24, Ok(&[0x8100_0064])),
+    (&DOUBLE, 24, Ok(&[0x88a8_a064, 0x8100_40c8])),
+    (&UNTAGGED, 16, Ok(&[0x8100_0064])),
+    (&TAGGED, 20, Ok(&[0x8100_0064])),
+    (&TAGGED, 13, Err(Reason::Runt)),
+    (&DOUBLE, 21, Err(Reason::CutTag)),
+];
+
+/// Checks with which tags a frame left.
+fn check_tags(rt: &impl Abort, verdict: &Verdict, tags: &Result<&[u32], Reason>) {
+    let left = parts(verdict).map(|parts| parts.2.len());
+    same!(rt; left, tags.map(|tags| tags.len()));
+    if let (Ok((_, _, left, _)), Ok(tags)) = (parts(verdict), tags) {
+        for (tag, word) in left.iter().zip(*tags) {
+            same!(rt; tag.word(), *word);
+        }
+    }
+}
+
+/// The frames of the list.
+fn frames_of_mix(alloc: Global) -> Result<Vec<&'static [u8]>, NoMemory> {
+    let mut frames = Vec::with_capacity(alloc, MIX.len())?;
+    for (frame, len, _) in &MIX {
+        let front = frame.split_at(frame.len().min(*len)).0;
+        if frames.push(front).is_err() {
+            return Err(NoMemory);
+        }
+    }
+    Ok(frames)
+}
+
+/// Frames of a list leave as each of them does.
+fn check_mix(rt: &impl Abort, alloc: Global, live: &Live) -> Result<(), NoMemory> {
+    let frames = frames_of_mix(alloc)?;
+    let mut verdicts = Vec::with_capacity(alloc, frames.len())?;
+    live.port(257).push_all(&frames, &mut verdicts);
+    same!(rt; verdicts.len(), MIX.len());
+    for (verdict, (_, _, tags)) in verdicts.iter().zip(&MIX) {
+        check_tags(rt, verdict, tags);
+    }
+    Ok(())
 }
 
 /// Frames are dropped for their reasons.

@@ -401,6 +401,29 @@ fn a_head_is_that_of_the_view(rt: HostRuntime) -> Result<(), Fail> {
     Ok(())
 }
 
+/// Looks at the head of a frame by how many tags are found ahead.
+fn look_ahead(rt: &impl Abort, bytes: &[u8], outer: u32, inner: u32) {
+    let tags = Head::tags_ahead(bytes, 0x8100);
+    if tags > 2 || bytes.len() < 22 {
+        holds!(rt; false, "{} bytes have {tags}", bytes.len());
+    } else {
+        let head = Head::of_tags(bytes, tags);
+        look_at_head(rt, &head, usize::from(tags), outer, inner);
+    }
+}
+
+#[test]
+fn tags_are_found_ahead(rt: HostRuntime) -> Result<(), Fail> {
+    for (words, tags, outer, inner) in &HEADS {
+        let mut bytes = frame(rt.alloc(), words, 0x0800)?;
+        bytes.resize(22, 0)?;
+        same!(rt; usize::from(Head::tags_ahead(&bytes, 0x8100)), *tags);
+        same!(rt; Head::tags_ahead(&bytes[..21], 0x8100), 128, "{tags} tags");
+        look_ahead(&rt, &bytes, *outer, *inner);
+    }
+    Ok(())
+}
+
 /// Looks why so many bytes of a frame with two tags have no head.
 fn look_at_cut(rt: &impl Abort, bytes: &[u8]) {
     let len = bytes.len();
