@@ -22,7 +22,7 @@ use Rattle.bench_capture.specs.declared.pieces.Pieces.{Pieces}
 use Rattle.bench_pcapng.specs.Passing.{as_first, at_first, first_passing_of, going_on, kept_of, passing_at, passing_of, step_within, without}
 use Rattle.bench_pcapng.specs.Read.{ComesTo, IsBlock, IsRead, Reads}
 use Rattle.bench_pcapng.specs.Reading as pcapng
-use Rattle.bench_pcapng.specs.Reading.{Fails, Passes, Place, Progress, Step, Yields, after_step, is_pcapng, opened, place_at, step_of}
+use Rattle.bench_pcapng.specs.Reading.{Fails, Place, Progress, Step, after_step, is_pcapng, opened, place_at, step_of}
 use Rattle.bench_pcapng.specs.declared.blocks.Block.{Block}
 use Rattle.bench_pcapng.specs.declared.blocks.Located.{Located}
 use Rattle.bench_pcapng.specs.declared.fault.PcapngFault.{PcapngFault}

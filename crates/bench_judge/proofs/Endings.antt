@@ -14,7 +14,7 @@ use Rattle.bench_history.specs.declared.event.Event.TheVariants.{Entered}
 use Rattle.bench_judge.specs.Asked.{accepted_of, version}
 use Rattle.bench_judge.specs.Windows.{least_behind, most_behind}
 use Rattle.bench_judge.specs.Explained.{EndedFrame, IsEnded}
-use Rattle.bench_judge.specs.Frames.{AreFrames, AreWithin, FitsLeast, IsKeptIn}
+use Rattle.bench_judge.specs.Frames.{AreFrames, AreWithin, IsKeptIn}
 use Rattle.bench_judge.specs.Bounds.{IsLeastLeft, IsMostLeft}
 use Rattle.bench_judge.specs.Cut.{IsFitted, IsTurn, Suits, until}
 use Rattle.bench_judge.specs.Judged.{AreRuns, IsAtLeast, IsAtMost, IsEndAs, IsWrongFrame}

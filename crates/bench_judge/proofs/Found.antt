@@ -5,7 +5,6 @@ use Rattle.bench_history.specs.declared.event.Event.{Event}
 use Rattle.bench_history.specs.declared.event.Event.TheVariants.{Entered}
 use Rattle.bench_judge.specs.Bounds.{AreSent, AreStepsUnder}
 use Rattle.bench_judge.specs.Cut.{HasChoice, IsChosen, IsGoodChoice, IsTurn, by_number}
-use Rattle.bench_judge.specs.Explained.{IsLeastChoice}
 use Rattle.bench_judge.specs.Frames.{AreFrames, IsKeptOf}
 use Rattle.bench_judge.specs.Judged.{AreCounts, IsDeviation, IsExplanation, IsFirstUnexplained, IsWrongAt}
 use Rattle.bench_judge.specs.Replies.{AreRight, IsRight}

@@ -1,5 +1,5 @@
 -- What a sweep over the frames of a front says of its events.
-use Rattle.std.proofs.Common.{◌≡◌, ℕ, ◌≤◌, Bool, List, ◌++◌, map, take, drop, Option, None, Some, Result, Ok, Err, IfOk, Vec, refl, ap, sym, subst, ◌∙◌, take-take}
+use Rattle.std.proofs.Common.{◌≡◌, ℕ, ◌≤◌, Bool, List, ◌++◌, map, take, drop, Option, None, Some, Result, Ok, Err, IfOk, Vec, ap, sym, subst, ◌∙◌, take-take}
 use Rattle.std.specs.declared.alloc.Global.{Global}
 use Rattle.std.specs.declared.alloc.AllocError.{AllocError}
 use Rattle.omci_msg.specs.declared.request.Request.{Request}

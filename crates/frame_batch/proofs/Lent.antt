@@ -5,7 +5,7 @@ use Rattle.std.specs.Borrow.{Bor}
 use Rattle.std.specs.List.{Contains, sum, sum_by}
 use Rattle.std.proofs.lemmas.List.{length-map, map-append}
 use Rattle.std.proofs.lemmas.List.Sums.{sum-map}
-use Rattle.std.proofs.lemmas.Option.{get_or_from_slice_get, slice_get-get_or, slice_get_within}
+use Rattle.std.proofs.lemmas.Option.{slice_get-get_or}
 use Rattle.std.proofs.lemmas.Simd.{map-map}
 use Rattle.frame_stats.specs.declared.counts.Counts.{Counts}
 use Rattle.frame_stats.specs.Figures.{Figure, counted, HasNoZeros}
@@ -13,6 +13,7 @@ use Rattle.frame_batch.specs.declared.batch.Tally.{Tally}
 use Rattle.frame_batch.specs.declared.fault.GatherFault.{GatherFault}
 use Rattle.frame_batch.specs.declared.fault.GatherFault.TheVariants.{Double, Stranger, Missing, NoMemory, CountFull}
 use Rattle.frame_batch.specs.Gathering.{AreInOrder, AreVersionsOf, IsWhyNot, IsWhyOfTallies, SumPasses, has_number, misplaced_behind, missing_from}
+use Rattle.frame_batch.proofs.Misfits.{contained}
 
 pub mapped_at : {X Y : Type 0} (f : X → Y) (xs : List X) (k : ℕ) (y : Y) → slice_get (map f xs) k ≡ Some y → (x : X) × (slice_get xs k ≡ Some x) × (f x ≡ y)
 mapped_at f [] k y h = absurd (let e : ⊥ = cc in e)
@@ -26,9 +27,6 @@ get_mapped f (z ∷ zs) (suc k) x h = get_mapped f zs k x h
 
 got : {X : Type 0} (xs : List X) (x : X) → Contains xs x → (i : ℕ) × (slice_get xs i ≡ Some x)
 got xs x h = (h.0, slice_get-get_or xs h.0 x h.1 ∙ ap Some h.2)
-
-contained : {X : Type 0} (xs : List X) (i : ℕ) (x : X) → slice_get xs i ≡ Some x → Contains xs x
-contained xs i x h = (i, slice_get_within xs i x h, get_or_from_slice_get xs i x x h)
 
 sum_mapped : {X Y : Type 0} (f : X → Y) (g : Y → ℕ) (xs : List X) → sum_by g (map f xs) ≡ sum_by (λ x. g (f x)) xs
 sum_mapped f g xs = sym (sum-map g (map f xs)) ∙ ap sum (map-map g f xs) ∙ sum-map (λ x. g (f x)) xs

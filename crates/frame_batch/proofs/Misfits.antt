@@ -21,7 +21,7 @@ push_cases (z ∷ zs) x zero y h = inl h
 push_cases (z ∷ zs) x (suc i) y h =
     ⊎_elim (λ (old : slice_get zs i ≡ Some y). inl old) (λ (new : (i ≡ length zs) × (x ≡ y)). inr (ap suc new.0, new.1)) (push_cases zs x i y h)
 
-contained : {X : Type 0} (xs : List X) (i : ℕ) (x : X) → slice_get xs i ≡ Some x → Contains xs x
+pub contained : {X : Type 0} (xs : List X) (i : ℕ) (x : X) → slice_get xs i ≡ Some x → Contains xs x
 contained xs i x h = (i, slice_get_within xs i x h, get_or_from_slice_get xs i x x h)
 
 module _ {X : Type 0} (number : X → ℕ) (count : ℕ) where

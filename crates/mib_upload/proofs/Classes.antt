@@ -4,7 +4,6 @@ use Rattle.std.specs.Prelude.{All}
 use Rattle.std.specs.List.{sum_by}
 use Rattle.std.proofs.lemmas.List.{drop_more, drop_all}
 use Rattle.std.proofs.lemmas.List.Sums.{sum_by-drop_more}
-use Rattle.managed_entity.specs.declared.class.Class.{Class}
 use Rattle.managed_entity.specs.declared.class.Class.TheVariants.{OnuData, Mapper, Vlan, Interwork, GemPort}
 use Rattle.managed_entity.specs.Class.{class_number}
 use Rattle.mib_state.specs.Entities.{Entities, instances_of}

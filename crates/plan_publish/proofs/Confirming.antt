@@ -1,5 +1,5 @@
 -- What a lane held, once it holds what was told.
-use Rattle.std.proofs.Common.{◌≡◌, ℕ, ◌<◌, List, ◌++◌, sym, subst, arith, ◌^◌, ◌-◌}
+use Rattle.std.proofs.Common.{◌≡◌, ℕ, ◌<◌, List, sym, subst, arith, ◌^◌, ◌-◌}
 use Rattle.omci_msg.specs.declared.Request.{Request}
 use Rattle.plan_publish.specs.Requests.{StartsWith, StartsWithEach, version_of}
 use Rattle.plan_publish.proofs.Beginnings.{starts_trans, whole}

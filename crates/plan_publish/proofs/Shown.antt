@@ -1,5 +1,5 @@
 -- What a control shows of the world after a publish.
-use Rattle.std.proofs.Common.{◌≡◌, [], ◌++◌, length, refl, sym, ap, ◌∙◌, arith, length-append}
+use Rattle.std.proofs.Common.{[], length, refl, sym, ap, ◌∙◌, arith, length-append}
 use Rattle.mib_state.specs.Entities.{Entities, nothing}
 use Rattle.mib_state.specs.After.{after, after_from}
 use Rattle.plan_publish.specs.Control.{Progress, accepted_of}

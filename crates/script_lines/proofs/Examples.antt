@@ -2,7 +2,7 @@
 use Rattle.std.proofs.Common.{◌≡◌, [], ◌∷◌, Some, None, refl}
 use Rattle.std.specs.Prelude.{codes}
 use Rattle.hex.specs.Hex.{decode_pairs}
-use Rattle.script_lines.specs.Line.{Asked, asked_by}
+use Rattle.script_lines.specs.Line.{asked_by}
 use Rattle.script_lines.specs.Line as asked
 
 a_message : asked_by (codes "o 0aF0") ≡ Some (asked.Message (10 ∷ 240 ∷ []))

@@ -1,6 +1,4 @@
-use Rattle.std.proofs.Common.{Result, IfOk, Option, Vec, sym, subst}
-use Rattle.std.specs.declared.alloc.AllocError.{AllocError}
-use Rattle.std.specs.declared.alloc.Global.{Global}
+use Rattle.std.proofs.Common.{IfOk, sym, subst}
 use Rattle.bench_judge.specs.Cut.{IsFitted}
 use Rattle.bench_judge.proofs.Alone.{alone_suits, swept_suits}
 use Rattle.bench_judge.proofs.fitting.versions_of.Goals as goal

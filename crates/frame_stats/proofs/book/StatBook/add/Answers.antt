@@ -1,4 +1,4 @@
-use Rattle.std.proofs.Common.{◌≡◌, ◌<◌, length, get_or, arith, rules}
+use Rattle.std.proofs.Common.{◌≡◌, ◌<◌, length, get_or, rules}
 use Rattle.frame_stats.specs.Lanes.{parts_of}
 use Rattle.frame_stats.proofs.Parts.{adds_to}
 use Rattle.frame_stats.proofs.book.StatBook.add.Goals as goal

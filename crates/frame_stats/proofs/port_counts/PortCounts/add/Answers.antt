@@ -1,4 +1,4 @@
-use Rattle.std.proofs.Common.{◌+◌, ◌<◌, ◌^◌, length, get_or, arith, rules, refl}
+use Rattle.std.proofs.Common.{◌+◌, ◌<◌, ◌^◌, length, get_or, rules, refl}
 use Rattle.frame_stats.proofs.RunSums.{part_of_runs}
 use Rattle.frame_stats.proofs.port_counts.PortCounts.add.Goals as goal
 

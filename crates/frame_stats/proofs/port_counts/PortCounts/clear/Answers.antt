@@ -1,4 +1,4 @@
-use Rattle.std.proofs.Common.{◌≡◌, ℕ, [], arith, refl}
+use Rattle.std.proofs.Common.{◌≡◌, ℕ, arith, refl}
 use Rattle.std.specs.Ordering.{nat_cmp}
 use Rattle.std.specs.Prelude.{None}
 use Rattle.std.specs.BTreeMap.{BTreeMap, get, IsEmpty}

@@ -1,4 +1,4 @@
-use Rattle.std.proofs.Common.{◌+◌, ◌<◌, ◌^◌, ℕ, arith}
+use Rattle.std.proofs.Common.{◌+◌, ◌<◌, ◌^◌, arith}
 use Rattle.frame_stats.specs.Figures.{at_port}
 use Rattle.frame_stats.proofs.RunSums.{runs_hold}
 use Rattle.frame_stats.proofs.port_counts.PortCounts.runs_fit.Goals as goal
