@@ -6,6 +6,8 @@
 #[cfg(test)]
 mod faults;
 #[cfg(test)]
+mod head_tests;
+#[cfg(test)]
 mod omci_msg_tests;
 #[cfg(test)]
 mod pmapper_tests;
