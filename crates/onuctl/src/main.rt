@@ -1,32 +1,13 @@
 //! onuctl answers OMCI messages, and forwards Ethernet frames upstream, as an optical network unit does.
 #![tactic(auto)]
 
-mod captures;
-mod encoding;
-mod files;
-mod forwarding;
-mod json_lines;
-mod judge_progress;
-mod judging;
-mod linting;
-mod looking;
-mod pieces;
-mod recording;
-mod running;
-mod topics;
-mod traces;
-mod unread;
-
 use command_line::{Words, read_words, report_words};
-use encoding::{decode_into_words, encode_text};
-use forwarding::forward;
-use json_lines::{replay_as_json, run_as_json};
-use judging::judge_history;
-use linting::{draw_graph, lint};
-use looking::{decode_lines, explain_frame, show_mib, show_rules};
-use recording::record;
-use running::run;
-use script_replay::{replay, report_replay};
+use commands_captures::{forward, record};
+use commands_files::Unread;
+use commands_judging::judge_history;
+use commands_looking::{draw_graph, explain_frame, lint, show_mib, show_rules};
+use commands_running::run;
+use commands_scripts::{decode_script, encode_text, replay_script, show_topic, topic_of};
 use std::alloc::{AllocError, Global};
 use std::fs::File;
 use std::io::{ErrorKind, IsTerminal, Read, Write};
@@ -35,8 +16,6 @@ use std::rt::{Clock, Env, Files};
 use std::sync::Wait;
 use std::thread::Threads;
 use std::{env, io};
-use topics::{show_topic, topic_of};
-use unread::Unread;
 
 /// The words of the command line, the program's name first.
 fn words(rt: &(impl Env + Alloc<A = Global>)) -> io::Result<Vec<String>> {
@@ -78,15 +57,9 @@ fn answer<
         return show_topic(alloc, topic, out, err);
     }
     match read_words(alloc, words) {
-        Ok(Words::Replay(words)) if words.json => replay_as_json(alloc, input, out, err),
-        Ok(Words::Replay(_)) => {
-            let outcome = replay(alloc, input, out);
-            report_replay(&outcome, err)
-        }
-        Ok(Words::Run(words)) if words.json => run_as_json(rt, &words, out, err),
+        Ok(Words::Replay(words)) => replay_script(alloc, words.json, input, out, err),
         Ok(Words::Run(words)) => run(rt, &words, out, err),
-        Ok(Words::Decode(words)) if words.source => decode_into_words(alloc, input, out, err),
-        Ok(Words::Decode(words)) => decode_lines(alloc, words.json, input, out, err),
+        Ok(Words::Decode(words)) => decode_script(alloc, &words, input, out, err),
         Ok(Words::Encode(words)) => encode_text(rt, &words, input, out, err),
         Ok(Words::Mib(words)) => show_mib(rt, &words, out, err),
         Ok(Words::Rules(words)) => show_rules(rt, &words, out, err),

@@ -1,7 +1,6 @@
 //! What is wrong with a configuration, and its picture.
-use crate::looking::report_text;
-use crate::traces::apply_trace;
-use command_line::{GraphWords, LintWords};
+use command_words::{GraphWords, LintWords};
+use commands_files::{apply_trace, report_text};
 use explain_findings::findings;
 use script_trace::{Applied, Refused};
 use std::alloc::{AllocError, Global};

@@ -1,49 +1,18 @@
 //! What looks inside: the managed entities after a trace, a table, and what becomes of one frame.
-use crate::captures::{next_frame, open_frames, report_cut};
-use crate::files::{read_whole, report_unread};
-use crate::traces::apply_trace;
-use command_line::{ExplainWords, FrameWords, MibWords, RulesWords};
+use command_words::{ExplainWords, FrameWords, MibWords, RulesWords};
+use commands_files::{
+    apply_trace, next_frame, open_frames, read_whole, report_cut, report_text, report_unread,
+};
 use mib_state::Mib;
 use script_trace::Applied;
 use std::alloc::Global;
-use std::io::{Read, Write};
+use std::io::Write;
 use std::rt::Files;
 use text_entities::{write_mib, write_mib_json};
 use text_explanations::{
     Incoming, Traced, write_explanation, write_explanation_json, write_rules, write_rules_json,
 };
-use text_messages::{decode, decode_json};
-use text_writing::{DecodeFault, LookFault, TextFault, report_look};
-
-/// Says how a text ended, and gives the status.
-pub fn report_text<E: Write>(outcome: Result<(), TextFault>, err: &mut E) -> u8 {
-    report_look(&outcome.map_err(LookFault::from), err)
-}
-
-/// Writes what each line of the input means to `out`, as text or as JSON, and why not all of them to `err`. It gives the status.
-pub fn decode_lines<I: Read, O: Write, E: Write>(
-    alloc: Global,
-    json: bool,
-    reader: &mut I,
-    out: &mut O,
-    err: &mut E,
-) -> u8 {
-    let outcome = if json {
-        decode_json(alloc, reader, out)
-    } else {
-        decode(alloc, reader, out)
-    };
-    report_decoding(outcome, err)
-}
-
-/// Says how the lines of a script ended, and what is wrong in a bad one, and gives the status.
-pub fn report_decoding<E: Write>(outcome: Result<(), DecodeFault>, err: &mut E) -> u8 {
-    let status = report_look(&outcome.map_err(LookFault::from), err);
-    if let Err(DecodeFault::BadLine(_, mistake)) = outcome {
-        let _ = writeln!(err, "{mistake}");
-    }
-    status
-}
+use text_writing::{LookFault, TextFault, report_look};
 
 /// Writes managed entities, as text or as JSON.
 fn write_entities<O: Write>(

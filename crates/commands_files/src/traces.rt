@@ -1,6 +1,7 @@
 //! A script as the trace of a command: its messages are carried out, and those that weren't are counted.
 use crate::files::{read_whole, report_unread};
-use command_line::TraceWords;
+use crate::reports::without_memory;
+use command_words::TraceWords;
 use script_trace::{Applied, Faulty, Refused, ScriptFault, apply_script};
 use std::alloc::{AllocError, Global};
 use std::io::Write;
@@ -12,11 +13,6 @@ const REFUSED: u8 = 2;
 
 /// How many lines are named at most.
 const NAMED: usize = 10;
-
-/// Says that there is no memory, and gives the status.
-pub fn without_memory<E: Write>(err: &mut E) -> u8 {
-    report_look(&Err(LookFault::NoMemory), err)
-}
 
 /// The lines of the messages that have a fault.
 fn faulty_lines(alloc: Global, faulty: &[Faulty]) -> Result<Vec<u64>, AllocError> {

@@ -1,9 +1,8 @@
 //! Whether a right unit may have done what a history says.
-use crate::files::report_unread;
-use crate::judge_progress::Shown;
-use crate::pieces::{History, read_history};
+use crate::progress::Shown;
 use bench_judge::{JudgeFault, JudgeSettings, Judgement, judge_pieces, judge_watched};
-use command_line::JudgeWords;
+use command_words::JudgeWords;
+use commands_files::{History, read_history, report_unread};
 use std::alloc::Global;
 use std::fs::File;
 use std::io::{ErrorKind, IsTerminal, Read, Write};

@@ -1,35 +1,11 @@
-//! What `replay` and `run` write, as JSON.
-use crate::looking::{report_decoding, report_text};
-use crate::running::run;
-use command_line::RunWords;
+//! The lines of a run as an object.
 use json::Writer;
-use script_replay::{replay, report_replay};
 use std::alloc::{AllocError, Global};
-use std::fs::File;
-use std::io::{IsTerminal, Read, Write};
-use std::rt::{Clock, Files};
+use std::io::Write;
 use std::str;
-use std::sync::Wait;
-use std::thread::Threads;
 use text_entities::{put_number, put_words};
-use text_messages::{decode_json, reason_of};
+use text_messages::reason_of;
 use text_writing::{TextFault, write_whole};
-
-/// Answers the script on a reader, and writes an object for each answer to `out`, and why not all to `err`. The answers are held until the
-/// script ends. It gives the status.
-pub fn replay_as_json<I: Read, O: Write, E: Write>(
-    alloc: Global,
-    reader: &mut I,
-    out: &mut O,
-    err: &mut E,
-) -> u8 {
-    let mut answers = Vec::new(alloc);
-    let outcome = replay(alloc, reader, &mut answers);
-    let mut lines: &[u8] = &answers;
-    let written = report_decoding(decode_json(alloc, &mut lines, out), err);
-    let status = report_replay(&outcome, err);
-    if status == 0 { written } else { status }
-}
 
 /// The number that stands at a place among the words of a line, from 0.
 fn number_at(line: &str, place: usize) -> u64 {
@@ -112,24 +88,12 @@ fn object_of(alloc: Global, lines: &str) -> Result<Vec<u8>, AllocError> {
     Ok(object.into_inner())
 }
 
-/// Writes the lines of a run as an object.
-fn write_run<O: Write>(alloc: Global, lines: &[u8], out: &mut O) -> Result<(), TextFault> {
+/// Writes the lines of a run as one object of JSON (RFC 8259) on a line: how many messages were `accepted`, an object for each of the
+/// `batches`, how many `frames` there were and the `bytes` of those that left, and the arrays `drops` and `gems`, with an object for
+/// each reason and each GEM port. Lines of another kind are passed over.
+pub fn write_run_json<O: Write>(alloc: Global, lines: &[u8], out: &mut O) -> Result<(), TextFault> {
     let object = object_of(alloc, str::from_utf8(lines).unwrap_or(""))?;
     write_whole(out, &object)?;
     write_whole(out, b"\n")?;
     Ok(())
-}
-
-/// Runs over two files, as [`run`] does, and writes what comes of it to `out` as an object. It gives the status.
-pub fn run_as_json<
-    R: Files<File = File> + Alloc<A = Global> + Threads + Wait + Clock + Sync,
-    O: Write,
-    E: Write + IsTerminal + Send,
->(rt: &R, words: &RunWords, out: &mut O, err: &mut E) -> u8 {
-    let mut lines = Vec::new(rt.alloc());
-    let status = run(rt, words, &mut lines, err);
-    if status != 0 {
-        return status;
-    }
-    report_text(write_run(rt.alloc(), &lines, out), err)
 }

@@ -7,7 +7,7 @@ use std::rt::Files;
 
 /// The bytes of an open file, read into room of its size and a byte more, by which its end is found. So nothing grows, and nothing is
 /// copied, while a file is read whose size is known before.
-pub fn read_open<F: OpenFile + Read>(alloc: Global, file: &mut F) -> io::Result<Vec<u8>> {
+pub(crate) fn read_open<F: OpenFile + Read>(alloc: Global, file: &mut F) -> io::Result<Vec<u8>> {
     let size = usize::try_from(file.metadata()?.len()).unwrap_or(0);
     let mut bytes = Vec::with_capacity(alloc, size.saturating_add(1))?;
     file.read_to_end(&mut bytes)?;

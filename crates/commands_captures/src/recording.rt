@@ -1,9 +1,8 @@
 //! The history that captures show.
-use crate::captures::{Naming, report_capture, report_cut};
-use crate::files::{read_whole, report_file};
 use bench_capture::{FrameFault, Frames};
 use bench_record::{CapturedFrame, Passed, RecordSettings, Tap, record_history, write_history};
-use command_line::{RecordWords, read_numbered, read_tpid};
+use command_words::{RecordWords, read_numbered, read_tpid};
+use commands_files::{Naming, read_whole, report_capture, report_cut, report_file, without_memory};
 use std::alloc::Global;
 use std::io::{BufWriter, Write};
 use std::rt::Files;
@@ -22,11 +21,6 @@ struct Capture<'a> {
 struct Seen<'a> {
     frames: Vec<CapturedFrame<'a>>,
     cut: u64,
-}
-
-/// Says that there is no memory, and gives the status.
-fn without_memory<E: Write>(err: &mut E) -> u8 {
-    report_look(&Err(LookFault::NoMemory), err)
 }
 
 /// Says that the value of an option is none, and gives the status.

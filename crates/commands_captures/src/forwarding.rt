@@ -1,10 +1,10 @@
 //! The frames of a capture, forwarded after a trace.
-use crate::captures::{Naming, report_capture, report_cut};
-use crate::files::{report_file, report_unread};
-use crate::traces::{apply_trace, without_memory};
 use bench_capture::{FrameReader, ReadFault};
 use bench_forward::{ForwardFault, Forwarded, Outputs, Totals, forward_frames};
-use command_line::ForwardWords;
+use command_words::ForwardWords;
+use commands_files::{
+    Naming, apply_trace, report_capture, report_cut, report_file, report_unread, without_memory,
+};
 use mib_state::Mib;
 use std::alloc::Global;
 use std::fs;

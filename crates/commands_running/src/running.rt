@@ -1,13 +1,12 @@
 //! A run over two files.
-use crate::captures::{
-    Naming, cut_frames, cut_in_file, explain_fault, packets_of, report_capture, report_cut,
-};
-use crate::files::{read_whole, report_unread};
-use crate::pieces::{Capture, read_capture};
 use bench_capture::{CaptureFault, FrameFault};
 use bench_pcapng::is_pcapng;
 use capture_pieces::Pieces;
-use command_line::RunWords;
+use command_words::RunWords;
+use commands_files::{
+    Capture, Naming, cut_frames, cut_in_file, explain_fault, packets_of, read_capture, read_whole,
+    report_capture, report_cut, report_text, report_unread,
+};
 use run_capture::{
     RunFault, report_run, run_frames, run_frames_shown, run_over, run_over_shown, run_pieces,
     run_pieces_shown,
@@ -19,6 +18,7 @@ use std::io::{IsTerminal, Write};
 use std::rt::{Clock, Files};
 use std::sync::Wait;
 use std::thread::Threads;
+use text_runs::write_run_json;
 
 /// A fault of a capture in the classic format, as one of either format.
 fn fault_of(fault: capture::CaptureFault) -> CaptureFault {
@@ -124,10 +124,9 @@ fn run_whole<
     status
 }
 
-/// Reads the trace and then the capture, and forwards the frames of the capture while the trace is applied. What comes of it is written
-/// to `out`, and why nothing does to `err`, which shows how far the run is where it is a terminal, and how many frames were cut. It
-/// gives the status.
-pub fn run<
+/// Reads the trace and then the capture, and forwards the frames of the capture while the trace is applied. The lines of the run are
+/// written to `out`.
+fn run_lines<
     R: Files<File = File> + Alloc<A = Global> + Threads + Wait + Clock + Sync,
     O: Write,
     E: Write + IsTerminal + Send,
@@ -147,5 +146,35 @@ pub fn run<
     match capture {
         Capture::InPieces(pieces) => run_parts(rt, words, &trace, &pieces, out, err),
         Capture::Whole(file) => run_whole(rt, words, &trace, &file, out, err),
+    }
+}
+
+/// The same, with an object in place of the lines.
+fn run_as_json<
+    R: Files<File = File> + Alloc<A = Global> + Threads + Wait + Clock + Sync,
+    O: Write,
+    E: Write + IsTerminal + Send,
+>(rt: &R, words: &RunWords, out: &mut O, err: &mut E) -> u8 {
+    let mut lines = Vec::new(rt.alloc());
+    let status = run_lines(rt, words, &mut lines, err);
+    if status != 0 {
+        return status;
+    }
+    report_text(write_run_json(rt.alloc(), &lines, out), err)
+}
+
+/// Reads the trace and then the capture, and forwards the frames of the capture while the trace is applied. What comes of it is written
+/// to `out`, as lines or as an object, and why nothing does to `err`, which shows how far the run is where it is a terminal, and how
+/// many frames were cut. It gives the status: 0 where all is written, 2 for a trace or a capture that is bad, and the status of
+/// [`report_run`] for another fault.
+pub fn run<
+    R: Files<File = File> + Alloc<A = Global> + Threads + Wait + Clock + Sync,
+    O: Write,
+    E: Write + IsTerminal + Send,
+>(rt: &R, words: &RunWords, out: &mut O, err: &mut E) -> u8 {
+    if words.json {
+        run_as_json(rt, words, out, err)
+    } else {
+        run_lines(rt, words, out, err)
     }
 }

@@ -1,12 +1,11 @@
 //! Scripts in words.
-use crate::files::report_file;
-use crate::looking::report_decoding;
-use command_line::EncodeWords;
+use command_words::EncodeWords;
+use commands_files::report_file;
 use std::alloc::Global;
 use std::fs::File;
 use std::io::{Read, Write};
 use std::rt::Files;
-use text_source::{EncodeFault, decode_source, encode};
+use text_source::{EncodeFault, encode};
 use text_writing::{LookFault, report_look};
 
 /// Says how a text in words ended, and gives the status. Its mistakes are written already.
@@ -40,14 +39,4 @@ pub fn encode_text<R: Files + Alloc<A = Global>, I: Read, O: Write, E: Write>(
     };
     let outcome = encode(alloc, first, &mut file, out, err);
     report_encoding(outcome, err)
-}
-
-/// Writes the lines of the script on the input in words to `out`, and why not all of them to `err`. It gives the status.
-pub fn decode_into_words<I: Read, O: Write, E: Write>(
-    alloc: Global,
-    reader: &mut I,
-    out: &mut O,
-    err: &mut E,
-) -> u8 {
-    report_decoding(decode_source(alloc, reader, out), err)
 }

@@ -1,0 +1,21 @@
+//! What several commands do: files, captures and traces read, and what is said where one can't be had.
+//!
+//! A function that writes why something can't be had gives the status of the command. [`Unread`] watches the output for all of them.
+#![tactic(auto)]
+
+mod captures;
+mod files;
+mod pieces;
+mod reports;
+mod traces;
+mod unread;
+
+pub use captures::{
+    Naming, cut_frames, cut_in_file, explain_fault, next_frame, open_frames, packets_of,
+    report_capture, report_cut,
+};
+pub use files::{read_whole, report_file, report_unread};
+pub use pieces::{Capture, History, read_capture, read_history};
+pub use reports::{report_decoding, report_text, without_memory};
+pub use traces::apply_trace;
+pub use unread::{Silenced, Unread, Watched};

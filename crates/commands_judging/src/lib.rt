@@ -1,0 +1,9 @@
+//! The command `judge`: whether a right unit may have done what a history says.
+//!
+//! The judgement is the crate `bench_judge`'s, whose contracts tie it to the meaning of histories.
+#![tactic(auto)]
+
+mod judging;
+mod progress;
+
+pub use judging::judge_history;
