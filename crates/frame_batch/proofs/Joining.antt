@@ -11,7 +11,7 @@ use Rattle.rayon.proofs.ListFacts.{flat_map-append}
 use Rattle.mib_state.specs.Entities.{Entities}
 use Rattle.frame_meaning.specs.declared.verdict.Verdict.{Verdict}
 use Rattle.frame_meaning.specs.Meaning.{meaning}
-use Rattle.frame_batch.specs.Batches.{meanings}
+use Rattle.batch_reports.specs.Batches.{meanings}
 use Rattle.frame_batch.specs.Pieces.{IsPiece, AreJoined}
 
 -- one frame more

@@ -1,6 +1,1 @@
 mod Joining
-mod Filling
-mod Arrival
-mod Misfits
-mod Totals
-pub mod Lent

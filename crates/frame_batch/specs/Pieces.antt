@@ -8,7 +8,7 @@ use Rattle.std.specs.declared.alloc.Global.{Global}
 use Rattle.std.specs.declared.alloc.AllocError.{AllocError}
 use Rattle.mib_state.specs.Entities.{Entities}
 use Rattle.frame_meaning.specs.declared.verdict.Verdict.{Verdict}
-use Rattle.frame_batch.specs.Batches.{meanings}
+use Rattle.batch_reports.specs.Batches.{meanings}
 
 -- a piece's verdicts are what its frames mean
 abbrev pub IsPiece : Entities → ℕ → List (Bor (List ℕ)) → Result (Vec Verdict Global) AllocError → Type 0

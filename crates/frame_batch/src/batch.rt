@@ -1,155 +1,25 @@
 //! One batch, by the lane that is in.
-ghost use Rattle.frame_stats.specs.Figures.{AreCountsOf};
-ghost use Rattle.std.specs.Prelude.{◌≡◌, ◌<◌, ◌↔◌, ◌≤◌, ◌⊎◌, ℕ, [], IfOk, OnOk, IsErrOf, length, true, false};
+ghost use Rattle.std.specs.Prelude.{◌≡◌, ◌<◌, ◌↔◌, ◌⊎◌, ℕ, [], IfOk, OnOk, IsErrOf, length, true, false};
 ghost use Rattle.frame_stats.specs.Figures.{SomePasses};
 ghost use Rattle.plan_publish.specs.Lane.{number_of};
 ghost use Rattle.plan_publish.specs.Held.{held_entities, held_lane, held_version};
-ghost use Rattle.frame_batch.specs.Batches.{meanings, most_frames};
+ghost use Rattle.batch_reports.specs.Batches.{meanings, most_frames};
 
-use crate::fault::BatchFault;
-use crate::forwarding::MOST;
-use forward_plan::{Live, Verdict};
-use frame_stats::{CountFault, Counts};
+use batch_reports::{Batch, BatchFault, Gate, LaneView, Report, report_batch, report_batch_into};
 use plan_publish::Held;
-use std::alloc::{AllocError, Global};
+use std::alloc::Global;
 
-/// Lets batches pass, or not. Who runs batches in step, or means to stop them, implements it, and may say what it may answer to a
-/// lane, a batch and a number of turns.
-pub trait Gate {
-    ghost use Rattle.std.specs.Prelude.{ℕ, Bool, ⊤};
-
-    ghost may_answer: { Self → ℕ → ℕ → ℕ → Bool → Type 0 } = { λ _ _ _ _ _. ⊤ };
-
-    /// Whether a lane's batch passes. It is asked once, and may look up to `turns` times for what it waits for.
-    fn pass(&self, lane: u16, batch: u32, turns: u32) -> bool
-        ensures { may_answer self.now lane batch turns result };
-}
-
-/// The frames of one batch, which came in at one port.
-#[derive(Clone, Copy)]
-pub struct Batch<'f, 'a> {
-    /// The number of the batch.
-    pub number: u32,
-    /// The port that the frames came in at.
-    pub port: u16,
-    /// The frames, in order.
-    pub frames: &'f [&'a [u8]],
-}
-
-/// The verdicts on the frames of one batch, in order, with their counts, which are always those of the verdicts, by the type.
-#[derive(Drop)]
-pub struct Report<'a> {
-    /// The number of the lane that forwarded them.
-    pub lane: u16,
-    /// The number of the batch.
-    pub batch: u32,
-    /// The number of the version that the lane held.
-    pub version: u64,
-    /// What became of each frame. It borrows the frames alone.
-    pub verdicts: Vec<Verdict<'a>>,
-    /// The counts of these verdicts.
-    pub counts: Counts,
-    ghost exact: { AreCountsOf verdicts.items counts },
-}
-
-impl<'a> Report<'a> {
-    ghost use Rattle.std.specs.Prelude.{◌≡◌, [], IfOk, OnOk, OnErr, IsErrOf};
-    ghost use Rattle.frame_stats.specs.Figures.{AreCountsOf, SomePasses};
-    ghost use Rattle.frame_batch.specs.Batches.{meanings};
-
-    /// The report of no frames, by lane 0 and version 0, with the number 0. A lane has it for [`run_batch_into`]. It takes no memory.
-    pub fn empty(alloc: Global) -> Self
-        ensures lane { result.lane ≡ 0 }
-        ensures number { result.batch ≡ 0 }
-        ensures version { result.version ≡ 0 }
-        ensures verdicts { result.verdicts.items ≡ [] }
-    {
-        Report {
-            lane: 0,
-            batch: 0,
-            version: 0,
-            verdicts: Vec::new(alloc),
-            counts: Counts::zero(alloc),
-        }
+/// What the lane that is in holds.
+fn view_of<'h>(held: &'h Held<'_>) -> LaneView<'h>
+    ensures lane { result.lane ≡ number_of (held_lane held.now) }
+    ensures version { result.version ≡ held_version held.now }
+    ensures entities { result.live.now ≡ held_entities held.now }
+{
+    LaneView {
+        lane: held.lane(),
+        version: held.version(),
+        live: held.live(),
     }
-
-    /// The report without its verdicts, whose memory is given back.
-    pub fn tally(self) -> Tally
-        ensures { result
-            ≡ record {
-              lane = self.entry.lane;
-              batch = self.entry.batch;
-              version = self.entry.version;
-              counts = self.entry.counts;
-            } }
-    {
-        let Self {
-            lane,
-            batch,
-            version,
-            verdicts: _,
-            counts,
-        } = self;
-        Tally {
-            lane,
-            batch,
-            version,
-            counts,
-        }
-    }
-
-    /// What [`tally`](Report::tally) gives, of a report that is kept. It takes memory for the GEM ports that had to give up their
-    /// places to others.
-    pub fn copy_tally(&self, alloc: Global) -> Result<Tally, AllocError>
-        ensures lane { IfOk result (λ tally. tally.lane ≡ self.now.lane) }
-        ensures number { IfOk result (λ tally. tally.batch ≡ self.now.batch) }
-        ensures version { IfOk result (λ tally. tally.version ≡ self.now.version) }
-        ensures counts { IfOk result (λ tally. AreCountsOf self.now.verdicts.items tally.counts) }
-    {
-        let counts = self.counts.copy(alloc)?;
-        Ok(Tally {
-            lane: self.lane,
-            batch: self.batch,
-            version: self.version,
-            counts,
-        })
-    }
-
-    /// Puts what becomes of frames in place of the verdicts, with their counts. On a fault there is nothing in it.
-    fn refill(&mut self, live: &Live, port: u16, frames: &[&'a [u8]]) -> Result<(), CountFault>
-        ensures verdicts { OnOk result
-            (self.new.verdicts.items ≡ meanings live.now port frames.now) }
-        ensures nothing { OnErr result (self.new.verdicts.items ≡ []) }
-        ensures full { IsErrOf result CountFault.CountFull
-            → SomePasses (meanings live.now port frames.now) }
-    {
-        self.verdicts.clear();
-        let Ok(()) = self.verdicts.reserve_exact(frames.len()) else {
-            self.counts.clear();
-            return Err(CountFault::NoMemory);
-        };
-        live.port(port).push_all(frames, &mut self.verdicts);
-        match self.counts.recount(self.verdicts.as_slice()) {
-            Ok(()) => Ok(()),
-            Err(fault) => {
-                self.verdicts.clear();
-                Err(fault)
-            }
-        }
-    }
-}
-
-/// What is kept of a report where its verdicts aren't: some 400 bytes, whatever the batch's size.
-#[derive(Drop)]
-pub struct Tally {
-    /// The number of the lane that forwarded the batch.
-    pub lane: u16,
-    /// The number of the batch.
-    pub batch: u32,
-    /// The number of the version that the lane held.
-    pub version: u64,
-    /// The counts of the batch's verdicts.
-    pub counts: Counts,
 }
 
 /// Forwards the frames of a batch by the held version, and counts what becomes of them. It runs on its caller's thread and waits for
@@ -182,11 +52,7 @@ pub fn run_batch<'a, G: Gate>(
     ensures full { IsErrOf result BatchFault.CountFull
         → SomePasses (meanings (held_entities held.now) batch.entry.port batch.entry.frames.now) }
 {
-    let mut report = Report::empty(alloc);
-    match run_batch_into(&mut report, held, batch, turns, gate) {
-        Ok(()) => Ok(report),
-        Err(fault) => Err(fault),
-    }
+    report_batch(alloc, view_of(held), batch, turns, gate)
 }
 
 /// Forwards the frames of a batch as [`run_batch`] does, and puts what becomes of them in place of what a report says. A lane that
@@ -221,25 +87,5 @@ pub fn run_batch_into<'a, G: Gate>(
     ensures nothing { IsErrOf result BatchFault.NoMemory ⊎ IsErrOf result BatchFault.CountFull
         → report.new.verdicts.items ≡ [] }
 {
-    let Batch {
-        number,
-        port,
-        frames,
-    } = batch;
-    if frames.len() > MOST {
-        return Err(BatchFault::TooMany(frames.len()));
-    }
-    if !gate.pass(held.lane(), number, turns) {
-        return Err(BatchFault::Stalled);
-    }
-    match report.refill(held.live(), port, frames) {
-        Ok(()) => {
-            report.lane = held.lane();
-            report.batch = number;
-            report.version = held.version();
-            Ok(())
-        }
-        Err(CountFault::CountFull) => Err(BatchFault::CountFull),
-        Err(CountFault::NoMemory) => Err(BatchFault::NoMemory),
-    }
+    report_batch_into(report, view_of(held), batch, turns, gate)
 }

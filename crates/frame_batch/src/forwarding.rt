@@ -1,17 +1,14 @@
 //! What becomes of many frames.
 ghost use Rattle.std.specs.Prelude.{◌≡◌, ◌<◌, ◌≤◌, ◌+◌, ◌++◌, ◌↔◌, ℕ, IfOk, IsErrOf, length, vec_len, vec_capacity};
 ghost use Rattle.plan_publish.specs.Held.{held_entities};
-ghost use Rattle.frame_batch.specs.Batches.{meanings, most_frames};
+ghost use Rattle.batch_reports.specs.Batches.{meanings, most_frames};
 
-use crate::fault::BatchFault;
 use crate::pieces::forward_by_pieces;
+use batch_reports::{BatchFault, MOST_FRAMES};
 use forward_plan::{Live, Verdict};
 use plan_publish::Held;
 use std::alloc::{AllocError, Global};
 use std::thread::Threads;
-
-/// How many frames a batch has at most.
-pub(crate) const MOST: usize = 65_536;
 
 /// How many frames a piece has: they take longer than it takes to hand a piece to a thread.
 const PIECE: usize = 4_096;
@@ -40,7 +37,7 @@ pub fn forward_all<'a, R: Threads + Sync>(
     ensures never { ¬ (IsErrOf result BatchFault.Stalled)
         × ¬ (IsErrOf result BatchFault.CountFull) }
 {
-    if frames.len() > MOST {
+    if frames.len() > MOST_FRAMES {
         return Err(BatchFault::TooMany(frames.len()));
     }
     match forward_by_pieces(rt, alloc, held.live(), port, frames, PIECE) {

@@ -8,25 +8,17 @@
 //! **A long list on more threads.** [`forward_all`] cuts a list into pieces of some thousand frames, which `rayon` spreads over the
 //! processors; a frame alone takes less time than it takes to hand it to a thread. What it gives is the plain list, in order.
 //!
-//! **Gathering.** Batches end in any order. [`gather`] puts their reports in the order of their numbers and adds their counts up,
-//! or says which number is one too many or missing, which [`law_of_misfits`] puts in the list's words. [`law_of_arrival`] says that
-//! every order of the same reports gives the same list. A long run keeps no verdicts: [`Report::tally`] drops a report's,
-//! [`Report::copy_tally`] leaves them in it, [`gather_tallies`] gathers tallies, and [`gather_versions`] their versions alone.
+//! **Reports and their gathering** are the crate `batch_reports`'s, which is proved beside the lanes. Its items are this crate's too:
+//! [`gather`] puts reports in the order of their numbers, and [`gather_tallies`] and [`gather_versions`] do so for a long run.
 #![tactic(auto)]
 
 mod batch;
-mod fault;
 mod forwarding;
-mod gathering;
-mod law;
-mod numbered;
 mod pieces;
-mod places;
-mod versions;
 
-pub use batch::{Batch, Gate, Report, Tally, run_batch, run_batch_into};
-pub use fault::{BatchFault, GatherFault};
+pub use batch::{run_batch, run_batch_into};
+pub use batch_reports::{
+    Batch, BatchFault, Gate, GatherFault, Gathered, GatheredTallies, GatheredVersions, Report,
+    Tally, gather, gather_tallies, gather_versions, law_of_arrival, law_of_misfits,
+};
 pub use forwarding::forward_all;
-pub use gathering::{Gathered, GatheredTallies, gather, gather_tallies};
-pub use law::{law_of_arrival, law_of_misfits};
-pub use versions::{GatheredVersions, gather_versions};

@@ -2,7 +2,7 @@
 ghost use Rattle.std.specs.Prelude.{◌≡◌, ◌<◌, IfOk};
 ghost use Rattle.std.specs.List.{AllZip};
 ghost use Rattle.rayon.specs.Lists.{chunks_of};
-ghost use Rattle.frame_batch.specs.Batches.{meanings};
+ghost use Rattle.batch_reports.specs.Batches.{meanings};
 ghost use Rattle.frame_batch.specs.Pieces.{IsPiece, AreJoined};
 
 use crate::forwarding::forward_each;

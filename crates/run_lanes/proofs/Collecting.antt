@@ -7,7 +7,7 @@ use Rattle.std.specs.declared.alloc.Global.{Global}
 use Rattle.std.proofs.lemmas.List.Elements.{Contains-append_cases}
 use Rattle.omci_msg.specs.declared.Request.{Request}
 use Rattle.plan_publish.specs.Lane.{HeldBeginnings}
-use Rattle.frame_batch.specs.declared.batch.Tally.{Tally}
+use Rattle.batch_reports.specs.declared.batch.Tally.{Tally}
 use Rattle.run_lanes.specs.declared.settling.Done.{Done}
 use Rattle.run_lanes.specs.Settling.{Collected}
 use Rattle.capture_pieces.proofs.Starts.{last_or_before}

@@ -9,7 +9,7 @@ use Rattle.mib_state.specs.After.{after}
 use Rattle.mib_state.specs.Entities.{Entities}
 use Rattle.frame_stats.specs.Figures.{Figure, figure, counted, AreCountsOf}
 use Rattle.frame_stats.proofs.FigureSums.{figure-append, figure-none}
-use Rattle.frame_batch.specs.declared.batch.Tally.{Tally}
+use Rattle.batch_reports.specs.declared.batch.Tally.{Tally}
 use Rattle.capture_pieces.specs.Cut.{batch_of}
 use Rattle.run_lanes.specs.Run.{verdicts_from}
 use Rattle.run_lanes.specs.Work.{verdicts_on}

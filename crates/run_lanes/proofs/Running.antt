@@ -15,9 +15,9 @@ use Rattle.plan_publish.specs.History.{Home}
 use Rattle.plan_publish.specs.declared.lane.Lane.{Lane}
 use Rattle.plan_publish.specs.Lane.{number_of, learnt_by, home_of, IsNew}
 use Rattle.frame_stats.specs.Figures.{Figure, figure, counted, AreCountsOf, HasNoZeros}
-use Rattle.frame_batch.specs.declared.batch.Tally.{Tally}
-use Rattle.frame_batch.specs.Gathering.{SumPasses}
-use Rattle.frame_batch.proofs.Lent.{mapped_at}
+use Rattle.batch_reports.specs.declared.batch.Tally.{Tally}
+use Rattle.batch_reports.specs.Gathering.{SumPasses}
+use Rattle.batch_reports.proofs.Lent.{mapped_at}
 use Rattle.capture_pieces.specs.Cut.{batch_of}
 use Rattle.run_settings.specs.declared.settings.RunSettings.{RunSettings}
 use Rattle.run_lanes.specs.declared.settling.Done.{Done}

@@ -12,11 +12,11 @@ use Rattle.mib_state.specs.After.{after}
 use Rattle.frame_meaning.specs.declared.verdict.Verdict.{Verdict}
 use Rattle.frame_meaning.specs.Meaning.{meaning}
 use Rattle.frame_stats.specs.Figures.{AreCountsOf, SomePasses, figure}
-use Rattle.frame_batch.specs.Batches.{meanings}
+use Rattle.batch_reports.specs.Batches.{meanings}
 use Rattle.plan_publish.specs.Requests.{StartsWith, StartsWithEach, version_of}
 use Rattle.plan_publish.specs.Holding.{Holds}
 use Rattle.plan_publish.proofs.Beginnings.{version_grows}
-use Rattle.frame_batch.specs.declared.batch.Tally.{Tally}
+use Rattle.batch_reports.specs.declared.batch.Tally.{Tally}
 use Rattle.capture_pieces.specs.Cut.{batch_of}
 use Rattle.capture_pieces.proofs.Listed.{bytes_of}
 use Rattle.capture_pieces.proofs.Starts.{last_or_before}

@@ -8,8 +8,8 @@ use Rattle.plan_publish.specs.Requests.{StartsWith}
 use Rattle.plan_publish.specs.History.{Home}
 use Rattle.plan_publish.specs.declared.lane.Lane.{Lane}
 use Rattle.plan_publish.specs.Lane.{number_of, held_by, learnt_by, home_of, HeldBeginnings, IsNew}
-use Rattle.frame_batch.specs.declared.batch.Tally.{Tally}
-use Rattle.frame_batch.specs.Gathering.{AreInOrder, SumPasses}
+use Rattle.batch_reports.specs.declared.batch.Tally.{Tally}
+use Rattle.batch_reports.specs.Gathering.{AreInOrder, SumPasses}
 use Rattle.frame_stats.specs.Figures.{Figure, counted, HasNoZeros}
 use Rattle.run_lanes.specs.declared.fault.LaneFault.TheVariants.{CountFull}
 use Rattle.run_lanes.specs.declared.settling.Done.{Done}

@@ -10,7 +10,7 @@ use Rattle.plan_publish.specs.Requests.{StartsWith, StartsWithEach, version_of}
 use Rattle.plan_publish.specs.declared.lane.Lane.{Lane}
 use Rattle.plan_publish.specs.Lane.{number_of, held_by, learnt_by, IsSameLane}
 use Rattle.frame_stats.specs.Figures.{AreCountsOf, SomePasses}
-use Rattle.frame_batch.specs.declared.batch.Tally.{Tally}
+use Rattle.batch_reports.specs.declared.batch.Tally.{Tally}
 use Rattle.capture_pieces.specs.Cut.{batch_of}
 use Rattle.run_settings.specs.declared.settings.RunSettings.{RunSettings}
 use Rattle.run_lanes.specs.declared.fault.LaneFault.TheVariants.{CountFull}

@@ -2,7 +2,7 @@ use Rattle.std.proofs.Common.{◌∙◌, ap}
 use Rattle.rayon.specs.Lists.{chunks_of}
 use Rattle.rayon.proofs.ListFacts.{IfOk-then}
 use Rattle.rayon.proofs.ToStd.{chunks_of-concat}
-use Rattle.frame_batch.specs.Batches.{meanings}
+use Rattle.batch_reports.specs.Batches.{meanings}
 use Rattle.frame_batch.proofs.pieces.forward_by_pieces.Goals as goal
 
 pub returns : goal.returns

@@ -1,9 +1,9 @@
 use Rattle.std.proofs.Common.{◌≡◌, ◌<◌, ◌-◌, ◌^◌, inr, List, subst, arith, rules}
 use Rattle.std.specs.Prelude.{length}
 use Rattle.plan_publish.specs.Told.{told_list}
-use Rattle.frame_batch.specs.declared.batch.Tally.{Tally}
-use Rattle.frame_batch.specs.declared.fault.GatherFault.{GatherFault}
-use Rattle.frame_batch.specs.Gathering.{AreInOrder, IsWhyOfTallies}
+use Rattle.batch_reports.specs.declared.batch.Tally.{Tally}
+use Rattle.batch_reports.specs.declared.fault.GatherFault.{GatherFault}
+use Rattle.batch_reports.specs.Gathering.{AreInOrder, IsWhyOfTallies}
 use Rattle.run_lanes.specs.declared.fault.LaneFault.TheVariants.{CountFull}
 use Rattle.run_lanes.proofs.settling.settle.Goals as goal
 

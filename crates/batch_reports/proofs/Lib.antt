@@ -1,0 +1,5 @@
+mod Filling
+mod Arrival
+mod Misfits
+mod Totals
+pub mod Lent

@@ -1,0 +1,10 @@
+use Rattle.std.proofs.Common.{◌≡◌, ◌≤◌, length, map, take, vec_capacity}
+use Rattle.std.specs.Borrow.{Bor}
+use Rattle.batch_reports.specs.declared.batch.Tally.{Tally}
+use Rattle.batch_reports.proofs.versions.lend.Given as goal
+
+abbrev pub invariant-loop-tally : goal.invariant-loop-tally
+invariant-loop-tally l = record {
+  so_far : map (λ (t : Bor Tally). t.now) l.lent.items ≡ take l.tally-index l.tallies;
+  room : length l.tallies ≤ vec_capacity l.lent;
+}

@@ -1,4 +1,0 @@
-use Rattle.frame_batch.proofs.fault.BatchFault.code.Goals as goal
-
-pub returns-in-Stalled : goal.returns-in-Stalled
-returns-in-Stalled c = rw c.in-Stalled.is

@@ -1,4 +1,0 @@
-use Rattle.frame_batch.proofs.fault.GatherFault.code.Goals as goal
-
-pub returns-in-Missing : goal.returns-in-Missing
-returns-in-Missing c = rw c.in-Missing.is

@@ -1,6 +1,0 @@
-use Rattle.std.proofs.Common.{ap, inl, arith}
-use Rattle.frame_batch.specs.declared.fault.GatherFault.TheVariants.{Stranger}
-use Rattle.frame_batch.proofs.places.place.Goals as goal
-
-pub returns-then-at-len-clause-misfit : goal.returns-then-at-len-clause-misfit
-returns-then-at-len-clause-misfit g c = inl (ap Stranger c.batch-batch.ensures, omega (arith, c.args.slots.now.ok.0))
