@@ -1,11 +1,13 @@
-//! Tests of counts and books, and of batches on lanes, storms among them: frame_stats and frame_batch.
-//! They stand apart so that each of these is proved once, and not a second time with its tests.
+//! Tests of versions from a control to its lanes, and of batches on lanes, a storm among them: plan_publish and frame_batch. They stand apart
+//! so that no library is proved a second time with its tests.
 #![tactic(auto)]
 
 #[cfg(test)]
-mod frame_batch_tests;
+mod batch_tests;
 #[cfg(test)]
-mod frame_stats_tests;
+mod dialogue;
+#[cfg(test)]
+mod lane_tests;
 #[cfg(test)]
 mod storm;
 #[cfg(test)]

@@ -1,26 +1,25 @@
-//! Tests of the bench: of histories, bench_history, of their judge, bench_judge, and of the texts of judgements, text_judgements. They
-//! stand apart so that these are proved once, and not a second time with their tests.
+//! Tests of what no history, capture or text shows of the bench and of scripts in words: pieces that are cut anywhere, readers and writers
+//! that fail, the pcapng format block by block, and histories that this product's own lanes make. Rows, and drawn histories, captures and
+//! texts, are asked of the program (`tests/judged_plainly`, `tests/made_captures`, `tests/said_in_words`).
 #![tactic(auto)]
 
 #[cfg(test)]
-mod drawn_units;
+mod block_tests;
 #[cfg(test)]
-mod fates;
-#[cfg(test)]
-mod generated_histories;
+mod drip;
 #[cfg(test)]
 mod history_tests;
 #[cfg(test)]
 mod judgement_tests;
 #[cfg(test)]
-mod judging_tests;
+mod own_history;
 #[cfg(test)]
-mod plain_judge;
+mod own_lanes_tests;
 #[cfg(test)]
-mod rows;
+mod reader_tests;
 #[cfg(test)]
 mod shown;
 #[cfg(test)]
-mod wild_histories;
+mod source_tests;
 #[cfg(test)]
-mod wild_judgements;
+mod writer_tests;

@@ -1,15 +1,20 @@
-//! Tests of the managed entities and their steps, of MIB uploads, and of traces applied without lanes: mib_state (and managed_entity
-//! by it), mib_upload and run_trace.
-//! They stand apart so that each of these is proved once, and not a second time with its tests.
+//! Tests of messages and frames as they are read, of tables with their indices, of entities with their steps and uploads, and of plans. They
+//! stand apart so that no library is proved a second time with its tests.
 #![tactic(auto)]
 
 #[cfg(test)]
-mod held_tests;
+mod agree_tests;
 #[cfg(test)]
-mod mib_upload_tests;
+mod entity_tests;
 #[cfg(test)]
-mod run_trace_tests;
+mod frame_tests;
 #[cfg(test)]
-mod scenes;
+mod index_tests;
 #[cfg(test)]
-mod step_tests;
+mod message_tests;
+#[cfg(test)]
+mod number_tests;
+#[cfg(test)]
+mod plan_tests;
+#[cfg(test)]
+mod table_tests;

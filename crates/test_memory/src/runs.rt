@@ -4,7 +4,7 @@ use crate::seen::{REFUSED_AGAIN, Seen, must, report};
 use capture::{ListFault, list_frames};
 use clap::Error;
 use clap::error::ErrorKind;
-use command_line::{RunWords, Words, read_words};
+use command_line::{Words, read_words};
 use hex::encode_to_slice;
 use run_capture::{RunFault, RunSettings, run_over};
 use script_replay::{ReplayFault, replay};
@@ -136,16 +136,10 @@ fn call_run_over<R: Threads + Wait + Sync>(rt: &R, memory: &Memory) -> Seen {
 /// Whether words ask for the run.
 fn is_asked(read: &Result<Words<'_>, Error>) -> bool {
     match read {
-        Ok(words) => {
-            *words
-                == Words::Run(RunWords {
-                    trace: "T",
-                    frames: "F",
-                    settings: SETTINGS,
-                    json: false,
-                })
+        Ok(Words::Run(words)) => {
+            words.trace == "T" && words.frames == "F" && words.settings == SETTINGS && !words.json
         }
-        Err(_) => false,
+        _ => false,
     }
 }
 

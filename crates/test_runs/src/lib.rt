@@ -1,21 +1,30 @@
-//! Tests of runs on lanes, of the lines of a run, of a replay of the same frames, and of the words that ask for one: run_lanes,
-//! run_capture, script_replay, script_trace, command_line, run_settings and writing.
-//! They stand apart so that each of these is proved once, and not a second time with its tests.
+//! Tests of digits, captures, replays and traces, of devices that fail, of counts, of runs on lanes, and of the words for one. They stand apart
+//! so that no library is proved a second time with its tests.
 #![tactic(auto)]
 
 #[cfg(test)]
-mod command_line_tests;
+mod capture_tests;
 #[cfg(test)]
-mod replay_tests;
+mod count_tests;
 #[cfg(test)]
-mod run_capture_tests;
+mod device_tests;
 #[cfg(test)]
-mod run_lanes_tests;
+mod devices;
 #[cfg(test)]
-mod run_settings_tests;
+mod gate_tests;
+#[cfg(test)]
+mod line_tests;
 #[cfg(test)]
 mod run_tests;
 #[cfg(test)]
+mod script_digits_tests;
+#[cfg(test)]
 mod script_trace_tests;
+#[cfg(test)]
+mod text_tests;
+#[cfg(test)]
+mod wild_captures;
+#[cfg(test)]
+mod word_tests;
 #[cfg(test)]
 mod writing_tests;

@@ -1,11 +1,25 @@
-//! What a run writes.
-use crate::run_capture_tests::{HEADER, applied_first, port_257};
-use crate::run_lanes_tests::{CUT, UNTAGGED};
+//! What a run writes and refuses, and how it is reported. Larger runs are asked of the program (`tests/drawn`).
+use capture::CaptureFault;
 use capture_pieces::Pieces;
-use run_capture::{RunFault, run_frames, run_frames_shown, run_over, run_pieces, run_pieces_shown};
+use run_capture::{
+    RunFault, RunSettings, report_run, run_frames, run_frames_shown, run_over, run_over_shown,
+    run_pieces, run_pieces_shown,
+};
 use std::alloc::{AllocError, Global};
+use std::process::Abort;
+use std::sync::Wait;
 use std::test::Fail;
+use std::thread::Threads;
+use test_draws::{PORT_257, UNTAGGED};
 use test_fixtures::{Sink, push_message, same};
+
+/// A frame that is cut in its tag.
+const CUT: [u8; 14] = [2, 0, 0, 0, 0, 1, 2, 0, 0, 0, 0, 2, 0x81, 0];
+
+/// The header of a capture with the lowest byte first.
+const HEADER: [u8; 24] = [
+    0xd4, 0xc3, 0xb2, 0xa1, 2, 0, 4, 0, 0, 0, 0, 0, 0, 0, 0, 0, 0, 0, 4, 0, 1, 0, 0, 0,
+];
 
 /// What stands before a frame of 16 bytes, and before one of 14.
 const RECORD_16: [u8; 16] = [0, 0, 0, 0, 0, 0, 0, 0, 16, 0, 0, 0, 16, 0, 0, 0];
@@ -16,8 +30,11 @@ const RECORD_14: [u8; 16] = [0, 0, 0, 0, 0, 0, 0, 0, 14, 0, 0, 0, 14, 0, 0, 0];
 const LINES: &str =
     "accepted 5\nbatch 0 version 5 frames 2\nbatch 1 version 5 frames 1\nframes 3\nbytes 40\ndrop 2 1\ngem 1024 2\n";
 
-/// A capture of two frames without a tag and one that is cut.
-fn three_frames(alloc: Global) -> Result<Vec<u8>, AllocError> {
+/// Two frames without a tag and one that is cut.
+const FRAMES: [&[u8]; 3] = [&UNTAGGED, &UNTAGGED, &CUT];
+
+/// A capture of them.
+fn file(alloc: Global) -> Result<Vec<u8>, AllocError> {
     let mut file = Vec::new(alloc);
     for part in [
         &HEADER[..],
@@ -34,111 +51,48 @@ fn three_frames(alloc: Global) -> Result<Vec<u8>, AllocError> {
 }
 
 /// The trace that makes port 257, with a table entry that pushes a tag.
-pub(crate) fn tagging(alloc: Global) -> Result<String, AllocError> {
-    let mut text = port_257(alloc)?;
-    push_message(
-        &mut text,
-        "o ",
-        "0005480a00ab0701 0400 f8000000f8000000 000f000000000324",
-    )?;
+fn tagging(alloc: Global) -> Result<String, AllocError> {
+    let mut text = String::new(alloc);
+    for digits in PORT_257 {
+        push_message(&mut text, "o ", digits)?;
+    }
     Ok(text)
 }
 
-#[test]
-fn a_capture_without_frames_has_totals_alone(rt: HostRuntime) -> Result<(), Fail> {
-    let mut written = Vec::new(rt.alloc());
-    let settings = applied_first(1, 1);
-    run_over(&rt, rt.alloc(), b"", &HEADER, &settings, &mut written)?;
-    same!(rt;
-        written.as_slice(),
-        "accepted 0\nframes 0\nbytes 0\n".as_bytes()
-    );
-    Ok(())
+/// Settings at port 257, where the whole trace is applied first.
+fn applied_first(lanes: u16, batch: u32) -> RunSettings {
+    RunSettings {
+        port: 257,
+        lanes,
+        batch,
+        after: true,
+    }
+}
+
+/// Runs over a capture, whole and a byte a write, and over listed frames.
+fn run_on<R: Threads + Wait + Abort + Sync>(rt: &R, alloc: Global, trace: &[u8], lanes: u16) {
+    let file = file(alloc).expect(rt, "a capture");
+    let settings = applied_first(lanes, 2);
+    let mut dribble = Sink::new(alloc, 1, 1000, true);
+    let over = run_over(rt, alloc, trace, &file, &settings, &mut dribble);
+    same!(rt; (over, dribble.bytes.as_slice()), (Ok(()), LINES.as_bytes()), "{lanes} lanes");
+    let mut written = Vec::new(alloc);
+    let listed = run_frames(rt, alloc, trace, &FRAMES, &settings, &mut written);
+    same!(rt; (listed, written.as_slice()), (Ok(()), LINES.as_bytes()), "{lanes} lanes");
 }
 
 #[test]
 fn lines_are_the_same_on_one_lane_and_on_eight(rt: HostRuntime) -> Result<(), Fail> {
-    let alloc = rt.alloc();
-    let trace = tagging(alloc)?;
-    let file = three_frames(alloc)?;
+    let trace = tagging(rt.alloc())?;
     for lanes in [1, 8] {
-        let settings = applied_first(lanes, 2);
-        let mut written = Vec::new(alloc);
-        run_over(&rt, alloc, trace.as_bytes(), &file, &settings, &mut written)?;
-        same!(rt; written.as_slice(), LINES.as_bytes(), "{lanes} lanes");
-        let mut dribble = Sink::new(alloc, 1, 1000, true);
-        run_over(&rt, alloc, trace.as_bytes(), &file, &settings, &mut dribble)?;
-        same!(rt; dribble.bytes.as_slice(), LINES.as_bytes(), "{lanes} lanes");
+        run_on(&rt, rt.alloc(), trace.as_bytes(), lanes);
     }
     Ok(())
 }
 
-#[test]
-fn a_writer_that_fails_at_any_byte_has_a_front_of_the_lines(rt: HostRuntime) -> Result<(), Fail> {
-    let alloc = rt.alloc();
-    let trace = tagging(alloc)?;
-    let file = three_frames(alloc)?;
-    let settings = applied_first(1, 2);
-    for room in 0..LINES.len() {
-        for fails in [false, true] {
-            let mut sink = Sink::new(alloc, 10, room, fails);
-            same!(rt;
-                run_over(&rt, alloc, trace.as_bytes(), &file, &settings, &mut sink),
-                Err(RunFault::Write),
-                "{room} bytes"
-            );
-            same!(rt; sink.bytes.as_slice(), &LINES.as_bytes()[..room]);
-        }
-    }
-    Ok(())
-}
-
-#[test]
-fn listed_frames_have_the_lines_of_a_capture_of_them(rt: HostRuntime) -> Result<(), Fail> {
-    let alloc = rt.alloc();
-    let trace = tagging(alloc)?;
-    let frames = [&UNTAGGED[..], &UNTAGGED[..], &CUT[..]];
-    for lanes in [1, 8] {
-        let settings = applied_first(lanes, 2);
-        let mut written = Vec::new(alloc);
-        run_frames(
-            &rt,
-            alloc,
-            trace.as_bytes(),
-            &frames,
-            &settings,
-            &mut written,
-        )?;
-        same!(rt; written.as_slice(), LINES.as_bytes(), "{lanes} lanes");
-        let mut captured = Vec::new(alloc);
-        let file = three_frames(alloc)?;
-        run_over(
-            &rt,
-            alloc,
-            trace.as_bytes(),
-            &file,
-            &settings,
-            &mut captured,
-        )?;
-        same!(rt; captured.as_slice(), written.as_slice(), "{lanes} lanes");
-        let mut shown = Vec::new(alloc);
-        let mut err = Vec::new(alloc);
-        run_frames_shown(
-            &rt,
-            trace.as_bytes(),
-            &frames,
-            &settings,
-            &mut shown,
-            &mut err,
-        )?;
-        same!(rt; shown.as_slice(), written.as_slice(), "{lanes} lanes");
-    }
-    Ok(())
-}
-
-/// The same capture in two parts, cut within the second record.
-fn three_frames_in_parts(alloc: Global) -> Result<Pieces, AllocError> {
-    let file = three_frames(alloc)?;
+/// A capture in two parts, cut within the second record.
+fn in_parts(alloc: Global) -> Result<Pieces, AllocError> {
+    let file = file(alloc)?;
     let mut parts = Vec::new(alloc);
     for part in file.chunks(70) {
         parts.push(part.to_vec(alloc)?)?;
@@ -148,54 +102,144 @@ fn three_frames_in_parts(alloc: Global) -> Result<Pieces, AllocError> {
 
 #[test]
 fn a_capture_in_pieces_has_the_same_lines(rt: HostRuntime) -> Result<(), Fail> {
-    let alloc = rt.alloc();
-    let trace = tagging(alloc)?;
-    let pieces = three_frames_in_parts(alloc)?;
+    let trace = tagging(rt.alloc())?;
+    let pieces = in_parts(rt.alloc())?;
     let settings = applied_first(1, 2);
-    let mut written = Vec::new(alloc);
-    run_pieces(
-        &rt,
-        alloc,
-        trace.as_bytes(),
-        &pieces,
-        &settings,
-        &mut written,
-    )?;
+    let mut written = Vec::new(rt.alloc());
+    let text = trace.as_bytes();
+    run_pieces(&rt, rt.alloc(), text, &pieces, &settings, &mut written)?;
     same!(rt; written.as_slice(), LINES.as_bytes());
-    let (mut shown, mut line) = (Vec::new(alloc), Vec::new(alloc));
-    run_pieces_shown(
-        &rt,
-        trace.as_bytes(),
-        &pieces,
-        &settings,
-        &mut shown,
-        &mut line,
-    )?;
-    same!(rt; shown.as_slice(), LINES.as_bytes());
     Ok(())
 }
 
 #[test]
-fn listed_frames_are_not_run_by_wrong_settings_or_a_bad_trace(rt: HostRuntime) -> Result<(), Fail> {
+fn what_is_shown_has_the_same_lines(rt: HostRuntime) -> Result<(), Fail> {
+    let trace = tagging(rt.alloc())?;
+    let (file, pieces) = (file(rt.alloc())?, in_parts(rt.alloc())?);
+    let settings = applied_first(3, 2);
+    let (mut shown, mut err) = (Vec::new(rt.alloc()), Vec::new(rt.alloc()));
+    let text = trace.as_bytes();
+    run_over_shown(&rt, text, &file, &settings, &mut shown, &mut err)?;
+    run_frames_shown(&rt, text, &FRAMES, &settings, &mut shown, &mut err)?;
+    run_pieces_shown(&rt, text, &pieces, &settings, &mut shown, &mut err)?;
+    let wanted = format!(in rt.alloc(); "{LINES}{LINES}{LINES}")?;
+    same!(rt; shown.as_slice(), wanted.as_bytes());
+    Ok(())
+}
+
+#[test]
+fn a_writer_that_fails_at_any_byte_has_a_front_of_the_lines(rt: HostRuntime) -> Result<(), Fail> {
+    let trace = tagging(rt.alloc())?;
+    let file = file(rt.alloc())?;
+    let settings = applied_first(1, 2);
+    for room in 0..LINES.len() {
+        for fails in [false, true] {
+            let mut sink = Sink::new(rt.alloc(), 10, room, fails);
+            let text = trace.as_bytes();
+            let done = run_over(&rt, rt.alloc(), text, &file, &settings, &mut sink);
+            same!(rt; (done, sink.bytes.as_slice()), (Err(RunFault::Write), &LINES.as_bytes()[..room]));
+        }
+    }
+    Ok(())
+}
+
+/// Settings, a trace and a capture, and the first fault of these.
+const REFUSED: [(u16, u32, &[u8], &[u8], RunFault); 8] = [
+    (0, 1, b"", &HEADER, RunFault::Settings),
+    (17, 1, b"f 1 00\n", &[], RunFault::Settings),
+    (1, 0, b"", &HEADER, RunFault::Settings),
+    (1, 65_537, b"", &HEADER, RunFault::Settings),
+    (u16::MAX, u32::MAX, b"", &HEADER, RunFault::Settings),
+    (
+        1,
+        65_536,
+        b"# a\nf 1 00\nx\n",
+        &HEADER,
+        RunFault::BadTrace(2),
+    ),
+    (16, 65_536, b"# a\n\nx", &[], RunFault::BadTrace(3)),
+    (1, 1, b"", &[], RunFault::Capture(CaptureFault::Magic)),
+];
+
+#[test]
+fn the_first_fault_is_told_and_nothing_written(rt: HostRuntime) {
+    for (lanes, batch, trace, file, fault) in REFUSED {
+        let mut written = Vec::new(rt.alloc());
+        let settings = applied_first(lanes, batch);
+        let done = run_over(&rt, rt.alloc(), trace, file, &settings, &mut written);
+        same!(rt; (done, written.len()), (Err(fault), 0), "{lanes} lanes, batches of {batch}");
+    }
     for (lanes, trace, fault) in [
-        (17, "f 1 00\n", RunFault::Settings),
-        (1, "# a\nf 1 00\n", RunFault::BadTrace(2)),
+        (17, &b"f 1 00\n"[..], RunFault::Settings),
+        (1, b"# a\nf 1 00\n", RunFault::BadTrace(2)),
     ] {
         let mut written = Vec::new(rt.alloc());
         let settings = applied_first(lanes, 2);
-        same!(rt;
-            run_frames(
-                &rt,
-                rt.alloc(),
-                trace.as_bytes(),
-                &[&UNTAGGED[..]],
-                &settings,
-                &mut written
-            ),
-            Err(fault),
-            "{trace}"
-        );
-        same!(rt; written.len(), 0);
+        let done = run_frames(&rt, rt.alloc(), trace, &FRAMES, &settings, &mut written);
+        same!(rt; (done, written.len()), (Err(fault), 0), "{lanes} lanes");
     }
-    Ok(())
+}
+
+/// Faults, with what is said of each, its number and its status.
+const FAULTS: [(RunFault, &str, u8, u8); 11] = [
+    (RunFault::Settings, "wrong settings\n", 1, 1),
+    (RunFault::BadTrace(5), "trace line 5 is bad\n", 2, 2),
+    (
+        RunFault::Capture(CaptureFault::Magic),
+        "capture fault 1\n",
+        3,
+        2,
+    ),
+    (
+        RunFault::Capture(CaptureFault::Header),
+        "capture fault 2\n",
+        3,
+        2,
+    ),
+    (
+        RunFault::Capture(CaptureFault::Link(113)),
+        "capture fault 3 at 113\n",
+        3,
+        2,
+    ),
+    (
+        RunFault::Capture(CaptureFault::Torn(4_294_967_295)),
+        "capture fault 4 at 4294967295\n",
+        3,
+        2,
+    ),
+    (
+        RunFault::Capture(CaptureFault::TooLong(0)),
+        "capture fault 5 at 0\n",
+        3,
+        2,
+    ),
+    (RunFault::NoMemory, "no memory\n", 4, 1),
+    (RunFault::Refused, "refused\n", 5, 1),
+    (RunFault::CountFull, "counters are full\n", 6, 1),
+    (RunFault::Write, "write failed\n", 7, 1),
+];
+
+/// Compares a report, to writers that take so many bytes.
+fn compare_reports(
+    rt: &impl Abort,
+    alloc: Global,
+    outcome: &Result<(), RunFault>,
+    words: &str,
+    status: u8,
+) {
+    for room in 0..=words.len() {
+        let mut sink = Sink::new(alloc, 100, room, true);
+        let told = report_run(outcome, &mut sink);
+        same!(rt; (told, sink.bytes.as_slice()), (status, &words.as_bytes()[..room]));
+    }
+}
+
+#[test]
+fn a_report_has_the_words_and_the_status(rt: HostRuntime) {
+    compare_reports(&rt, rt.alloc(), &Ok(()), "", 0);
+    for (fault, words, number, status) in FAULTS {
+        same!(rt; (fault.code(), fault.status()), (number, status), "{words}");
+        compare_reports(&rt, rt.alloc(), &Err(fault), words, status);
+    }
 }

@@ -37,31 +37,23 @@ fn told(alloc: Global, applied: &Applied) -> Result<Told, AllocError> {
 }
 
 #[test]
-fn a_script_is_carried_out_up_to_a_line(rt: HostRuntime) -> Result<(), Fail> {
+fn a_script_is_carried_out_up_to_a_line_and_refused_by_its_first_bad_one(
+    rt: HostRuntime,
+) -> Result<(), Fail> {
     let script = script(rt.alloc())?;
     // The device identifier is fault 4, and an instance that exists result 7.
     for (until, accepted, faulty, refused) in [
-        (Some(6), &[1, 6][..], &[(4, 4)][..], &[(3, 7)][..]),
-        (Some(2), &[1][..], &[][..], &[][..]),
-        (Some(0), &[][..], &[][..], &[][..]),
+        (6, &[1, 6][..], &[(4, 4)][..], &[(3, 7)][..]),
+        (2, &[1][..], &[][..], &[][..]),
+        (0, &[][..], &[][..], &[][..]),
     ] {
-        let applied = apply_script(rt.alloc(), script.as_bytes(), until)?;
+        let applied = apply_script(rt.alloc(), script.as_bytes(), Some(until))?;
         let (lines, faults, refusals) = told(rt.alloc(), &applied)?;
-        same!(rt; lines.as_slice(), accepted, "{until:?}");
-        same!(rt; faults.as_slice(), faulty, "{until:?}");
-        same!(rt; refusals.as_slice(), refused, "{until:?}");
+        same!(rt; (lines.as_slice(), faults.as_slice(), refusals.as_slice()), (accepted, faulty, refused));
     }
-    Ok(())
-}
-
-#[test]
-fn a_script_is_refused_by_its_first_bad_line(rt: HostRuntime) -> Result<(), Fail> {
-    let script = script(rt.alloc())?;
     for until in [None, Some(7)] {
-        match apply_script(rt.alloc(), script.as_bytes(), until) {
-            Ok(_) => return Err(Fail::from("it is carried out")),
-            Err(fault) => same!(rt; fault, ScriptFault::BadLine(7), "{until:?}"),
-        }
+        let fault = apply_script(rt.alloc(), script.as_bytes(), until).err();
+        same!(rt; fault, Some(ScriptFault::BadLine(7)), "{until:?}");
     }
     Ok(())
 }

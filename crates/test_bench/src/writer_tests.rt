@@ -1,0 +1,146 @@
+//! Writers that fail, or take no more, of frames that are forwarded and of histories.
+use bench_capture::FrameReader;
+use bench_forward::{ForwardFault, Forwarded, Outputs, forward_frames};
+use bench_record::{RecordedEvent, TimedEvent, write_history};
+use forward_plan::Live;
+use omci_msg::read;
+use std::alloc::{AllocError, Global};
+use std::io::Write;
+use std::process::Abort;
+use test_draws::{PORT_257, message};
+use test_fixtures::{Sink, same};
+use text_writing::WriteFault;
+
+/// A classic capture of a frame without a tag, one that ends within its type, and the first again.
+const THREE: [u8; 117] = [
+    0x4d, 0x3c, 0xb2, 0xa1, 2, 0, 4, 0, 0, 0, 0, 0, 0, 0, 0, 0, 0, 0, 4, 0, 1, 0, 0, 0, 0, 0, 0, 0,
+    0, 0, 0, 0, 16, 0, 0, 0, 16, 0, 0, 0, 2, 0, 0, 0, 0, 1, 2, 0, 0, 0, 0, 2, 8, 0, 0x45, 0, 0, 0,
+    0, 0, 0, 0, 0, 0, 13, 0, 0, 0, 13, 0, 0, 0, 2, 0, 0, 0, 0, 1, 2, 0, 0, 0, 0, 2, 8, 0, 0, 0, 0,
+    0, 0, 0, 0, 16, 0, 0, 0, 16, 0, 0, 0, 2, 0, 0, 0, 0, 1, 2, 0, 0, 0, 0, 2, 8, 0, 0x45, 0,
+];
+
+/// What is written of them: a section header, the interface `gem 1024`, and a packet with a tag of VLAN 100.
+const FRONT: [u8; 124] = [
+    0x0a, 0x0d, 0x0d, 0x0a, 28, 0, 0, 0, 0x4d, 0x3c, 0x2b, 0x1a, 1, 0, 0, 0, 0xff, 0xff, 0xff,
+    0xff, 0xff, 0xff, 0xff, 0xff, 28, 0, 0, 0, 1, 0, 0, 0, 44, 0, 0, 0, 1, 0, 0, 0, 0, 0, 0, 0, 2,
+    0, 8, 0, b'g', b'e', b'm', b' ', b'1', b'0', b'2', b'4', 9, 0, 1, 0, 9, 0, 0, 0, 0, 0, 0, 0,
+    44, 0, 0, 0, 6, 0, 0, 0, 52, 0, 0, 0, 0, 0, 0, 0, 0, 0, 0, 0, 0, 0, 0, 0, 20, 0, 0, 0, 20, 0,
+    0, 0, 2, 0, 0, 0, 0, 1, 2, 0, 0, 0, 0, 2, 0x81, 0x00, 0x00, 0x64, 0x08, 0x00, 0x45, 0x00, 52,
+    0, 0, 0,
+];
+
+/// A unit that was sent the messages that make port 257.
+fn unit(alloc: Global) -> Result<Live, AllocError> {
+    let mut live = Live::new(alloc)?;
+    for digits in PORT_257 {
+        if let Ok(request) = read(&message(digits)) {
+            live.apply(&request);
+        }
+    }
+    Ok(live)
+}
+
+/// Forwards that capture, which comes in at port 257.
+fn forward_three<W: Write, V: Write>(
+    rt: &impl Abort,
+    alloc: Global,
+    outputs: &mut Outputs<W, V>,
+) -> Forwarded {
+    let live = unit(alloc).expect(rt, "a unit");
+    let mut frames = FrameReader::open(alloc, THREE.as_slice()).expect(rt, "a capture");
+    forward_frames(alloc, live.mib(), 257, &mut frames, outputs).expect(rt, "memory")
+}
+
+/// The bytes that a sink has taken.
+fn taken<'s>(rt: &impl Abort, sink: &'s Option<Sink>) -> &'s [u8] {
+    sink.as_ref().expect(rt, "a sink").bytes.as_slice()
+}
+
+/// Of the 176 bytes of the capture of the frames that leave, the writer takes 150, at most 7 at a time. So it fails in the third frame.
+#[test]
+fn a_writer_fails_in_the_third_frame(rt: HostRuntime) {
+    let mut outputs = Outputs {
+        packets: Some(Sink::new(rt.alloc(), 7, 150, true)),
+        verdicts: Some(Sink::new(rt.alloc(), 5, 100, true)),
+    };
+    let forwarded = forward_three(&rt, rt.alloc(), &mut outputs);
+    same!(&rt; forwarded.ended, Err(ForwardFault::Write));
+    same!(&rt; forwarded.totals.frames(), 2);
+    same!(&rt; forwarded.totals.bytes(), 20);
+    same!(&rt; forwarded.totals.leaving_by(1024), 1);
+    same!(&rt; forwarded.totals.leaving_by(65_535), 0);
+    let packets = taken(&rt, &outputs.packets);
+    same!(&rt; packets.len(), 150);
+    same!(&rt; packets.get(..124), Some(FRONT.as_slice()));
+    same!(&rt; packets.get(124..), FRONT.get(72..98));
+    same!(&rt; taken(&rt, &outputs.verdicts), b"1 g 1024 entry 0\n2 d 1\n".as_slice());
+}
+
+/// The first line takes 17 bytes. No byte of the header of packets is taken.
+#[test]
+fn a_writer_of_lines_takes_no_more_and_one_of_packets_nothing(rt: HostRuntime) {
+    let mut outputs: Outputs<Sink, Sink> = Outputs {
+        packets: None,
+        verdicts: Some(Sink::new(rt.alloc(), 5, 19, false)),
+    };
+    let forwarded = forward_three(&rt, rt.alloc(), &mut outputs);
+    same!(&rt; forwarded.ended, Err(ForwardFault::Write));
+    same!(&rt; forwarded.totals.frames(), 1);
+    same!(&rt; taken(&rt, &outputs.verdicts), b"1 g 1024 entry 0\n2 ".as_slice());
+    let mut outputs: Outputs<Sink, Sink> = Outputs {
+        packets: Some(Sink::new(rt.alloc(), 7, 0, true)),
+        verdicts: None,
+    };
+    let forwarded = forward_three(&rt, rt.alloc(), &mut outputs);
+    same!(&rt; forwarded.ended, Err(ForwardFault::Write));
+    same!(&rt; forwarded.totals.frames(), 0);
+}
+
+/// An event of each kind.
+const EACH: [TimedEvent<'static>; 6] = [
+    TimedEvent {
+        time: 0,
+        event: RecordedEvent::Sent {
+            message: &[0x00, 0xff],
+        },
+    },
+    TimedEvent {
+        time: 1,
+        event: RecordedEvent::Replied { reply: &[0x1a] },
+    },
+    TimedEvent {
+        time: 2,
+        event: RecordedEvent::Waited { replies: u32::MAX },
+    },
+    TimedEvent {
+        time: 3,
+        event: RecordedEvent::Entered {
+            port: 65535,
+            frame: &[],
+        },
+    },
+    TimedEvent {
+        time: 4,
+        event: RecordedEvent::Left {
+            gem: 7,
+            number: u32::MAX,
+            frame: &[0xc0, 0x0b],
+        },
+    },
+    TimedEvent {
+        time: 5,
+        event: RecordedEvent::Dropped { number: 0 },
+    },
+];
+
+const EACH_TEXT: &[u8] = b"o 00ff\nr 1a\nw 4294967295\nf 65535 \ng 4294967295 7 c00b\nd 0\n";
+
+#[test]
+fn each_event_has_a_line_and_a_write_that_fails_ends_them(rt: HostRuntime) {
+    let mut sink = Sink::new(rt.alloc(), 3, 1_000, true);
+    same!(rt; write_history(&EACH, &mut sink), Ok(()));
+    same!(rt; sink.bytes.as_slice(), EACH_TEXT);
+    let mut sink = Sink::new(rt.alloc(), 3, 20, true);
+    same!(rt; write_history(&EACH, &mut sink), Err(WriteFault));
+    same!(rt; sink.bytes.as_slice(), &EACH_TEXT[..20]);
+}

@@ -1,0 +1,240 @@
+"""A plain judge of histories, to compare the program's with, by docs/FORMATS.md ("Histories", "Judgements") alone. It looks at each front of
+a history by itself, tries each version at each frame, and takes the frames of a port one after the other. What a unit replies, and what
+becomes of a frame by each version, it asks of a model that it is given."""
+import re
+
+HEX = rb"((?:[0-9A-Fa-f]{2})*)"
+LINES = {kind: re.compile(pattern) for kind, pattern in (
+    ("o", rb"o " + HEX), ("r", rb"r " + HEX), ("f", rb"f ([0-9]{1,5}) " + HEX), ("g", rb"g ([0-9]{1,10}) ([0-9]{1,5}) " + HEX),
+    ("d", rb"d ([0-9]{1,10})"), ("w", rb"w(?: ([0-9]{1,10}))?"))}
+MOST = {"f": [65535], "g": [4294967295, 65535], "d": [4294967295], "w": [4294967295]}
+MODELLED_ACTIONS = (4, 6, 8, 9, 26)
+MODELLED_CLASSES = (130, 171, 266, 268)
+
+
+class BadLine(Exception):
+    """A line of a history is bad, the number of which is the argument."""
+
+
+def lines_of(text):
+    """The lines of a text. A last piece without its line feed is one if it isn't empty."""
+    lines = text.split(b"\n")
+    return lines if lines[-1] else lines[:-1]
+
+
+def event_of(line):
+    """What a line says by itself, or None where it is bad: a letter and what follows it; and "" where it says nothing."""
+    if len(line) > 20000:
+        return None
+    line = line[:-1] if line.endswith(b"\r") else line
+    if not line or line.startswith(b"#"):
+        return ("",)
+    kind = line[:1].decode("latin-1")
+    found = LINES[kind].fullmatch(line) if kind in LINES else None
+    if not found:
+        return None
+    if kind in "or":
+        return kind, bytes.fromhex(found[1].decode())
+    *numbers, data = found.groups() if kind in "fg" else (*found.groups(), None)
+    numbers = [digits and int(digits) for digits in numbers]
+    if any(value and value > most for value, most in zip(numbers, MOST[kind])):
+        return None
+    return (kind, *numbers) if data is None else (kind, *numbers, bytes.fromhex(data.decode()))
+
+
+def read_history(text):
+    """The events of a history, one for each line."""
+    events, frames, replies, ended = [], 0, 0, set()
+    for number, line in enumerate(lines_of(text), 1):
+        event = event_of(line)
+        if event is None:
+            raise BadLine(number)
+        frames += event[0] == "f"
+        replies += event[0] == "r"
+        if event[0] in ("g", "d"):
+            if event[1] >= frames or event[1] in ended:
+                raise BadLine(number)
+            ended.add(event[1])
+        if event[0] == "w" and event[1] is not None and event[1] > replies:
+            raise BadLine(number)
+        events.append(event)
+    return events
+
+
+class Frame:
+    """A frame that was sent into a port, and the place of the event that ended it, if one did."""
+
+    def __init__(self, number, place, port, data):
+        self.number, self.sent, self.port, self.data, self.place = number, place, port, data, None
+
+
+class Shown:
+    """What a history shows. A model gives of messages and frames what each message is answered, as (reply, wants an answer, is accepted) or
+    None where it has a fault, and of each frame its fate by each version: (GEM port, bytes), or the reason of its drop."""
+
+    def __init__(self, events, model, modelled, unordered):
+        self.events, self.modelled, self.unordered = events, modelled, unordered
+        self.frames = []
+        for place, event in enumerate(events):
+            if event[0] == "f":
+                self.frames.append(Frame(len(self.frames), place, event[1], event[2]))
+            elif event[0] in ("g", "d"):
+                self.frames[event[1]].place = place
+        sent = [(place, event[1]) for place, event in enumerate(events) if event[0] == "o"]
+        answers, self.fates = model([data for _, data in sent], [(frame.port, frame.data) for frame in self.frames])
+        self.asked = [(place, data, *answer) for (place, data), answer in zip(sent, answers) if answer is not None]
+        self.waiting = [asked for asked in self.asked if asked[3]]
+        self.ended = [frame for frame in self.frames if frame.place is not None]
+        for frame in self.ended:
+            frame.least, frame.most = self.least_at(frame.sent), self.accepted_before(frame.place)
+            frame.fitting = [version for version in range(frame.least, frame.most + 1) if self.is_seen(frame, version)]
+
+    def accepted_before(self, place):
+        return sum(1 for asked in self.asked if asked[4] and asked[0] < place)
+
+    def count_before(self, kind, place):
+        return sum(1 for event in self.events[:place] if event[0] == kind)
+
+    def least_at(self, place):
+        """The least version of a frame that is sent at a place."""
+        most = 0
+        for before in range(place):
+            if self.events[before][0] == "w":
+                number = self.events[before][1]
+                most = max(most, self.count_before("r", before) if number is None else number)
+        return self.accepted_before(self.waiting[most - 1][0] + 1) if 0 < most <= len(self.waiting) else 0
+
+    def is_seen(self, frame, version):
+        """Whether a frame ended as by a version."""
+        event, fate = self.events[frame.place], self.fates[frame.number][version]
+        return not isinstance(fate, tuple) if event[0] == "d" else fate == (event[2], event[3])
+
+    def request_before(self, place):
+        """The request that a reply at a place answers, if one waits."""
+        number = self.count_before("r", place)
+        return self.waiting[number] if number < len(self.waiting) and self.waiting[number][0] < place else None
+
+    def is_right_reply(self, place):
+        request, seen = self.request_before(place), self.events[place][1]
+        if request is None or len(seen) not in (44, 48):
+            return False
+        _, asked, reply, _, _ = request
+        action, entity = asked[2] & 31, int.from_bytes(asked[4:6], "big")
+        whole = not self.modelled or action == 15 or action in MODELLED_ACTIONS and entity in MODELLED_CLASSES
+        compared = 40 if whole else 8
+        return seen[:compared] == reply[:compared]
+
+    def least_versions(self, front):
+        """The least version of each frame that ended before a place, or None where one has none."""
+        chosen = []
+        for frame in self.ended:
+            if frame.place < front:
+                bound = max((version for port, version in chosen if port == frame.port and not self.unordered), default=0)
+                version = next((version for version in frame.fitting if version >= bound), None)
+                if version is None:
+                    return None
+                chosen.append((frame.port, version))
+        return chosen
+
+    def bounds(self, frame):
+        """The least and the greatest version that the frames which ended before a frame leave to it."""
+        if self.unordered:
+            return frame.least, frame.most
+        before = [other for other in self.ended if other.place < frame.place and other.port == frame.port]
+        least = 0
+        for other in before:
+            if other.number < frame.number:
+                least = min(version for version in other.fitting if version >= least)
+        most = len(self.asked)
+        for other in reversed(before):
+            if other.number > frame.number:
+                most = max(version for version in other.fitting if version <= most)
+        return max(frame.least, least), min(frame.most, most)
+
+    def runs(self, frame, least, most):
+        """The versions from one to another, joined where they do the same to a frame."""
+        found = []
+        for version in range(least, most + 1):
+            fate = self.fates[frame.number][version]
+            does = {"gem": fate[0], "frame": fate[1].hex()} if isinstance(fate, tuple) else {"reason": fate}
+            if found and {key: found[-1][key] for key in found[-1] if key not in ("from", "to")} == does:
+                found[-1]["to"] = version
+            else:
+                found.append({"from": version, "to": version, **does})
+        return found
+
+    def explained(self, chosen):
+        events, steps, last = self.events, [], {}
+        for (port, version), frame in zip(chosen, self.ended):
+            if version > last.get(port, 0):
+                steps.append({"port": port, "version": version, "frame": frame.number, "line": frame.sent + 1})
+            last[port] = version
+        counts = {kind: self.count_before(kind, len(events)) for kind in "orfgd"}
+        frames = {"forwarded": counts["g"], "dropped": counts["d"], "open": counts["f"] - counts["g"] - counts["d"]}
+        return {"format": 1, "explained": True, "messages": counts["o"], "accepted": self.accepted_before(len(events)),
+                "replies": counts["r"], "frames": frames, "versions": [] if self.unordered else steps}
+
+    def wrong_reply(self, place):
+        request = self.request_before(place)
+        return {"reply": {"request_line": request and request[0] + 1, "seen": self.events[place][1].hex(),
+                          "model": request and request[2].hex()}}
+
+    def wrong_frame(self, frame):
+        event, (least, most) = self.events[frame.place], self.bounds(frame)
+        seen = "dropped" if event[0] == "d" else {"gem": event[2], "frame": event[3].hex()}
+        return {"frame": {"number": frame.number, "port": frame.port, "sent_line": frame.sent + 1, "seen": seen, "at_least": least,
+                          "at_most": most, "versions": self.runs(frame, least, most)}}
+
+    def judge(self):
+        """What is found, as `judge --json` writes it."""
+        for place, event in enumerate(self.events):
+            front = {"format": 1, "explained": False, "line": place + 1}
+            if event[0] == "r" and not self.is_right_reply(place):
+                return {**front, **self.wrong_reply(place)}
+            if event[0] in ("g", "d") and self.least_versions(place + 1) is None:
+                return {**front, **self.wrong_frame(self.frames[event[1]])}
+        return self.explained(self.least_versions(len(self.events)))
+
+
+def judge(text, model, modelled=False, unordered=False):
+    """What is found of a history, as `judge --json` writes it. Raises BadLine."""
+    return Shown(read_history(text), model, modelled, unordered).judge()
+
+
+def end_of(found):
+    """How a frame left or was dropped, in a line."""
+    return f"d {found['reason']}" if "reason" in found else f"g {found['gem']} {found['frame']}"
+
+
+def lines_of_frame(frame):
+    seen = frame["seen"]
+    yield f"frame {frame['number']}, sent into port {frame['port']} at line {frame['sent_line']}"
+    yield "seen d" if seen == "dropped" else f"seen g {seen['gem']} {seen['frame']}"
+    for run in frame["versions"]:
+        first, last = run["from"], run["to"]
+        yield (f"version {first} " if first == last else f"versions {first} to {last} ") + end_of(run)
+    if not frame["versions"]:
+        least, most = frame["at_least"], frame["at_most"]
+        yield f"no version is left: at least {least} by frames before it or by what was waited for, at most {most}"
+
+
+def in_words(found):
+    """The lines that `judge` writes of what is found."""
+    if found["explained"]:
+        frames = found["frames"]
+        yield f"messages {found['messages']} accepted {found['accepted']} replies {found['replies']}"
+        yield (f"frames {sum(frames.values())} forwarded {frames['forwarded']} dropped {frames['dropped']} open {frames['open']}")
+        for step in found["versions"]:
+            yield f"port {step['port']} version {step['version']} from frame {step['frame']} line {step['line']}"
+        yield "explained"
+        return
+    yield f"deviation at line {found['line']}"
+    if "frame" in found:
+        yield from lines_of_frame(found["frame"])
+        return
+    reply = found["reply"]
+    asked = reply["request_line"]
+    yield "a reply, and no request waits for one" if asked is None else f"reply to the request at line {asked}"
+    yield f"seen r {reply['seen']}"
+    if asked is not None:
+        yield f"model r {reply['model']}"
