@@ -17,7 +17,7 @@ const NANOSECONDS_MAGIC: u32 = 0xa1b2_3c4d;
 const SECOND: u64 = 1_000_000_000;
 
 /// How far the records of a file are read.
-#[derive(Clone, Copy, Debug)]
+#[derive(Clone, Copy)]
 pub(crate) struct Records {
     /// The byte order of the file.
     pub(crate) order: Order,

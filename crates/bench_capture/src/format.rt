@@ -15,7 +15,7 @@ use std::alloc::Global;
 const MOST_RECORD: usize = 16 + 262_144;
 
 /// What is known of a capture between two records or blocks.
-#[derive(Debug, Drop)]
+#[derive(Drop)]
 pub(crate) enum Format {
     /// It is in the classic format.
     Classic(Records),

@@ -8,7 +8,7 @@ use std::alloc::Global;
 use std::marker::Model;
 
 /// A capture file in either format, read up to behind a frame. Contracts see what is left of it: its frames, and its first fault.
-#[derive(Debug, Drop)]
+#[derive(Drop)]
 pub struct Frames<'a> {
     format: Format,
     rest: &'a [u8],

@@ -7,7 +7,7 @@ use crate::span::{Gap, Span, Taken};
 use bench_pcapng::{Block, Blocks, Passing, Past, PcapngFault};
 
 /// How far the blocks of a file are read: between two, or within one that is passed over.
-#[derive(Debug, Drop)]
+#[derive(Drop)]
 pub(crate) struct Pieces {
     pub(crate) blocks: Blocks,
     pub(crate) passing: Option<Passing>,

@@ -3,7 +3,7 @@
 use std::marker::Model;
 
 /// A frame as a capture has it. Its bytes are a slice of the file, or of the buffer that holds a piece of it.
-#[derive(Debug, Drop)]
+#[derive(Drop)]
 pub struct RecordedFrame<'a> {
     time: u64,
     original: u32,

@@ -5,7 +5,7 @@ ghost use Rattle.bench_capture.specs.Formats.{IsWithin, recorded_at};
 use crate::recorded::RecordedFrame;
 
 /// A frame, by where its bytes stand.
-#[derive(Clone, Copy, Debug)]
+#[derive(Clone, Copy)]
 pub(crate) struct Span {
     /// Its time, in nanoseconds since the epoch.
     pub(crate) time: u64,
@@ -18,7 +18,7 @@ pub(crate) struct Span {
 }
 
 /// The front of some bytes: a record or a block.
-#[derive(Clone, Copy, Debug)]
+#[derive(Clone, Copy)]
 pub(crate) struct Taken {
     /// How many bytes it has.
     pub(crate) length: usize,
@@ -27,7 +27,7 @@ pub(crate) struct Taken {
 }
 
 /// Bytes that are let go.
-#[derive(Clone, Copy, Debug)]
+#[derive(Clone, Copy)]
 pub(crate) struct Gap {
     /// How many bytes stand in front of them, and are kept.
     pub(crate) start: usize,

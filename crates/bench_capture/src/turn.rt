@@ -11,7 +11,7 @@ use crate::window::Window;
 use std::io::ErrorKind;
 
 /// What a turn came to.
-#[derive(Clone, Copy, Debug)]
+#[derive(Clone, Copy)]
 pub(crate) enum Turn {
     /// A frame, which is a part of the window's buffer.
     Frame(Span),

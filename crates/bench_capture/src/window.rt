@@ -11,7 +11,7 @@ use std::io::{ErrorKind, Read};
 const ROOM: usize = 512 * 1024;
 
 /// A buffer of 524,288 bytes, of which those from the start to the end are held.
-#[derive(Debug, Drop)]
+#[derive(Drop)]
 pub(crate) struct Window {
     pub(crate) bytes: Vec<u8>,
     pub(crate) start: usize,

@@ -6,7 +6,7 @@ ghost use Rattle.bench_forward.specs.Dropped.{numbers_of};
 const NAMED: usize = 10;
 
 /// How many frames are dropped for a reason, and the numbers of the first ten.
-#[derive(Clone, Copy, Debug)]
+#[derive(Clone, Copy)]
 pub struct Dropped {
     pub(crate) frames: u64,
     // Those that there are, and zeros behind them.

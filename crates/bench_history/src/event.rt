@@ -2,7 +2,7 @@
 use crate::digits::Digits;
 
 /// What a line of a history says was seen.
-#[derive(Debug, Drop)]
+#[derive(Drop)]
 pub enum Event<'a> {
     /// A message was sent to the unit.
     Sent {

@@ -2,7 +2,7 @@
 ghost use Rattle.std.specs.Prelude.{◌≤◌, length};
 
 /// Bytes, and behind those that belong to the piece ahead of it whole lines of a text.
-#[derive(Debug, Drop)]
+#[derive(Drop)]
 pub(crate) struct Piece {
     pub(crate) bytes: Vec<u8>,
     /// Where its own bytes begin.

@@ -8,7 +8,7 @@ use std::alloc::{AllocError, Global};
 use std::marker::Model;
 
 /// A text in pieces, known by its bytes. It is nowhere as a whole, and each of its lines lies whole in one piece.
-#[derive(Debug, Drop)]
+#[derive(Drop)]
 pub struct Pieces {
     pieces: Vec<Piece>,
 }

@@ -7,7 +7,7 @@ use omci_msg::{Reply, Request};
 use std::alloc::{AllocError, Global};
 
 /// What is kept of a request that wants an answer.
-#[derive(Clone, Copy, Debug)]
+#[derive(Clone, Copy)]
 pub(crate) struct Due {
     /// The place of the event that sent it.
     pub(crate) sent: usize,

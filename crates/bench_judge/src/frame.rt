@@ -4,7 +4,7 @@ use bench_history::Event;
 use omci_msg::Request;
 
 /// What is kept of a frame that was sent. The frames of a history stand by their numbers.
-#[derive(Clone, Copy, Debug, PartialEq, Eq)]
+#[derive(Clone, Copy)]
 pub(crate) struct Frame {
     /// The place of the event that sent it.
     pub(crate) sent: usize,

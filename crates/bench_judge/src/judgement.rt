@@ -8,7 +8,7 @@ use tag_view::Tag;
 
 /// What is found of a history. Lines are numbered from 1, frames from 0 in the order in which they were sent, and a version is a number
 /// of accepted requests.
-#[derive(Debug, Drop)]
+#[derive(Drop)]
 pub enum Judgement<'a> {
     /// A right unit may have behaved so.
     Explained(Explanation),
@@ -17,7 +17,7 @@ pub enum Judgement<'a> {
 }
 
 /// What an explained history shows.
-#[derive(Debug, Drop)]
+#[derive(Drop)]
 pub struct Explanation {
     pub counts: Counts,
     /// Where the least versions of the frames of a port grow, in the order of frames; none where each frame is judged by itself.
@@ -25,7 +25,7 @@ pub struct Explanation {
 }
 
 /// How much a history has of what.
-#[derive(Clone, Copy, Debug, PartialEq, Eq)]
+#[derive(Clone, Copy)]
 pub struct Counts {
     /// Messages that were sent.
     pub messages: usize,
@@ -42,7 +42,7 @@ pub struct Counts {
 }
 
 /// A frame whose least version is greater than that of all ended frames before it at its port.
-#[derive(Clone, Copy, Debug, PartialEq, Eq)]
+#[derive(Clone, Copy)]
 pub struct Step {
     pub port: u16,
     pub version: usize,
@@ -53,7 +53,7 @@ pub struct Step {
 }
 
 /// The first line that no right unit explains, with all lines before it.
-#[derive(Debug, Drop)]
+#[derive(Drop)]
 pub struct Deviation<'a> {
     pub line: usize,
     pub wrong: Wrong<'a>,

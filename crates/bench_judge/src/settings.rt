@@ -1,7 +1,7 @@
 //! What a history is judged by.
 
 /// What a history is judged by.
-#[derive(Clone, Copy, Debug, PartialEq, Eq)]
+#[derive(Clone, Copy)]
 pub struct JudgeSettings {
     /// The contents of a reply are looked at only where its request is a MIB reset, or a Create, Delete, Set, Get or Get next on class
     /// 130, 171, 266 or 268. A real unit has more classes than the model, and so other syncs and other rows.

@@ -22,7 +22,7 @@ pub(crate) struct Walk {
 }
 
 /// A request that waits for its reply.
-#[derive(Clone, Debug, Drop)]
+#[derive(Clone, Drop)]
 pub(crate) struct Awaited {
     /// The place of the event that sent it.
     pub(crate) sent: usize,

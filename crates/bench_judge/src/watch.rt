@@ -1,7 +1,7 @@
 //! Who is told how far a judgement is.
 
 /// How far a judgement is.
-#[derive(Clone, Copy, Debug, PartialEq, Eq)]
+#[derive(Clone, Copy)]
 pub enum Stage {
     /// The history was read: so many lines.
     Read { lines: usize },

@@ -17,7 +17,7 @@ use std::alloc::Global;
 use std::marker::Model;
 
 /// A packet, and where its bytes stand.
-#[derive(Debug, Drop)]
+#[derive(Drop)]
 pub struct Located<'a> {
     /// The packet.
     pub packet: Packet<'a>,
@@ -26,7 +26,7 @@ pub struct Located<'a> {
 }
 
 /// A block that was read.
-#[derive(Debug, Drop)]
+#[derive(Drop)]
 pub struct Block<'a> {
     /// How many bytes it has.
     pub length: usize,
@@ -36,7 +36,7 @@ pub struct Block<'a> {
 
 /// What is known between two blocks of a capture: the byte order and the interfaces of the section, the time of the packet before,
 /// and how many blocks were read.
-#[derive(Debug, Drop)]
+#[derive(Drop)]
 pub struct Blocks {
     pub(crate) order: Order,
     pub(crate) interfaces: Vec<Interface>,

@@ -23,7 +23,7 @@ pub(crate) const SIMPLE_PACKET: u32 = 3;
 const ENHANCED_PACKET: u32 = 6;
 
 /// What a block does.
-#[derive(Debug, Drop)]
+#[derive(Drop)]
 pub(crate) enum Effect<'a> {
     /// It begins a section, which is written in this order.
     Section(Order),

@@ -12,7 +12,7 @@ const DESCRIPTION_LEN: usize = 8;
 const MICROSECONDS: u8 = 6;
 
 /// What is kept of an interface.
-#[derive(Clone, Copy, Debug, Drop)]
+#[derive(Clone, Copy, Drop)]
 pub(crate) struct Interface {
     /// The link type, 1 of Ethernet.
     pub(crate) link: u16,

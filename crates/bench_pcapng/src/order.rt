@@ -3,7 +3,7 @@
 use byteorder::{BigEndian, ByteOrder, LittleEndian};
 
 /// The writer's byte order, which all numbers of a section have.
-#[derive(Clone, Copy, Debug)]
+#[derive(Clone, Copy)]
 pub(crate) enum Order {
     /// The highest byte comes first.
     HighFirst,

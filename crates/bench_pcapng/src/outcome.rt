@@ -9,7 +9,7 @@ use crate::order::Order;
 use crate::packet::Packet;
 
 /// A packet whose bytes are kept until the end of its block was seen.
-#[derive(Clone, Copy, Debug)]
+#[derive(Clone, Copy)]
 pub(crate) struct Kept {
     /// The number of its interface in the section.
     pub(crate) interface: u32,
@@ -22,7 +22,7 @@ pub(crate) struct Kept {
 }
 
 /// What a block does once its end was seen, as far as its bytes showed that.
-#[derive(Clone, Copy, Debug)]
+#[derive(Clone, Copy)]
 pub(crate) enum Outcome {
     /// It begins a section, which is written in this order.
     Begins(Order),

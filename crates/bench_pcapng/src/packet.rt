@@ -3,7 +3,7 @@
 use std::marker::Model;
 
 /// A packet of an Ethernet interface. Its bytes are a slice of the file.
-#[derive(Debug, Drop)]
+#[derive(Drop)]
 pub struct Packet<'a> {
     interface: u32,
     time: u64,

@@ -28,7 +28,7 @@ const DESCRIPTION_START: usize = 16;
 const LENGTH_LEN: usize = 4;
 
 /// A block that is passed over.
-#[derive(Clone, Copy, Debug)]
+#[derive(Clone, Copy)]
 pub struct Passing {
     // Whether it is the first of the file.
     pub(crate) first: bool,
@@ -43,7 +43,7 @@ pub struct Passing {
 }
 
 /// Bytes of a block that are let go.
-#[derive(Clone, Copy, Debug)]
+#[derive(Clone, Copy)]
 pub struct Past {
     /// How many bytes stand in front of them, and are kept.
     pub start: usize,

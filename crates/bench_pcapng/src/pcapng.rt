@@ -20,7 +20,7 @@ pub fn is_pcapng(file: &[u8]) -> bool
 }
 
 /// A capture in the pcapng format, read up to behind a packet. Contracts see what is left of it: its packets, and its first fault.
-#[derive(Debug, Drop)]
+#[derive(Drop)]
 pub struct Pcapng<'a> {
     walk: Walk<'a>,
 }

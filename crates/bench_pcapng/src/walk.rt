@@ -5,7 +5,7 @@ use crate::fault::PcapngFault;
 use crate::packet::Packet;
 
 /// How far the blocks of a file are read.
-#[derive(Debug, Drop)]
+#[derive(Drop)]
 pub(crate) struct Walk<'a> {
     pub(crate) blocks: Blocks,
     // The bytes from the next block on.

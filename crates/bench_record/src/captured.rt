@@ -1,7 +1,7 @@
 //! Frames of captures.
 
 /// Where a capture was taken.
-#[derive(Clone, Copy, Debug, PartialEq, Eq)]
+#[derive(Clone, Copy)]
 pub enum Tap {
     /// On the management channel, in one direction or both.
     Omci,
@@ -12,7 +12,7 @@ pub enum Tap {
 }
 
 /// A frame of a capture.
-#[derive(Clone, Copy, Debug)]
+#[derive(Clone, Copy)]
 pub struct CapturedFrame<'a> {
     /// When it was seen, in nanoseconds. All captures have one clock.
     pub time: u64,

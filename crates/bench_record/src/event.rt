@@ -4,7 +4,7 @@ ghost use Rattle.bench_record.specs.Moments.{moment_of, rank_of};
 ghost use Rattle.bench_record.specs.Text.{event_shown, timed_shown};
 
 /// What a line of the history says. The bytes are slices of captured frames.
-#[derive(Clone, Copy, Debug)]
+#[derive(Clone, Copy)]
 pub enum RecordedEvent<'a> {
     /// A message was sent to the unit.
     Sent {
@@ -36,7 +36,7 @@ pub enum RecordedEvent<'a> {
 }
 
 /// An event and when it took place.
-#[derive(Clone, Copy, Debug)]
+#[derive(Clone, Copy)]
 pub struct TimedEvent<'a> {
     /// The time, in nanoseconds. A wait or a drop that would come behind what 64 bits hold comes at the greatest of these times.
     pub time: u64,

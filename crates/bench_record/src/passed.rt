@@ -1,7 +1,7 @@
 //! What was passed over.
 
 /// How many captured frames have no event in a history.
-#[derive(Clone, Copy, Debug, PartialEq, Eq)]
+#[derive(Clone, Copy)]
 pub struct Passed {
     /// Frames of the management channel that hold no message: their Ethertype isn't 0x88B5, or there are fewer than 44 bytes behind it.
     pub other: u64,

@@ -18,7 +18,7 @@ use crate::walk::Walk;
 use std::alloc::{AllocError, Global};
 
 /// The history that captures show.
-#[derive(Debug, Drop)]
+#[derive(Drop)]
 pub struct Recording<'a> {
     /// Its events, in order.
     pub events: Vec<TimedEvent<'a>>,

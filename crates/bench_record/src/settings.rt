@@ -1,7 +1,7 @@
 //! What a history is made by.
 
 /// What a history is made by, beside the captured frames.
-#[derive(Clone, Copy, Debug)]
+#[derive(Clone, Copy)]
 pub struct RecordSettings<'a> {
     /// The types that begin a tag beside 0x8100 and 0x88A8.
     pub tpids: &'a [u16],

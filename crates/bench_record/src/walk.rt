@@ -17,7 +17,7 @@ use std::alloc::{AllocError, Global};
 pub const LONGEST_FRAME: usize = 9_990;
 
 /// What is kept of a frame that was sent.
-#[derive(Clone, Copy, Debug)]
+#[derive(Clone, Copy)]
 pub(crate) struct KeptFrame {
     /// When it was sent.
     time: u64,

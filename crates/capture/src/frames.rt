@@ -5,7 +5,7 @@ use crate::record::split_record;
 use std::marker::Model;
 
 /// The frames that are left of a capture, in the order of the file. Each is a slice of the file.
-#[derive(Debug, Drop)]
+#[derive(Drop)]
 pub struct Frames<'a> {
     pub(crate) order: Order,
     pub(crate) records: &'a [u8],

@@ -11,7 +11,7 @@ use crate::record::split_record;
 use std::marker::Model;
 
 /// A capture of Ethernet frames, known by them: its records were walked once, so each is whole.
-#[derive(Debug, Drop)]
+#[derive(Drop)]
 pub struct Pcap<'a> {
     order: Order,
     records: &'a [u8],

@@ -8,7 +8,7 @@ use std::marker::Model;
 
 /// The frames of a capture in pieces, cut in order into batches of a size: the last may be shorter. Only where each batch begins is
 /// kept, some 32 bytes.
-#[derive(Debug, Drop)]
+#[derive(Drop)]
 pub struct Batches<'a> {
     order: Order,
     size: u32,

@@ -4,7 +4,7 @@
 pub const OVERLAP: usize = 262_160;
 
 /// A part of a file, and behind it the bytes that follow: as many as the longest record has, or all.
-#[derive(Debug, Drop)]
+#[derive(Drop)]
 pub(crate) struct Piece {
     /// The part, and what follows.
     pub(crate) bytes: Vec<u8>,

@@ -10,7 +10,7 @@ use std::alloc::{AllocError, Global};
 use std::marker::Model;
 
 /// A file in pieces, known by its bytes.
-#[derive(Debug, Drop)]
+#[derive(Drop)]
 pub struct Pieces {
     pub(crate) pieces: Vec<Piece>,
 }

@@ -5,7 +5,7 @@ use capture::{Order, RecordFault, split_record};
 use std::marker::Model;
 
 /// What is left of the records of a capture in pieces, known by its bytes. The next record begins in the first of the pieces.
-#[derive(Debug, Drop)]
+#[derive(Drop)]
 pub(crate) struct Records<'a> {
     pieces: &'a [Piece],
     // What is left of the first piece.

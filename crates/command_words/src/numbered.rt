@@ -4,7 +4,7 @@ ghost use Rattle.command_words.specs.Numbered.{IsNumberedFile};
 ghost use Rattle.command_words.specs.declared.numbered.NumberedFile.{NumberedFile};
 
 /// The number of a port, and the file with its frames.
-#[derive(Clone, Copy, Debug, PartialEq, Eq)]
+#[derive(Clone, Copy)]
 pub struct NumberedFile<'a> {
     /// The number of the port or GEM port.
     pub number: u16,

@@ -2,7 +2,7 @@
 use run_settings::RunSettings;
 
 /// What the words of the command line ask for. The names of files lie in the words.
-#[derive(Debug, Drop, PartialEq, Eq)]
+#[derive(Drop)]
 pub enum Words<'a> {
     /// A replay of the script on standard input.
     Replay(ReplayWords),
@@ -31,14 +31,14 @@ pub enum Words<'a> {
 }
 
 /// How `replay` is to answer.
-#[derive(Clone, Copy, Debug, PartialEq, Eq)]
+#[derive(Clone, Copy)]
 pub struct ReplayWords {
     /// Whether the answers are shown as JSON.
     pub json: bool,
 }
 
 /// How `decode` is to say what lines mean.
-#[derive(Clone, Copy, Debug, PartialEq, Eq)]
+#[derive(Clone, Copy)]
 pub struct DecodeWords {
     /// Whether it says them in the words that `encode` reads.
     pub source: bool,
@@ -47,7 +47,7 @@ pub struct DecodeWords {
 }
 
 /// What `encode` is to make a script of.
-#[derive(Clone, Copy, Debug, PartialEq, Eq)]
+#[derive(Clone, Copy)]
 pub struct EncodeWords<'a> {
     /// The file with the text in words, or None for standard input.
     pub file: Option<&'a str>,
@@ -56,7 +56,7 @@ pub struct EncodeWords<'a> {
 }
 
 /// What `run` is to do.
-#[derive(Clone, Copy, Debug, PartialEq, Eq)]
+#[derive(Clone, Copy)]
 pub struct RunWords<'a> {
     /// The file with the messages that are applied.
     pub trace: &'a str,
@@ -69,7 +69,7 @@ pub struct RunWords<'a> {
 }
 
 /// What `mib` is to show.
-#[derive(Clone, Copy, Debug, PartialEq, Eq)]
+#[derive(Clone, Copy)]
 pub struct MibWords<'a> {
     /// The messages that are applied.
     pub trace: TraceWords<'a>,
@@ -78,7 +78,7 @@ pub struct MibWords<'a> {
 }
 
 /// What `rules` is to show.
-#[derive(Clone, Copy, Debug, PartialEq, Eq)]
+#[derive(Clone, Copy)]
 pub struct RulesWords<'a> {
     /// The messages that are applied.
     pub trace: TraceWords<'a>,
@@ -89,7 +89,7 @@ pub struct RulesWords<'a> {
 }
 
 /// The frame that is explained.
-#[derive(Clone, Copy, Debug, PartialEq, Eq)]
+#[derive(Clone, Copy)]
 pub enum FrameWords<'a> {
     /// That of these bytes, in hexadecimal digits if it is one.
     Bytes(&'a str),
@@ -103,7 +103,7 @@ pub enum FrameWords<'a> {
 }
 
 /// What `explain` is to explain.
-#[derive(Clone, Copy, Debug, PartialEq, Eq)]
+#[derive(Clone, Copy)]
 pub struct ExplainWords<'a> {
     /// The messages that are applied.
     pub trace: TraceWords<'a>,
@@ -118,7 +118,7 @@ pub struct ExplainWords<'a> {
 }
 
 /// What `lint` is to look at.
-#[derive(Clone, Copy, Debug, PartialEq, Eq)]
+#[derive(Clone, Copy)]
 pub struct LintWords<'a> {
     /// The messages that are applied.
     pub trace: TraceWords<'a>,
@@ -127,7 +127,7 @@ pub struct LintWords<'a> {
 }
 
 /// What `graph` is to show.
-#[derive(Clone, Copy, Debug, PartialEq, Eq)]
+#[derive(Clone, Copy)]
 pub struct GraphWords<'a> {
     /// The messages that are applied.
     pub trace: TraceWords<'a>,
@@ -136,7 +136,7 @@ pub struct GraphWords<'a> {
 }
 
 /// What `judge` is to judge.
-#[derive(Clone, Copy, Debug, PartialEq, Eq)]
+#[derive(Clone, Copy)]
 pub struct JudgeWords<'a> {
     /// The file with the history, or None for standard input.
     pub file: Option<&'a str>,
@@ -149,7 +149,7 @@ pub struct JudgeWords<'a> {
 }
 
 /// The messages that are applied before anything is done.
-#[derive(Clone, Copy, Debug, PartialEq, Eq)]
+#[derive(Clone, Copy)]
 pub struct TraceWords<'a> {
     /// The file with them, a script.
     pub file: &'a str,
@@ -160,7 +160,7 @@ pub struct TraceWords<'a> {
 }
 
 /// What `forward` is to forward, and what it writes.
-#[derive(Clone, Copy, Debug, PartialEq, Eq)]
+#[derive(Clone, Copy)]
 pub struct ForwardWords<'a> {
     /// The messages that are applied.
     pub trace: TraceWords<'a>,
@@ -178,7 +178,7 @@ pub struct ForwardWords<'a> {
 
 /// The captures that `record` makes a history of, and how. A capture of one port stands as the number of the port, `=`, and the file;
 /// [`read_numbered`](crate::read_numbered) takes such a text apart.
-#[derive(Debug, Drop, PartialEq, Eq)]
+#[derive(Drop)]
 pub struct RecordWords<'a> {
     /// The files with OMCI frames.
     pub omci: Vec<&'a str>,

@@ -6,7 +6,7 @@ ghost use Rattle.explain.specs.Force.{number_in_force, table_in_force};
 use mib_state::Mib;
 
 /// Which extended VLAN tagging operation configuration data is in force at a port, and why.
-#[derive(Clone, Copy, Debug, PartialEq, Eq)]
+#[derive(Clone, Copy)]
 pub enum TableInForce {
     /// None points to the port, and none to its mapper.
     NoTable,

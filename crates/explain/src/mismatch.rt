@@ -6,7 +6,7 @@ use tag_view::Tag;
 use vlan_rule::{Filter, PriorityFilter, Rule, TagFilter, TpidFilter, VidFilter};
 
 /// A field of the filter of a tag.
-#[derive(Clone, Copy, Debug, PartialEq, Eq)]
+#[derive(Clone, Copy, PartialEq, Eq)]
 pub enum TagField {
     Priority,
     Vid,
@@ -15,7 +15,7 @@ pub enum TagField {
 }
 
 /// A field of an entry by which it doesn't admit a frame.
-#[derive(Clone, Copy, Debug, PartialEq, Eq)]
+#[derive(Clone, Copy, PartialEq, Eq)]
 pub enum Mismatch {
     /// The number of tags.
     TagCount,

@@ -11,7 +11,7 @@ use treatment::added_tag;
 use vlan_rule::{AddedTag, Retag, Rule, TableSettings, Treatment};
 
 /// Where a tag that a frame leaves with comes from.
-#[derive(Clone, Copy, Debug, PartialEq, Eq)]
+#[derive(Clone, Copy)]
 pub enum TagOrigin {
     /// It is added, and its parts come from where this says.
     Added(AddedTag),
@@ -27,7 +27,7 @@ impl Default for TagOrigin {
 }
 
 /// A tag that a frame leaves with.
-#[derive(Clone, Copy, Debug, Default, PartialEq, Eq)]
+#[derive(Clone, Copy, Default)]
 pub struct OutgoingTag {
     pub tag: Tag,
     pub origin: TagOrigin,

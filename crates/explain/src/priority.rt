@@ -7,7 +7,7 @@ use pmapper::Mapper;
 use tag_view::Tag;
 
 /// Where the priority of a frame, as it leaves, comes from.
-#[derive(Clone, Copy, Debug, PartialEq, Eq)]
+#[derive(Clone, Copy)]
 pub enum PriorityOrigin {
     /// It is that of the outermost tag.
     OutermostTag,

@@ -9,7 +9,7 @@ use tag_view::FrameView;
 
 /// A step of the explanation of a frame that comes in at a port. Steps come in this order, as far as the frame comes; a port
 /// without a table has no `Failed` and no `Used`. Each explanation ends with its one `Verdict`.
-#[derive(Debug, Drop)]
+#[derive(Drop)]
 pub enum Step<'a> {
     /// The table in force at the port.
     Table(TableInForce),

@@ -3,7 +3,7 @@ use frame_meaning::Reason;
 use managed_entity::Class;
 
 /// A finding about the managed entities. What each claims is `Claims`, in `specs/Claims.antt`.
-#[derive(Clone, Copy, Debug, PartialEq, Eq)]
+#[derive(Clone, Copy)]
 pub enum Finding {
     /// The mapper points to a port at which another mapper is in force, the one of least number.
     SecondMapper {

@@ -2,7 +2,7 @@
 use arrayvec::ArrayVec;
 
 /// What a node of the graph is.
-#[derive(Clone, Copy, Debug, PartialEq, Eq)]
+#[derive(Clone, Copy)]
 pub enum NodeKind {
     /// A port, which is a PPTP Ethernet UNI.
     Port,
@@ -17,14 +17,14 @@ pub enum NodeKind {
 }
 
 /// A node, by what it is and its number: that of a port, or of an instance.
-#[derive(Clone, Copy, Debug, PartialEq, Eq)]
+#[derive(Clone, Copy)]
 pub struct Node {
     pub kind: NodeKind,
     pub number: u16,
 }
 
 /// A node that is shown.
-#[derive(Clone, Copy, Debug, PartialEq, Eq)]
+#[derive(Clone, Copy)]
 pub struct GraphNode {
     pub node: Node,
     /// Whether the table or the mapper is in force at some port; true of the others.
@@ -32,7 +32,7 @@ pub struct GraphNode {
 }
 
 /// A pointer, or the pointers of a mapper that are the same.
-#[derive(Debug, Drop)]
+#[derive(Drop)]
 pub struct Edge {
     pub from: Node,
     pub to: Node,

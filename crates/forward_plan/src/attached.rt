@@ -11,7 +11,7 @@ use mib_state::Mib;
 pub(crate) const NONE: u8 = 255;
 
 /// What is attached to a port: its table and its mapper, each by its place among the instances of its class, or `NONE`.
-#[derive(Clone, Copy, Debug, PartialEq, Eq)]
+#[derive(Clone, Copy)]
 pub(crate) struct Attached {
     pub(crate) table: u8,
     pub(crate) mapper: u8,

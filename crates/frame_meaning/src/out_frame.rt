@@ -8,7 +8,7 @@ use tag_view::{FrameView, Tag};
 
 /// A frame as it leaves: the addresses and the rest of the frame that came in, lent by its bytes, and the tags that stand
 /// between them now. The frame is nowhere as a whole until it is asked for.
-#[derive(Debug, Drop)]
+#[derive(Drop)]
 pub struct OutFrame<'a> {
     // The frame that came in.
     bytes: &'a [u8],

@@ -3,7 +3,7 @@ use crate::port_counts::PortCounts;
 use std::alloc::{AllocError, Global};
 
 /// What is counted of verdicts on frames.
-#[derive(Debug, Drop)]
+#[derive(Drop)]
 pub struct Counts {
     /// How many verdicts there are.
     pub frames: u64,

@@ -10,7 +10,7 @@ use std::collections::BTreeMap;
 ///
 /// The frames of a port are in one of 16 places, which its number chooses. Where another port takes that place, they go to a map. So
 /// counts take memory only where two ports have the same place. Up to 15 ports that follow one another have places of their own.
-#[derive(Debug, Drop)]
+#[derive(Drop)]
 pub struct PortCounts {
     others: BTreeMap<u16, u64>,
     // The run of a port is at `place_of` it.

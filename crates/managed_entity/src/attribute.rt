@@ -1,7 +1,7 @@
 //! One attribute of a class, as data.
 
 /// Who may write an attribute (ITU-T G.988, clause 9: R, W, set-by-create).
-#[derive(Clone, Copy, Debug, PartialEq, Eq)]
+#[derive(Clone, Copy)]
 pub enum Access {
     /// Given at Create, and writable.
     SetByCreate,
@@ -36,7 +36,7 @@ impl Access {
 }
 
 /// One attribute of a class.
-#[derive(Clone, Copy, Debug, PartialEq, Eq)]
+#[derive(Clone, Copy)]
 pub struct Attribute {
     /// Its number of bytes; of a table, that of one entry.
     pub width: u8,

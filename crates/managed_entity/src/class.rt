@@ -20,7 +20,7 @@ pub const INTERWORK: u16 = 266;
 pub const GEM_PORT: u16 = 268;
 
 /// A class of managed entities. Those without a variant aren't known.
-#[derive(Clone, Copy, Debug, PartialEq, Eq)]
+#[derive(Clone, Copy)]
 pub enum Class {
     /// ONU data (ITU-T G.988, clause 9.1.3).
     OnuData,

@@ -1,7 +1,7 @@
 //! What classes and their attributes are called.
 
 /// What the value of an attribute is, for one who reads it.
-#[derive(Clone, Copy, Debug, PartialEq, Eq)]
+#[derive(Clone, Copy, Debug)]
 pub enum AttributeKind {
     /// A number, a code or a count.
     Number,

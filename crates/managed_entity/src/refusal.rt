@@ -4,7 +4,7 @@ use byteorder::{BigEndian, ByteOrder};
 use vlan_rule::TableFault;
 
 /// Why an action is refused: the results of ITU-T G.988, annex A, but success.
-#[derive(Clone, Copy, Debug, PartialEq, Eq)]
+#[derive(Clone, Copy)]
 pub enum Refusal {
     /// Command processing error, 1: there is no room.
     ProcessingError,

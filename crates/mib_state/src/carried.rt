@@ -4,7 +4,7 @@ use crate::touch::Touch;
 use omci_msg::Reply;
 
 /// What comes of a request that is carried out.
-#[derive(Clone, Copy, Debug, PartialEq, Eq)]
+#[derive(Clone, Copy)]
 pub struct Carried {
     pub reply: Reply,
     /// What it changed among the instances.

@@ -11,7 +11,7 @@ use omci_msg::Request;
 use std::alloc::{AllocError, Global};
 
 /// ONU data (ITU-T G.988, clause 9.1.3).
-#[derive(Clone, Copy, Debug, Default, PartialEq, Eq)]
+#[derive(Clone, Copy, Default)]
 pub(crate) struct OnuData {
     /// The MIB data sync: the count of changes, 1 after 255.
     pub(crate) sync: u8,

@@ -46,6 +46,30 @@ fn without_words<E: Write>(error: &io::Error, err: &mut E) -> ExitCode {
 }
 
 /// Does what the words ask for, and gives the status.
+fn obey<
+    R: Files<File = File> + Alloc<A = Global> + Threads + Wait + Clock + Sync,
+    I: Read,
+    O: Write,
+    E: Write + IsTerminal + Send,
+>(rt: &R, words: &Words<'_>, input: &mut I, out: &mut O, err: &mut E) -> u8 {
+    let alloc = rt.alloc();
+    match words {
+        Words::Replay(words) => replay_script(alloc, words.json, input, out, err),
+        Words::Run(words) => run(rt, words, out, err),
+        Words::Decode(words) => decode_script(alloc, words, input, out, err),
+        Words::Encode(words) => encode_text(rt, words, input, out, err),
+        Words::Mib(words) => show_mib(rt, words, out, err),
+        Words::Rules(words) => show_rules(rt, words, out, err),
+        Words::Explain(words) => explain_frame(rt, words, out, err),
+        Words::Judge(words) => judge_history(rt, words, input, out, err),
+        Words::Forward(words) => forward(rt, words, out, err),
+        Words::Record(words) => record(rt, words, out, err),
+        Words::Lint(words) => lint(rt, words, out, err),
+        Words::Graph(words) => draw_graph(rt, words, out, err),
+    }
+}
+
+/// Does what the words of the command line ask for, and gives the status.
 fn answer<
     R: Files<File = File> + Alloc<A = Global> + Threads + Wait + Clock + Sync,
     I: Read,
@@ -57,18 +81,7 @@ fn answer<
         return show_topic(alloc, topic, out, err);
     }
     match read_words(alloc, words) {
-        Ok(Words::Replay(words)) => replay_script(alloc, words.json, input, out, err),
-        Ok(Words::Run(words)) => run(rt, &words, out, err),
-        Ok(Words::Decode(words)) => decode_script(alloc, &words, input, out, err),
-        Ok(Words::Encode(words)) => encode_text(rt, &words, input, out, err),
-        Ok(Words::Mib(words)) => show_mib(rt, &words, out, err),
-        Ok(Words::Rules(words)) => show_rules(rt, &words, out, err),
-        Ok(Words::Explain(words)) => explain_frame(rt, &words, out, err),
-        Ok(Words::Judge(words)) => judge_history(rt, &words, input, out, err),
-        Ok(Words::Forward(words)) => forward(rt, &words, out, err),
-        Ok(Words::Record(words)) => record(rt, &words, out, err),
-        Ok(Words::Lint(words)) => lint(rt, &words, out, err),
-        Ok(Words::Graph(words)) => draw_graph(rt, &words, out, err),
+        Ok(words) => obey(rt, &words, input, out, err),
         Err(error) => report_words(&error, out, err),
     }
 }

@@ -11,7 +11,7 @@ use tag_view::{FrameFault, FrameView, MISSING_WORD, is_tag_type};
 
 /// The tags of a frame and the type behind them. A tag is held as its word, the number in its four
 /// bytes (IEEE 802.1Q, 9.6).
-#[derive(Debug, Drop)]
+#[derive(Drop)]
 pub struct Head {
     // The number of tags.
     pub(crate) tags: u8,

@@ -125,7 +125,7 @@ fn run_job<G: Gate + Sync, R: Threads + Wait + Sync>(
 }
 
 /// What a run is given.
-#[derive(Clone, Copy, Debug)]
+#[derive(Clone, Copy)]
 pub struct RunInput<'f, 'a> {
     /// The requests of the trace.
     pub requests: &'f [Request],

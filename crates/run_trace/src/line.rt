@@ -9,7 +9,7 @@ use omci_msg::{Request, read};
 use script_lines::{Line, MOST_SPELLED, read_line};
 
 /// That a line may not stand in a trace.
-#[derive(Clone, Copy, Debug)]
+#[derive(Clone, Copy)]
 pub(crate) struct BadLine;
 
 /// The request of a line, or none where it is nothing or a message with a fault.

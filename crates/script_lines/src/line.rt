@@ -1,7 +1,7 @@
 //! What a line of a script asks for.
 
 /// What a line of a script asks for. Its bytes lie in the buffer that it was read into.
-#[derive(Clone, Copy, Debug)]
+#[derive(Clone, Copy)]
 pub enum Line<'a> {
     /// A message, by its bytes.
     Message(&'a [u8]),
@@ -12,7 +12,7 @@ pub enum Line<'a> {
 }
 
 /// The parts of a line of a script: what it asks for, and the digits of its bytes. At these nobody has looked yet.
-#[derive(Clone, Copy, Debug)]
+#[derive(Clone, Copy)]
 pub enum Parts<'a> {
     /// A message, by its digits.
     Message(&'a [u8]),

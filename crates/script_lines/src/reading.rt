@@ -16,7 +16,7 @@ pub const LINE_LIMIT: usize = 20_000;
 pub const MOST_SPELLED: usize = LINE_LIMIT / 2;
 
 /// A number in front of the bytes of a frame, which lie in the buffer that they were read into.
-#[derive(Clone, Copy, Debug)]
+#[derive(Clone, Copy)]
 pub struct Numbered<'a> {
     /// The number of a port, or of a GEM port.
     pub number: u16,

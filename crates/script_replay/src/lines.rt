@@ -10,7 +10,7 @@ use onu_unit::Unit;
 use script_lines::MOST_SPELLED;
 
 /// How far the lines of a piece were answered.
-#[derive(Clone, Copy, Debug)]
+#[derive(Clone, Copy)]
 pub struct Answered {
     /// How many lines were answered.
     pub lines: u64,

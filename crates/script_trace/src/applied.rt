@@ -6,7 +6,7 @@ use mib_state::Mib;
 use omci_msg::{MsgFault, Reply, Request};
 
 /// A request that was accepted.
-#[derive(Clone, Copy, Debug, PartialEq, Eq)]
+#[derive(Clone, Copy)]
 pub struct Accepted {
     /// The number, from 1, of its line.
     pub line: u64,
@@ -14,7 +14,7 @@ pub struct Accepted {
 }
 
 /// A message that has a fault. It is passed over.
-#[derive(Clone, Copy, Debug, PartialEq, Eq)]
+#[derive(Clone, Copy)]
 pub struct Faulty {
     /// The number, from 1, of its line.
     pub line: u64,
@@ -23,7 +23,7 @@ pub struct Faulty {
 }
 
 /// A request that is to change entities and was refused. It changes nothing.
-#[derive(Clone, Copy, Debug, PartialEq, Eq)]
+#[derive(Clone, Copy)]
 pub struct Refused {
     /// The number, from 1, of its line.
     pub line: u64,

@@ -2,7 +2,7 @@
 use std::fmt;
 
 /// Bytes as hexadecimal digits of lower case, two a byte.
-#[derive(Clone, Copy, Debug)]
+#[derive(Clone, Copy)]
 pub struct HexWords<'a>(pub &'a [u8]);
 
 impl fmt::Display for HexWords<'_> {

@@ -4,7 +4,7 @@ use tag_view::DscpMap;
 
 /// A DSCP to P-bit mapping in words: each DSCP whose priority isn't 0, with that, as `DSCP 46 to 5, DSCP 48 to 6`; or
 /// `every DSCP to 0`.
-#[derive(Clone, Copy, Debug)]
+#[derive(Clone, Copy)]
 pub struct DscpMapWords<'a>(pub &'a DscpMap);
 
 impl fmt::Display for DscpMapWords<'_> {

@@ -4,7 +4,7 @@ use std::fmt;
 
 /// An instance in words, by its class and its number: `GEM port network CTP (268) 0x0401`, or
 /// `unknown class (46) 0x0001` where the class is no common one.
-#[derive(Clone, Copy, Debug)]
+#[derive(Clone, Copy)]
 pub struct EntityWords {
     pub class: u16,
     pub instance: u16,

@@ -6,7 +6,7 @@ use vlan_rule::{Entry, Rule};
 
 /// An entry that is put into a VLAN table, in words: its rule; for a deletion, the key whose entry goes; and for an entry that
 /// is refused, its bytes and why.
-#[derive(Clone, Copy, Debug)]
+#[derive(Clone, Copy)]
 pub struct EntryWords<'a>(pub &'a Entry);
 
 impl fmt::Display for EntryWords<'_> {

@@ -5,7 +5,7 @@ use tag_view::CUSTOMER_TPID;
 use vlan_rule::{EthertypeFilter, Filter, PriorityFilter, Rule, TagFilter, TpidFilter, VidFilter};
 
 /// What a rule asks of a frame, in words: `one tag (priority any, VID 100, TPID 0x8100), Ethertype any`.
-#[derive(Clone, Copy, Debug)]
+#[derive(Clone, Copy)]
 pub struct FilterWords<'a>(pub &'a Rule);
 
 impl fmt::Display for FilterWords<'_> {

@@ -7,7 +7,7 @@ use vlan_rule::{
 };
 
 /// A part of a filter, or of a tag that is added.
-#[derive(Clone, Copy, Debug, PartialEq, Eq)]
+#[derive(Clone, Copy)]
 pub enum Part {
     /// Whatever it is.
     Any,
@@ -44,7 +44,7 @@ impl fmt::Display for Part {
 }
 
 /// The parts of the filter of a tag, or of a tag that is added.
-#[derive(Clone, Copy, Debug, PartialEq, Eq)]
+#[derive(Clone, Copy)]
 pub struct TagParts {
     pub priority: Part,
     pub vid: Part,
@@ -121,7 +121,7 @@ pub fn added_parts(tag: &AddedTag) -> TagParts {
 
 /// A TPID and the drop eligible indicator beside it as one cell of a table: `*`, `8100`, `input`, `input/0`, `inner`, `output/1`, or
 /// `output/in`, the indicator of the inner tag. The indicator stands where a TPID doesn't settle it: beside the input and the output TPID.
-#[derive(Clone, Copy, Debug)]
+#[derive(Clone, Copy)]
 pub struct TpidCell<'a>(pub &'a TagParts);
 
 impl fmt::Display for TpidCell<'_> {

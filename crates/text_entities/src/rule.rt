@@ -5,7 +5,7 @@ use std::fmt;
 use vlan_rule::Rule;
 
 /// A rule of a VLAN table in words, on one line: which frames it is for, a colon, and what becomes of them (G.988, 9.3.13).
-#[derive(Clone, Copy, Debug)]
+#[derive(Clone, Copy)]
 pub struct RuleWords<'a>(pub &'a Rule);
 
 impl fmt::Display for RuleWords<'_> {

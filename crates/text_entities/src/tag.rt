@@ -3,7 +3,7 @@ use std::fmt;
 use tag_view::Tag;
 
 /// A tag of a frame in words: `priority 3, DEI 0, VID 100, TPID 0x8100`.
-#[derive(Clone, Copy, Debug)]
+#[derive(Clone, Copy)]
 pub struct TagWords<'a>(pub &'a Tag);
 
 impl fmt::Display for TagWords<'_> {

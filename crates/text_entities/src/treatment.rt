@@ -8,7 +8,7 @@ use vlan_rule::{
 
 /// What a rule makes of a frame's tags, in words: `remove 1 tag, add outer tag (priority from inner, VID 200, TPID 0x8100,
 /// DEI 0)`.
-#[derive(Clone, Copy, Debug)]
+#[derive(Clone, Copy)]
 pub struct TreatmentWords<'a>(pub &'a Treatment);
 
 impl fmt::Display for TreatmentWords<'_> {
@@ -74,7 +74,7 @@ impl fmt::Display for NewTagWords<'_> {
 }
 
 /// Where the parts of an added tag come from, in words: `priority from inner, VID 200, TPID 0x8100, DEI 0`.
-#[derive(Clone, Copy, Debug)]
+#[derive(Clone, Copy)]
 pub struct AddedTagWords<'a>(pub &'a AddedTag);
 
 impl fmt::Display for AddedTagWords<'_> {

@@ -9,7 +9,7 @@ use vlan_rule::Entry;
 
 /// The value of an attribute in words, from its kind and its bytes: numbers in decimal, pointers and TPIDs in hexadecimal, a
 /// mapping by the DSCPs whose priority isn't 0. Of a table it is one entry, 16 bytes, or its size, four.
-#[derive(Clone, Copy, Debug)]
+#[derive(Clone, Copy)]
 pub struct ValueWords<'a> {
     pub kind: AttributeKind,
     pub bytes: &'a [u8],

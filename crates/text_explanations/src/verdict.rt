@@ -4,7 +4,7 @@ use std::fmt;
 use text_entities::HexWords;
 
 /// A verdict as the line that a replay answers, without its line feed: `g GEM HEX`, or `d N`.
-#[derive(Clone, Copy, Debug)]
+#[derive(Clone, Copy)]
 pub struct VerdictWords<'v, 'a>(pub &'v Verdict<'a>);
 
 impl fmt::Display for VerdictWords<'_, '_> {

@@ -21,7 +21,7 @@ pub(crate) fn entity_of(class: Class, instance: u16) -> EntityWords {
 }
 
 /// The field of an entry by which it doesn't admit a frame, in words.
-#[derive(Clone, Copy, Debug)]
+#[derive(Clone, Copy)]
 pub struct MismatchWords(pub Mismatch);
 
 impl fmt::Display for MismatchWords {
@@ -59,7 +59,7 @@ pub(crate) fn mismatch_name(field: Mismatch) -> &'static str {
 
 /// Where a tag that a frame leaves with comes from, in words: `added (priority from inner, VID 200, TPID 0x8100, DEI 0)`, or
 /// `received tag 0`, the outermost.
-#[derive(Clone, Copy, Debug)]
+#[derive(Clone, Copy)]
 pub struct OriginWords<'a>(pub &'a TagOrigin);
 
 impl fmt::Display for OriginWords<'_> {

@@ -5,7 +5,7 @@ use mib_state::Mib;
 use std::fmt;
 
 /// An instance by the short word of its class and its number.
-#[derive(Clone, Copy, Debug)]
+#[derive(Clone, Copy)]
 pub(crate) struct Subject {
     pub(crate) class: Class,
     pub(crate) instance: u16,

@@ -38,7 +38,7 @@ impl fmt::Display for TraceFault {
 }
 
 /// A message of a trace that has a fault, or is refused.
-#[derive(Clone, Copy, Debug, PartialEq, Eq)]
+#[derive(Clone, Copy)]
 pub struct TraceFinding {
     /// The number of its line, from 1.
     pub line: u64,

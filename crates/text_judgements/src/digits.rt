@@ -2,7 +2,7 @@
 use std::fmt;
 
 /// Hexadecimal digits of either case, in lower case.
-#[derive(Clone, Copy, Debug)]
+#[derive(Clone, Copy)]
 pub(crate) struct DigitWords<'a>(pub(crate) &'a [u8]);
 
 impl fmt::Display for DigitWords<'_> {

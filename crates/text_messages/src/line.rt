@@ -2,7 +2,7 @@
 use script_lines::{LINE_LIMIT, Line, MOST_SPELLED, read_bytes, read_line, read_numbered};
 
 /// What a line of a dialogue is: a line of a script, or an answer. Its bytes lie in the buffer that it was read into.
-#[derive(Clone, Copy, Debug)]
+#[derive(Clone, Copy)]
 pub enum ScriptLine<'a> {
     /// `o HEX`, a message, by its bytes.
     Message(&'a [u8]),

@@ -16,7 +16,7 @@ const TPIDS: &[&str] = &["inner", "outer", "output", "8100", "0x8100"];
 const BITS: &[&str] = &["inner", "outer", "0", "1"];
 
 /// Which of the two tags is added. What isn't said of it is copied from the received tag of that name.
-#[derive(Clone, Copy, Debug, PartialEq, Eq)]
+#[derive(Clone, Copy)]
 pub(crate) enum Side {
     Outer,
     Inner,

@@ -4,7 +4,7 @@ use std::alloc::AllocError;
 use text_words::{Choices, Mistake, Mistakes, Why, Word, Words, number_at_most};
 
 /// The managed entity of a line, by its numbers.
-#[derive(Clone, Copy, Debug)]
+#[derive(Clone, Copy)]
 pub(crate) struct Entity {
     pub(crate) class: u16,
     pub(crate) instance: u16,

@@ -2,7 +2,7 @@
 use text_words::{Mistake, Why, Word, number_at_most};
 
 /// What a message says besides what it asks: `id=N` and `quiet`, each once, anywhere behind what must stand in front.
-#[derive(Clone, Copy, Debug)]
+#[derive(Clone, Copy)]
 pub(crate) struct Header {
     /// The transaction correlation identifier that it sets.
     pub(crate) identifier: Option<u16>,

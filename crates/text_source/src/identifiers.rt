@@ -1,7 +1,7 @@
 //! Transaction correlation identifiers (ITU-T G.988, clause 11.2).
 
 /// The identifiers of a script's messages, one after the other. Behind 65535 comes 1, since 0 is that of notifications.
-#[derive(Clone, Copy, Debug)]
+#[derive(Clone, Copy)]
 pub(crate) struct Identifiers {
     next: u16,
 }

@@ -2,7 +2,7 @@
 use text_words::{Mistake, Word};
 
 /// What a line says, by its first word.
-#[derive(Clone, Copy, Debug, PartialEq, Eq)]
+#[derive(Clone, Copy)]
 pub(crate) enum Statement {
     Create,
     Delete,

@@ -3,7 +3,7 @@ use std::fmt;
 
 /// Bytes that were found, between backquotes: printable ASCII as it is, every other byte as `\xHH`, and of more than 40 bytes the
 /// first 40 and three dots.
-#[derive(Clone, Copy, Debug)]
+#[derive(Clone, Copy)]
 pub struct Shown<'a>(pub &'a [u8]);
 
 /// The most bytes that are shown.

@@ -3,7 +3,7 @@ use crate::choices::Choices;
 use crate::mistake::{Mistake, Why};
 
 /// A word of a line, and where it stands.
-#[derive(Clone, Copy, Debug)]
+#[derive(Clone, Copy)]
 pub struct Word<'a> {
     /// Its bytes. Blanks are among them within parentheses alone.
     pub text: &'a [u8],

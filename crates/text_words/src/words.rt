@@ -7,7 +7,7 @@ use crate::word::{Word, characters_in};
 
 /// The words of a line that are left, in order. Blanks, which are spaces and tabs, part words, but not within parentheses; `#`
 /// begins a remark, which has no words.
-#[derive(Clone, Copy, Debug)]
+#[derive(Clone, Copy)]
 pub struct Words<'a> {
     rest: &'a [u8],
     column: usize,

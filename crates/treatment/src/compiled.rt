@@ -17,7 +17,7 @@ use vlan_rule::{AddedTag, Retag, TableSettings, Treatment};
 
 /// A treatment for the frames with one number of received tags: how the word of each outgoing tag is
 /// made, the outermost first. It is 68 bytes.
-#[derive(Clone, Copy, Debug, PartialEq, Eq)]
+#[derive(Clone, Copy)]
 pub struct Treat {
     mixes: [Mix; 4],
     count: u8,

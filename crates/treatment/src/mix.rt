@@ -9,7 +9,7 @@ use vlan_rule::{AddedTag, TableSettings};
 
 /// The four sources of a word: bits that are fixed, and which bits are copied from the word of the first
 /// received tag, from that of the last one, and from the priority of the DSCP. No bit has two sources.
-#[derive(Clone, Copy, Debug, Default, PartialEq, Eq)]
+#[derive(Clone, Copy, Default)]
 pub(crate) struct Mix {
     pub(crate) fixed: u32,
     pub(crate) outer: u32,

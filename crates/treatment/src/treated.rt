@@ -3,7 +3,7 @@ use arrayvec::ArrayVec;
 use tag_view::Tag;
 
 /// What a rule makes of a frame.
-#[derive(Debug, Drop)]
+#[derive(Drop)]
 pub enum Treated {
     /// It is dropped.
     Discard,
