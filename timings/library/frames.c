@@ -35,7 +35,7 @@ static int read_script(const char *path, onu *unit) {
     static char line[20002];
     static uint8_t message[10000];
     uint8_t reply[48];
-    /* The frames stand one behind another, as those of bench/forward do. */
+    /* The frames stand one behind another, as those of timings/forward do. */
     uint8_t *bytes = malloc(BYTES), *end = bytes;
     FILE *script = fopen(path, "r");
     if (script == NULL || bytes == NULL)
