@@ -1,7 +1,7 @@
 //! From a frame to its explanation: each function appends its step, and goes on to the next.
-ghost use Rattle.std.specs.Prelude.{◌≡◌, ◌++◌, ◌<◌, [], ◌∷◌, IfOk, OnOk, IfSome, map, option_map, length};
+ghost use Rattle.std.specs.Prelude.{◌≡◌, ◌++◌, ◌<◌, [], ◌∷◌, IfOk, OnOk, IfSome, map, length};
 ghost use Rattle.tag_view.specs.Dscp.{dscp_of};
-ghost use Rattle.frame_meaning.specs.Meaning.{mapper_at, meaning};
+ghost use Rattle.frame_meaning.specs.Meaning.{meaning};
 ghost use Rattle.managed_entity.specs.Shown.{gem_port_instance, interwork_instance, mapper_instance};
 ghost use Rattle.explain.specs.Steps.{explained, from_gem_port, from_interwork, from_mapper, from_pointer, from_tags, from_table, from_read, dropped};
 ghost use Rattle.explain.specs.Ends.{EndsWith};
@@ -12,7 +12,9 @@ use crate::outgoing::{OutgoingTag, outgoing_by, received};
 use crate::priority::priority_origin;
 use crate::step::Step;
 use arrayvec::ArrayVec;
-use frame_meaning::{OutFrame, PortTable, Reason, Verdict, input_tpid, pointer_of, port_id_of};
+use frame_meaning::{
+    OutFrame, PortTable, Reason, Verdict, input_tpid, mapper_at, pointer_of, port_id_of,
+};
 use mib_state::Mib;
 use pmapper::{GemPort, Interwork, Mapper, priority};
 use std::alloc::{AllocError, Global};
@@ -115,17 +117,6 @@ fn plain(outgoing: &ArrayVec<OutgoingTag, 4>) -> ArrayVec<Tag, 4>
         tags.push(tag.tag);
     }
     tags
-}
-
-/// The mapper of a port, with its number.
-#[tactic(auto, unfolding(frame_meaning::specs::Meaning::mapper_at))]
-fn mapper_at(mib: &Mib, port: u16) -> Option<(u16, &Mapper)>
-    ensures { option_map (λ (held : _). mapper_instance held.0 held.1.now) result
-        ≡ mapper_at mib.now.entities port }
-{
-    let number = mib.mapper_of_port(port)?;
-    let mapper = mib.mapper(number)?;
-    Some((number, mapper))
 }
 
 /// The frame, with its DSCP if it has one, comes to a mapper.

@@ -3,7 +3,7 @@ ghost use Rattle.std.specs.Prelude.{◌≡◌, ℕ, List};
 ghost use Rattle.explain.specs.Mismatch.{mismatch, mismatch_by, inner_filter, inner_mismatch, outer_filter, outer_mismatch, tag_count, tag_mismatch};
 
 use tag_view::Tag;
-use vlan_rule::{Filter, PriorityFilter, Rule, TagFilter, TpidFilter, VidFilter};
+use vlan_rule::{Filter, Rule, TagFilter};
 
 /// A field of the filter of a tag.
 #[derive(Clone, Copy, PartialEq, Eq)]
@@ -27,13 +27,6 @@ pub enum Mismatch {
     Ethertype,
 }
 
-/// What every tag is.
-pub(crate) const ANY_TAG: TagFilter = TagFilter {
-    priority: PriorityFilter::Any,
-    vid: VidFilter::Any,
-    tpid: TpidFilter::Any,
-};
-
 /// How many tags a filter asks for.
 pub(crate) fn tag_count(filter: &Filter) -> usize
     ensures { result ≡ tag_count filter.now }
@@ -51,7 +44,7 @@ pub(crate) fn outer_filter(filter: &Filter) -> TagFilter
 {
     match filter {
         Filter::TwoTag { outer, .. } => *outer,
-        _ => ANY_TAG,
+        _ => TagFilter::ANY,
     }
 }
 
@@ -61,7 +54,7 @@ pub(crate) fn inner_filter(filter: &Filter) -> TagFilter
 {
     match filter {
         Filter::OneTag(inner) | Filter::TwoTag { inner, .. } => *inner,
-        _ => ANY_TAG,
+        _ => TagFilter::ANY,
     }
 }
 

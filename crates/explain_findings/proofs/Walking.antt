@@ -35,7 +35,7 @@ use Rattle.explain.specs.Priority.{priority_origin}
 use Rattle.explain.specs.Steps.{explained, from_gem_port, from_interwork, from_mapper, from_pointer, from_read, from_table, from_tags, mismatch_at, then_step, tried, tries, tries_of}
 use Rattle.explain.proofs.Origins.{plain-outgoing, plain-unchanged}
 use Rattle.explain_findings.specs.Reach.{gem_port_pointer, pointers_of, priorities, reached_gem_ports, reached_mappers, reached_points, reached_tables}
-use Rattle.explain_findings.specs.Claims.{AreBytes, IsUnreached, holds_rules, is_table, names}
+use Rattle.explain_findings.specs.Claims.{AreBytes, IsUnreached, hangs_on, holds_rules, is_table, names}
 use Rattle.explain_findings.proofs.Lists.{has, has_joined, has_mapped}
 use Rattle.explain_findings.proofs.Priorities.{has_priority}
 use Rattle.explain_findings.proofs.Reaching.{mapper_is_reached, table_is_reached}
@@ -44,8 +44,15 @@ use Rattle.explain_findings.proofs.Tables.{accepted_entry, rules_at}
 
 -- ---- what a step comes by is reached
 
+-- the mapper that the table in force hangs on
+abbrev pub mapper_in_force : TableInForce → Option ℕ
+mapper_in_force NoTable = None
+mapper_in_force (OfPort instance) = None
+mapper_in_force (OfMapper mapper instance) = Some mapper
+
 abbrev pub Leads : Entities → Step → Type 0
-Leads e (step.Table force) = IfSome (number_in_force force) (λ n. has (reached_tables e) n ≡ true)
+Leads e (step.Table force) =
+    IfSome (number_in_force force) (λ n. has (reached_tables e) n ≡ true) × IfSome (mapper_in_force force) (λ n. has (reached_mappers e) n ≡ true)
 Leads e (step.Mapper n) = has (reached_mappers e) n ≡ true
 Leads e (step.Pointer n) = has (reached_points e) n ≡ true
 Leads e (step.Interwork n pointer) = (has (reached_points e) n ≡ true) × (has (reached_gem_ports e) pointer ≡ true)
@@ -180,8 +187,21 @@ force_number e port = by_case (least_instance (is_table_of association_uni port)
     by_case None None = refl
     by_case None (Some m) = by_mapper m (table_of_mapper e (Some m))
 
+-- its mapper is that of the port
+mapper_leads_there : (e : Entities) (port : ℕ) → IfSome (mapper_in_force (table_in_force e port)) (λ n. has (reached_mappers e) n ≡ true)
+mapper_leads_there e port = by_case (least_instance (is_table_of association_uni port) e.vlans) (mapper_of_port e port) refl
+  where
+    by_mapper : (m : ℕ) (t : Option ℕ) → mapper_of_port e port ≡ Some m → IfSome (mapper_in_force (of_mapper m t)) (λ n. has (reached_mappers e) n ≡ true)
+    by_mapper m None is = tt
+    by_mapper m (Some t) is = mapper_is_reached e port m is
+
+    by_case : (own mapper : Option ℕ) → mapper_of_port e port ≡ mapper → IfSome (mapper_in_force (in_force_by e own mapper)) (λ n. has (reached_mappers e) n ≡ true)
+    by_case (Some t) mapper is = tt
+    by_case None None is = tt
+    by_case None (Some m) is = by_mapper m (table_of_mapper e (Some m)) is
+
 force_leads : (e : Entities) (port : ℕ) → Leads e (step.Table (table_in_force e port))
-force_leads e port = by_case (table_of_port e port) refl
+force_leads e port = (by_case (table_of_port e port) refl, mapper_leads_there e port)
   where
     by_case : (o : Option ℕ) → table_of_port e port ≡ o → IfSome (number_in_force (table_in_force e port)) (λ n. has (reached_tables e) n ≡ true)
     by_case None is = rw (force_number e port, is) tt
@@ -224,13 +244,19 @@ other xs m n absent there = by_case (m == n) refl
 
 another_table : (e : Entities) (force : TableInForce) (n : ℕ) → has (reached_tables e) n ≡ false → Leads e (step.Table force) → is_table force n ≡ false
 another_table e NoTable n absent lead = refl
-another_table e (OfPort i) n absent lead = other (reached_tables e) i n absent lead
-another_table e (OfMapper mapper i) n absent lead = other (reached_tables e) i n absent lead
+another_table e (OfPort i) n absent lead = other (reached_tables e) i n absent lead.0
+another_table e (OfMapper mapper i) n absent lead = other (reached_tables e) i n absent lead.0
+
+another_mapper : (e : Entities) (force : TableInForce) (n : ℕ) → has (reached_mappers e) n ≡ false → Leads e (step.Table force) → hangs_on force n ≡ false
+another_mapper e NoTable n absent lead = refl
+another_mapper e (OfPort i) n absent lead = refl
+another_mapper e (OfMapper mapper i) n absent lead = other (reached_mappers e) mapper n absent lead.1
 
 unnamed : (e : Entities) (c : Class) (n : ℕ) → has (reached_of e c) n ≡ false → (s : Step) → Leads e s → names c n s ≡ false
 unnamed e class.OnuData n absent s lead = refl
 unnamed e class.Vlan n absent (step.Table force) lead = another_table e force n absent lead
 unnamed e class.Vlan n absent _ lead = refl
+unnamed e class.Mapper n absent (step.Table force) lead = another_mapper e force n absent lead
 unnamed e class.Mapper n absent (step.Mapper i) lead = other (reached_mappers e) i n absent lead
 unnamed e class.Mapper n absent _ lead = refl
 unnamed e class.Interwork n absent (step.Pointer i) lead = other (reached_points e) i n absent lead

@@ -90,9 +90,16 @@ is_table NoTable n = false
 is_table (OfPort instance) n = instance == n
 is_table (OfMapper mapper instance) n = instance == n
 
+-- the table in force hangs on the mapper
+abbrev pub hangs_on : TableInForce → ℕ → Bool
+hangs_on NoTable n = false
+hangs_on (OfPort instance) n = false
+hangs_on (OfMapper mapper instance) n = mapper == n
+
 -- a step of an explanation comes by the instance of a class, or points to it
 abbrev pub names : Class → ℕ → Step → Bool
 names class.Vlan n (step.Table force) = is_table force n
+names class.Mapper n (step.Table force) = hangs_on force n
 names class.Mapper n (step.Mapper instance) = instance == n
 names class.Interwork n (step.Pointer pointer) = pointer == n
 names class.Interwork n (step.Interwork instance pointer) = instance == n

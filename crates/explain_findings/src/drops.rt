@@ -1,13 +1,12 @@
 //! Whether all frames of a port are dropped, and for which reason.
-ghost use Rattle.std.specs.Prelude.{◌≡◌, ◌<◌, ℕ, MatchOption, is_err, length};
+ghost use Rattle.std.specs.Prelude.{◌≡◌, ◌<◌, ℕ, is_err, length};
 ghost use Rattle.std.specs.List.{list_all};
 ghost use Rattle.managed_entity.specs.Shown.{mapper_instance};
-ghost use Rattle.frame_meaning.specs.Meaning.{mapper_at};
 ghost use Rattle.explain_findings.specs.Drops.{common_reason, discards_all, entries_reason, is_discard, lacks_by, lets_none, port_drops, routes, table_reason, uncarried};
 
 use crate::finding::Finding;
 use explain::{shadow_of, tried_order};
-use frame_meaning::{PortTable, Reason, gem_port_of};
+use frame_meaning::{PortTable, Reason, gem_port_of, mapper_at};
 use mib_state::Mib;
 use pmapper::Mapper;
 use vlan_rule::{RuleTable, Treatment};
@@ -26,19 +25,8 @@ pub(crate) fn port_drops(mib: &Mib, port: u16) -> Option<Finding>
             port,
             reason: Reason::NoMapper,
         }),
-        (None, Some(mapper)) => uncarried(port, &routes(mib, mapper)),
+        (None, Some((_, mapper))) => uncarried(port, &routes(mib, mapper)),
     }
-}
-
-/// The mapper of a port.
-#[tactic(auto, unfolding(frame_meaning::specs::Meaning::mapper_at))]
-fn mapper_at(mib: &Mib, port: u16) -> Option<&Mapper>
-    ensures { MatchOption result
-        (mapper_at mib.now.entities port ≡ None)
-        (λ mapper. (n : ℕ)
-        × (mapper_at mib.now.entities port ≡ Some (mapper_instance n mapper.now))) }
-{
-    mib.mapper(mib.mapper_of_port(port)?)
 }
 
 /// Why a port's table drops each frame, if it does.

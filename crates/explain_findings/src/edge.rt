@@ -8,13 +8,11 @@ ghost use Rattle.explain_findings.specs.Graph.{begins_with, interwork_edge, inte
 
 use crate::append::is_number;
 use crate::graph::{Edge, Node, NodeKind};
-use crate::reach::{
-    ASSOCIATION_MAPPER, ASSOCIATION_UNI, pointer_of_point, pointers, port_of_mapper,
-};
+use crate::reach::{pointer_of_point, pointers, port_of_mapper};
 use arrayvec::ArrayVec;
 use frame_meaning::pointer_of;
 use managed_entity::VlanConfig;
-use mib_state::Mib;
+use mib_state::{ASSOCIATION_MAPPER, ASSOCIATION_UNI, Mib};
 use pmapper::{Interwork, Mapper};
 use std::alloc::AllocError;
 

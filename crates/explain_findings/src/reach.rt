@@ -13,19 +13,10 @@ ghost use Rattle.explain_findings.specs.Reach.{gem_port_pointer, numbers, pointe
 
 use frame_meaning::pointer_of;
 use managed_entity::{Class, VlanConfig};
-use mib_state::Mib;
+use mib_state::{ASSOCIATION_UNI, Mib, TP_TYPE_UNI};
 use pmapper::{Interwork, Mapper};
 use std::alloc::{AllocError, Global};
 use std::marker::Model;
-
-/// The TP type of a mapper whose TP pointer is to a PPTP Ethernet UNI (ITU-T G.988, clause 9.3.10).
-const TP_TYPE_UNI: u8 = 1;
-
-/// The association type of a table whose pointer is to an 802.1p mapper (ITU-T G.988, clause 9.3.13).
-pub(crate) const ASSOCIATION_MAPPER: u8 = 1;
-
-/// The association type of a table whose pointer is to a PPTP Ethernet UNI.
-pub(crate) const ASSOCIATION_UNI: u8 = 2;
 
 /// The numbers of the instances that pointers lead to from a port, and of all GEM port network CTPs.
 #[derive(Drop)]

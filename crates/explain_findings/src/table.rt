@@ -9,10 +9,10 @@ ghost use Rattle.explain_findings.specs.Findings.{drops_at_table, is_alone_at, m
 use crate::append::{another, append, append_all, is_number, unreached};
 use crate::drops::port_drops;
 use crate::finding::Finding;
-use crate::reach::{ASSOCIATION_MAPPER, ASSOCIATION_UNI, Reach, port_of_mapper, port_of_table};
+use crate::reach::{Reach, port_of_mapper, port_of_table};
 use explain::{shadow_of, tried_order};
 use managed_entity::{Class, VlanConfig};
-use mib_state::Mib;
+use mib_state::{ASSOCIATION_MAPPER, ASSOCIATION_UNI, Mib};
 use std::alloc::AllocError;
 use vlan_rule::RuleTable;
 

@@ -8,17 +8,8 @@ ghost use Rattle.forward_plan.specs.Ports.{port_count};
 use crate::attached::Attached;
 use crate::naming::{Naming, Namings};
 use crate::ports::{PORTS, Ports};
-use mib_state::Mib;
+use mib_state::{ASSOCIATION_MAPPER, ASSOCIATION_UNI, Mib, TP_TYPE_UNI};
 use std::alloc::{AllocError, Global};
-
-/// The TP type of a mapper whose TP pointer is to a PPTP Ethernet UNI (ITU-T G.988, clause 9.3.10).
-const TP_TYPE_UNI: u8 = 1;
-
-/// The association type of a table whose pointer is to a mapper (ITU-T G.988, clause 9.3.13).
-const ASSOCIATION_MAPPER: u8 = 1;
-
-/// The association type of a table whose pointer is to a PPTP Ethernet UNI (ITU-T G.988, clause 9.3.13).
-const ASSOCIATION_UNI: u8 = 2;
 
 impl Ports {
     ghost use Rattle.std.specs.Prelude.{◌≡◌, IfOk, Some, option_map, slice_get};

@@ -30,6 +30,7 @@ pub use frame_meaning::{NoMemory, OutFrame, Reason, Verdict, plain_walk};
 pub use live::Live;
 pub use plan::Plan;
 pub use port_plan::PortPlan;
+pub use ports::PORTS;
 
 /// What is compiled of entities is determined by them: plans that are compiled of the same entities have the same table for each
 /// of their tables, the same routes for each of their mappers, and the same attached to each port.

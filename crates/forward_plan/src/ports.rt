@@ -7,7 +7,7 @@ use crate::naming::Namings;
 use std::alloc::{AllocError, Global};
 
 /// How many ports there are: one for each number of 16 bits.
-pub(crate) const PORTS: usize = 65536;
+pub const PORTS: usize = 65_536;
 
 /// What is attached to each port, by the port's number.
 #[derive(Drop)]

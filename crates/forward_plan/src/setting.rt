@@ -40,7 +40,7 @@ impl Plan {
         ensures { IsCompiled mib.now.entities self.new }
     {
         // An accepted Set finds its instance, so this is always one.
-        let Some((place, number, vlan)) = table_at(mib, instance) else {
+        let Some((place, number, vlan)) = placed_table(mib, instance) else {
             return self.follow_one(mib, VLAN, instance);
         };
         forget(&mut self.tables, instance);
@@ -60,7 +60,7 @@ impl Plan {
         ensures { IsCompiled mib.now.entities self.new }
     {
         // As above.
-        let Some((place, number, mapper)) = mapper_at(mib, instance) else {
+        let Some((place, number, mapper)) = placed_mapper(mib, instance) else {
             return self.follow_one(mib, MAPPER, instance);
         };
         forget(&mut self.mappers, instance);
@@ -75,7 +75,7 @@ impl Plan {
 }
 
 /// The table of a number, with its place and its number there.
-fn table_at<'m>(mib: &'m Mib, instance: u16) -> Option<(usize, u16, &'m VlanConfig)>
+fn placed_table<'m>(mib: &'m Mib, instance: u16) -> Option<(usize, u16, &'m VlanConfig)>
     ensures place { IfSome result (λ held. place_in instance mib.now.entities.vlans ≡ Some held.0) }
     ensures room { IfSome result (λ held. held.0 < room_of vlan_class) }
     ensures shown { IfSome result (λ held. Some (vlan_instance held.1 held.2.now)
@@ -89,7 +89,7 @@ fn table_at<'m>(mib: &'m Mib, instance: u16) -> Option<(usize, u16, &'m VlanConf
 }
 
 /// The mapper of a number, with its place and its number there.
-fn mapper_at<'m>(mib: &'m Mib, instance: u16) -> Option<(usize, u16, &'m Mapper)>
+fn placed_mapper<'m>(mib: &'m Mib, instance: u16) -> Option<(usize, u16, &'m Mapper)>
     ensures place { IfSome result (λ held. place_in instance mib.now.entities.mappers
         ≡ Some held.0) }
     ensures room { IfSome result (λ held. held.0 < room_of mapper_class) }

@@ -17,6 +17,10 @@ number_of_reason NoInterwork = 7
 number_of_reason NoGem = 8
 number_of_reason Direction = 9
 
+-- how many reasons there are
+abbrev pub reason_count : ℕ
+reason_count = 9
+
 abbrev pub reason_of_fault : FrameFault → Reason
 reason_of_fault fault.Runt = Runt
 reason_of_fault fault.CutTag = CutTag

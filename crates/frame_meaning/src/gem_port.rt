@@ -1,5 +1,5 @@
 //! The GEM port of a frame: the entities that the port of the frame leads to (ITU-T G.988, clauses 9.3.10, 9.2.4 and 9.2.3).
-ghost use Rattle.std.specs.Prelude.{◌≡◌, ◌<◌, ℕ, IfSome, MatchOption};
+ghost use Rattle.std.specs.Prelude.{◌≡◌, ◌<◌, ℕ, IfSome, option_map};
 ghost use Rattle.managed_entity.specs.Shown.{mapper_instance, interwork_instance, gem_port_instance};
 ghost use Rattle.pmapper.specs.Mapper.{pointer_of};
 ghost use Rattle.frame_meaning.specs.Meaning.{mapper_at, pointers_at, carries_upstream, port_id_of, gem_port_behind, gem_port_of, gem_port_at};
@@ -9,15 +9,15 @@ use mib_state::Mib;
 use pmapper::{GemPort, Interwork, Mapper, pointer, priority};
 use tag_view::Tag;
 
-/// The mapper of a port.
+/// The 802.1p mapper service profile of a port, with its number, or None where the port has none.
 #[tactic(auto, unfolding(crate::specs::Meaning::mapper_at))]
-fn mapper_at(mib: &Mib, port: u16) -> Option<&Mapper>
-    ensures { MatchOption result
-        (mapper_at mib.now.entities port ≡ None)
-        (λ mapper. (n : ℕ)
-        × (mapper_at mib.now.entities port ≡ Some (mapper_instance n mapper.now))) }
+pub fn mapper_at(mib: &Mib, port: u16) -> Option<(u16, &Mapper)>
+    ensures { option_map (λ (held : _). mapper_instance held.0 held.1.now) result
+        ≡ mapper_at mib.now.entities port }
 {
-    mib.mapper(mib.mapper_of_port(port)?)
+    let number = mib.mapper_of_port(port)?;
+    let mapper = mib.mapper(number)?;
+    Some((number, mapper))
 }
 
 /// The GEM interworking termination point of the frames of a priority, under 8, or None where the mapper's pointer is null.
@@ -78,6 +78,6 @@ pub(crate) fn gem_port_at(
     requires { IfSome dscp (λ dscp. dscp < 64) }
     ensures { result ≡ gem_port_at mib.now.entities port tags.now dscp }
 {
-    let mapper = mapper_at(mib, port).ok_or(Reason::NoMapper)?;
+    let (_, mapper) = mapper_at(mib, port).ok_or(Reason::NoMapper)?;
     gem_port_of(mib, mapper, priority(mapper, tags, dscp))
 }

@@ -22,7 +22,7 @@ mod table;
 mod verdict;
 mod walk;
 
-pub use gem_port::{gem_port_of, pointer_of, port_id_of};
+pub use gem_port::{gem_port_of, mapper_at, pointer_of, port_id_of};
 pub use out_frame::OutFrame;
 pub use reason::Reason;
 pub use spelling::NoMemory;

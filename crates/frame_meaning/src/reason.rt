@@ -35,8 +35,50 @@ pub enum Reason {
 }
 
 impl Reason {
-    ghost use Rattle.std.specs.Prelude.{◌≡◌};
+    ghost use Rattle.std.specs.Prelude.{◌≡◌, MatchOption};
     ghost use Rattle.frame_meaning.specs.Reason.{number_of_reason};
+    ghost use Rattle.frame_meaning.specs.declared.reason.Reason.{Reason};
+
+    /// How many reasons there are.
+    pub const COUNT: usize = 9;
+
+    /// All reasons, by ascending number from 1.
+    pub const ALL: [Reason; Self::COUNT] = [
+        Reason::Runt,
+        Reason::CutTag,
+        Reason::NoRule,
+        Reason::RuleDiscard,
+        Reason::NoMapper,
+        Reason::NullPointer,
+        Reason::NoInterwork,
+        Reason::NoGem,
+        Reason::Direction,
+    ];
+
+    /// The reason of a number, or None where no reason has it.
+    pub fn of(number: u8) -> Option<Reason>
+        ensures { MatchOption result
+            ((reason : Reason) → ¬ (number ≡ number_of_reason reason))
+            (λ reason. number ≡ number_of_reason reason) }
+    {
+        let place = usize::from(number).checked_sub(1)?;
+        let reason = Self::ALL.get(place)?;
+        Some(*reason)
+    }
+
+    /// The step of forwarding that finds the reason, in a word (ITU-T G.988, clause 9).
+    pub fn step(self) -> &'static str {
+        match self {
+            Reason::Runt | Reason::CutTag => "frame",
+            Reason::NoRule => "entry",
+            Reason::RuleDiscard => "treatment",
+            Reason::NoMapper => "mapper",
+            Reason::NullPointer => "pointer",
+            Reason::NoInterwork => "interworking point",
+            Reason::NoGem => "GEM port",
+            Reason::Direction => "direction",
+        }
+    }
 
     /// The number under which the reason is reported.
     pub fn code(self) -> u8

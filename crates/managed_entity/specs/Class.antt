@@ -1,6 +1,6 @@
 -- The attributes of each class of managed entities (ITU-T G.988, clause 9), as data. Attribute n of a class stands at
 -- place n - 1 of the list.
-use Rattle.std.specs.Prelude.{ℕ, suc, zero, Bool, true, false, ◌&&◌, List, [], ◌∷◌, Option, Some, None, is_some, unwrap_or, if◌then◌else◌, ◌==◌, codes}
+use Rattle.std.specs.Prelude.{ℕ, suc, zero, Bool, true, false, ◌&&◌, ◌||◌, List, [], ◌∷◌, Option, Some, None, is_some, unwrap_or, if◌then◌else◌, ◌==◌, codes}
 use Rattle.byteorder.specs.Endian.{big_bytes}
 use Rattle.tag_view.specs.Tag.{customer_tpid}
 use Rattle.vlan_rule.specs.Table.{predefined, table_max_size}
@@ -127,6 +127,10 @@ layout_of class =
 -- whether there is such a class; an action on any other is answered "unknown managed entity"
 abbrev pub is_known : ℕ → Bool
 is_known class = is_some (layout_of class)
+
+-- whether a line terminal creates its instances: ONU data has the one that is always there
+abbrev pub is_created : ℕ → Bool
+is_created class = class == 130 || class == 171 || class == 266 || class == 268
 
 -- its attributes, none where there is no such class
 abbrev pub attributes_of : ℕ → List Attribute

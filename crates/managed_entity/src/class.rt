@@ -36,7 +36,7 @@ pub enum Class {
 
 impl Class {
     ghost use Rattle.std.specs.Prelude.{◌≡◌, IfSome, MatchOption, Some, is_some, length};
-    ghost use Rattle.managed_entity.specs.Class.{attributes_of, class_number, class_of, class_word, is_known};
+    ghost use Rattle.managed_entity.specs.Class.{attributes_of, class_number, class_of, class_word, is_created, is_known};
     ghost use Rattle.managed_entity.specs.declared.class.Class.{Class};
 
     /// All classes, by ascending number.
@@ -62,6 +62,14 @@ impl Class {
             GEM_PORT => Some(Class::GemPort),
             _ => None,
         }
+    }
+
+    /// Whether a line terminal creates the instances of the class of a number: those of ONU data are always there, and of a class
+    /// that isn't known there are none.
+    pub fn is_created(number: u16) -> bool
+        ensures { result ≡ is_created number }
+    {
+        matches!(number, MAPPER | VLAN | INTERWORK | GEM_PORT)
     }
 
     /// Its number.

@@ -37,6 +37,6 @@ pub use known::{class_name, descriptions_of, layout_of};
 pub use mask::{mask_of, names};
 pub use padding::padded;
 pub use refusal::Refusal;
-pub use setting::{check_set, set, set_values};
+pub use setting::{check_set, entry_at, set, set_values};
 pub use vlan::VlanConfig;
 pub use write::create;

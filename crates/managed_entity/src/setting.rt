@@ -12,8 +12,8 @@ use crate::mask::{bit, names, unknown};
 use crate::refusal::Refusal;
 use crate::write::write;
 
-/// Where the entry of the table stands among the bytes, if the mask names the table.
-fn entry_at(layout: &[Attribute], mask: u16) -> Option<usize>
+/// Where the entry of the table stands among the bytes of a Set, if its mask names the table of a class with this layout.
+pub fn entry_at(layout: &[Attribute], mask: u16) -> Option<usize>
     requires { length layout.now ≤ 16 }
     ensures { result ≡ entry_at mask 0 layout.now }
 {

@@ -5,6 +5,7 @@ use Rattle.std.specs.List.{concat}
 use Rattle.byteorder.specs.Endian.{big_bytes, big_number}
 use Rattle.omci_msg.specs.declared.Request.{Request}
 use Rattle.omci_msg.specs.declared.Reply.{Reply}
+use Rattle.omci_msg.specs.Replies.{reply_to}
 use Rattle.omci_msg.specs.declared.Action.{Action}
 use Rattle.omci_msg.specs.declared.Action.TheVariants.{Create, Delete, Set, Get, GetNext, MibUpload, MibUploadNext, MibReset, Other}
 use Rattle.managed_entity.specs.declared.attribute.Attribute.{Attribute}
@@ -188,10 +189,6 @@ latch_left (Other code) s q = s.latch
 -- the state that an action leaves
 abbrev pub state_left : Action → State → Request → State
 state_left action s q = record { entities = left action s.entities q; latch = latch_left action s q }
-
--- an answer has the identifier, action, class and instance of its request
-abbrev pub reply_to : Request → List ℕ → Reply
-reply_to q contents = record { tci = q.tci; action = q.action; class = q.class; instance = q.instance; contents = contents }
 
 -- the reply to a request, and the state that it leaves
 abbrev pub step : State → Request → Reply × State

@@ -4,6 +4,15 @@ ghost use Rattle.std.specs.Prelude.{◌≡◌, ℕ};
 use managed_entity::{ManagedEntity, VlanConfig};
 use pmapper::Mapper;
 
+/// The TP type of a mapper whose TP pointer is to a PPTP Ethernet UNI (ITU-T G.988, clause 9.3.10).
+pub const TP_TYPE_UNI: u8 = 1;
+
+/// The association type of a table whose pointer is to an 802.1p mapper (ITU-T G.988, clause 9.3.13).
+pub const ASSOCIATION_MAPPER: u8 = 1;
+
+/// The association type of a table whose pointer is to a PPTP Ethernet UNI (ITU-T G.988, clause 9.3.13).
+pub const ASSOCIATION_UNI: u8 = 2;
+
 /// A class whose instances are attached to something.
 pub(crate) trait AttachedEntity: ManagedEntity {
     ghost use Rattle.std.specs.Prelude.{Bool};

@@ -31,10 +31,12 @@ mod step;
 mod store;
 mod touch;
 
+pub use attachment::{ASSOCIATION_MAPPER, ASSOCIATION_UNI, TP_TYPE_UNI};
 pub use carried::Carried;
 pub use held::HeldInstance;
 pub use managed_entity::VlanConfig;
 pub use mib::Mib;
+pub use step::may_change;
 pub use touch::Touch;
 
 /// The entities after a list of requests are those after its accepted requests alone, and neither they nor what is accepted

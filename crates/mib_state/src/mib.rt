@@ -7,6 +7,7 @@ ghost use Rattle.managed_entity.specs.Instance.{attribute_of, value_at};
 ghost use Rattle.mib_state.specs.Attached.{association_uni, is_table_of, least_instance, mapper_of_port, table_of_port};
 ghost use Rattle.managed_entity.specs.Shown.{mapper_instance, vlan_instance, interwork_instance, gem_port_instance};
 
+use crate::attachment::{ASSOCIATION_MAPPER, ASSOCIATION_UNI, TP_TYPE_UNI};
 use crate::held::HeldInstance;
 use crate::instances::Instances;
 use crate::latch::Latch;
@@ -17,15 +18,6 @@ use managed_entity::{Bytes, Class, VlanConfig};
 use pmapper::{GemPort, Interwork, Mapper};
 use std::alloc::{AllocError, Global};
 use std::marker::Model;
-
-/// The TP type of a mapper whose TP pointer is to a PPTP Ethernet UNI.
-const TP_TYPE_UNI: u8 = 1;
-
-/// The association type of a table whose pointer is to a mapper.
-const ASSOCIATION_MAPPER: u8 = 1;
-
-/// The association type of a table whose pointer is to a PPTP Ethernet UNI.
-const ASSOCIATION_UNI: u8 = 2;
 
 /// The managed entities, which are the MIB data sync and the instances of each class, and beside them the table that a Get
 /// latched.

@@ -157,13 +157,7 @@ impl Mib {
             touch = touched_by(request);
             accepted = may_change(request.action);
         }
-        let reply = Reply {
-            tci: request.tci,
-            action: request.action,
-            class: request.class,
-            instance: request.instance,
-            contents: told(outcome),
-        };
+        let reply = request.reply_with(told(outcome));
         Carried {
             reply,
             touch,
@@ -188,7 +182,7 @@ fn touched_by(request: &Request) -> Touch
 }
 
 /// Whether an action may change the entities.
-fn may_change(action: Action) -> bool
+pub fn may_change(action: Action) -> bool
     ensures { result ≡ may_change action }
 {
     match action {

@@ -8,7 +8,8 @@ use Rattle.omci_msg.specs.declared.Action.{Action}
 use Rattle.omci_msg.specs.declared.Action.TheVariants.{Create, Delete, Set, Get, GetNext, MibUpload, MibUploadNext, MibReset, Other}
 use Rattle.mib_state.specs.Entities.{State, nothing, unlatched}
 use Rattle.managed_entity.specs.Answer.{padded}
-use Rattle.mib_state.specs.Step.{reply_to, step}
+use Rattle.omci_msg.specs.Replies.{reply_to}
+use Rattle.mib_state.specs.Step.{step}
 use Rattle.mib_upload.specs.Rows.{RowFields, row_room, rows_of}
 
 -- the managed entities with their latched table, and the rows of the last MIB upload

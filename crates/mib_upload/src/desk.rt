@@ -72,13 +72,7 @@ impl Desk {
             Action::MibUploadNext => self.row_contents(sequence_number(&request.contents)),
             _ => return self.mib.carry_out(request),
         };
-        let reply = Reply {
-            tci: request.tci,
-            action: request.action,
-            class: request.class,
-            instance: request.instance,
-            contents,
-        };
+        let reply = request.reply_with(contents);
         Carried {
             reply,
             touch: Touch::Nothing,

@@ -1,3 +1,4 @@
 pub mod Code
 pub mod Fault
 pub mod Message
+pub mod Replies

@@ -27,6 +27,20 @@ impl MsgFault {
     ghost use Rattle.std.specs.Prelude.{◌≡◌};
     ghost use Rattle.omci_msg.specs.Fault.{number_of_fault};
 
+    /// The numbers of the faults that bytes read as a request can have, ascending.
+    pub const OF_REQUESTS: [u8; 4] = [1, 2, 3, 4];
+
+    /// What is wrong with bytes read as a request, by the number of the fault; None where no such fault has the number.
+    pub fn words_of(number: u8) -> Option<&'static str> {
+        match number {
+            1 => Some("the message has neither 48 bytes nor 44"),
+            2 => Some("the destination bit is 1, expected 0"),
+            3 => Some("the acknowledgement bit is 1, expected 0 of a request"),
+            4 => Some("the device identifier isn't 10"),
+            _ => None,
+        }
+    }
+
     /// The number under which the fault is reported.
     pub fn code(self) -> u8
         ensures { result ≡ number_of_fault self }

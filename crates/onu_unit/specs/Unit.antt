@@ -1,14 +1,11 @@
 -- What a unit answers a message, and the state that the message leaves.
-use Rattle.std.specs.Prelude.{ℕ, List, Option, Some, None, Result, Ok, Err, if◌then◌else◌}
+use Rattle.std.specs.Prelude.{ℕ, List, Option, Result, Ok, Err}
 use Rattle.omci_msg.specs.Message.{request_of}
+use Rattle.omci_msg.specs.Replies.{wanted_reply}
 use Rattle.omci_msg.specs.declared.fault.MsgFault.{MsgFault}
 use Rattle.omci_msg.specs.declared.request.Request.{Request}
 use Rattle.omci_msg.specs.declared.reply.Reply.{Reply}
 use Rattle.mib_upload.specs.Upload.{DeskState, answered}
-
--- the reply of a request, if it wants one
-abbrev pub wanted_reply : Request → Reply → Option Reply
-wanted_reply request reply = if request.wants_answer then Some reply else None
 
 -- the answer to what a message asks, if anything, and the state that it leaves: one with a fault leaves it
 abbrev pub asked_answered : DeskState → Result Request MsgFault → Result (Option Reply) MsgFault × DeskState

@@ -81,11 +81,7 @@ impl Unit {
     {
         let request = read(bytes)?;
         let reply = self.answer(&request);
-        if request.wants_answer {
-            Ok(Some(reply))
-        } else {
-            Ok(None)
-        }
+        Ok(request.wanted_reply(reply))
     }
 
     /// What becomes of a frame that comes in at a port. The verdict borrows the frame alone. A frame that leaves has the addresses of

@@ -1,7 +1,7 @@
 //! What the index keeps of an entry.
 ghost use Rattle.std.specs.Prelude.{◌≡◌};
 
-use vlan_rule::{EthertypeFilter, Filter, PriorityFilter, TagFilter, TpidFilter, VidFilter};
+use vlan_rule::{EthertypeFilter, Filter, TagFilter};
 
 /// The place of an entry in its table, and which frames it is for.
 #[derive(Clone, Copy)]
@@ -10,13 +10,6 @@ pub(crate) struct Row {
     pub(crate) filter: Filter,
     pub(crate) ethertype: EthertypeFilter,
 }
-
-/// A filter that every tag passes.
-const ANY_TAG: TagFilter = TagFilter {
-    priority: PriorityFilter::Any,
-    vid: VidFilter::Any,
-    tpid: TpidFilter::Any,
-};
 
 impl Row {
     ghost use Rattle.rule_index.specs.Filters.{inner_in, outer_in, tags_in, type_key};
@@ -38,7 +31,7 @@ impl Row {
     {
         match self.filter {
             Filter::TwoTag { outer, .. } => outer,
-            _ => ANY_TAG,
+            _ => TagFilter::ANY,
         }
     }
 
@@ -48,7 +41,7 @@ impl Row {
         match self.filter {
             Filter::OneTag(inner) => inner,
             Filter::TwoTag { inner, .. } => inner,
-            _ => ANY_TAG,
+            _ => TagFilter::ANY,
         }
     }
 

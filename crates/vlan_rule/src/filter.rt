@@ -58,6 +58,15 @@ pub struct TagFilter {
     pub tpid: TpidFilter,
 }
 
+impl TagFilter {
+    /// Every tag passes it.
+    pub const ANY: TagFilter = TagFilter {
+        priority: PriorityFilter::Any,
+        vid: VidFilter::Any,
+        tpid: TpidFilter::Any,
+    };
+}
+
 /// How many tags a frame must have, and what they must be. Which filter priorities stand for which
 /// of these is a choice of this project where the standard is silent.
 #[derive(Clone, Copy, Debug, PartialEq, Eq)]

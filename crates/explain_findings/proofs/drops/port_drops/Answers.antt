@@ -8,4 +8,4 @@ unfolding port_drops
 returns-in-None-Some c =
     let there = c.in-None-Some.ensures' in
     let none : table_reason (table_at c.args.mib.now.entities c.args.port) ≡ None = ap table_reason (sym c.at.ensures) ∙ sym c.table_reason.ensures ∙ c.in-None-Some.is-0 in
-    rw (none, there.1) (c.uncarried.ensures ∙ ap (uncarried c.args.port) (c.routes.ensures there.0))
+    rw (none, sym there) (c.uncarried.ensures ∙ ap (uncarried c.args.port) (c.routes.ensures c.in-None-Some.field-0-0-1))
