@@ -8,7 +8,7 @@ use Rattle.std.proofs.lemmas.List.Sums.{sum-map}
 use Rattle.std.proofs.lemmas.Option.{slice_get-get_or}
 use Rattle.std.proofs.lemmas.Simd.{map-map}
 use Rattle.frame_stats.specs.declared.counts.Counts.{Counts}
-use Rattle.frame_stats.specs.Figures.{Figure, counted, HasNoZeros}
+use Rattle.frame_stats.specs.Figures.{Figure, counted}
 use Rattle.batch_reports.specs.declared.batch.Tally.{Tally}
 use Rattle.batch_reports.specs.declared.fault.GatherFault.{GatherFault}
 use Rattle.batch_reports.specs.declared.fault.GatherFault.TheVariants.{Double, Stranger, Missing, NoMemory, CountFull}
@@ -71,13 +71,12 @@ tally_of t = t.now
 
 pub versions_of_lent : (count : ℕ) (lent out : List (Bor Tally)) (given : List Tally) (versions : List ℕ) (c : Counts) → map tally_of lent ≡ given
     → AreInOrder (λ (t : Bor Tally). t.now.batch) count lent out → versions ≡ map (λ (t : Bor Tally). t.now.version) out
-    → ((f : Figure) → counted c f ≡ sum_by (λ (t : Bor Tally). counted t.now.counts f) out) → HasNoZeros c.ports → AreVersionsOf count given versions c
-versions_of_lent count lent out given versions c same o is sums no_zeros = record {
+    → ((f : Figure) → counted c f ≡ sum_by (λ (t : Bor Tally). counted t.now.counts f) out) → AreVersionsOf count given versions c
+versions_of_lent count lent out given versions c same o is sums = record {
   out = map tally_of out;
   in_order = subst (λ (l : List Tally). AreInOrder (λ (t : Tally). t.batch) count l (map tally_of out)) same (in_order_mapped tally_of (λ (t : Tally). t.batch) count lent out o);
   versions_are = is ∙ sym (map-map (λ (t : Tally). t.version) tally_of out);
   sums = λ f. sums f ∙ sym (sum_mapped tally_of (λ (t : Tally). counted t.counts f) out);
-  no_zeros = no_zeros;
 }
 
 pub misplaced_lent : (count : ℕ) (lent : List (Bor Tally)) (given : List Tally) → map tally_of lent ≡ given

@@ -4,7 +4,7 @@ use Rattle.std.specs.List.{Contains, list_any, flat_map, sum_by}
 use Rattle.std.specs.List.Sorted.{IsPermutation}
 use Rattle.frame_meaning.specs.declared.verdict.Verdict.{Verdict}
 use Rattle.frame_stats.specs.declared.counts.Counts.{Counts}
-use Rattle.frame_stats.specs.Figures.{Figure, counted, HasNoZeros, SomePasses}
+use Rattle.frame_stats.specs.Figures.{Figure, counted, SomePasses}
 use Rattle.batch_reports.specs.declared.batch.Report.{Report}
 use Rattle.batch_reports.specs.declared.batch.Tally.{Tally}
 use Rattle.batch_reports.specs.declared.fault.GatherFault.{GatherFault}
@@ -33,7 +33,6 @@ pub record AreVersionsOf (count : ℕ) (given : List Tally) (versions : List ℕ
   pub in_order : AreInOrder (λ (t : Tally). t.batch) count given out
   pub versions_are : versions ≡ map (λ (t : Tally). t.version) out
   pub sums : (f : Figure) → counted c f ≡ sum_by (λ (t : Tally). counted t.counts f) out
-  pub no_zeros : HasNoZeros c.ports
 
 -- a sum of the items' counts passes 64 bits
 abbrev pub SumPasses : {X : Type 0} → (X → Counts) → List X → Type 0

@@ -1,6 +1,6 @@
 //! One batch, by what a lane holds.
 ghost use Rattle.frame_stats.specs.Figures.{AreCountsOf};
-ghost use Rattle.std.specs.Prelude.{◌≡◌, ◌<◌, ◌↔◌, ◌≤◌, ◌⊎◌, ℕ, [], IfOk, OnOk, IsErrOf, length, true, false};
+ghost use Rattle.std.specs.Prelude.{◌≡◌, ◌<◌, ◌↔◌, ◌≤◌, ◌⊎◌, ℕ, [], IfOk, OnOk, OnErr, IsErrOf, length, true, false};
 ghost use Rattle.frame_stats.specs.Figures.{SomePasses};
 ghost use Rattle.batch_reports.specs.Batches.{meanings, most_frames};
 
@@ -130,6 +130,8 @@ impl<'a> Report<'a> {
         ensures verdicts { OnOk result
             (self.new.verdicts.items ≡ meanings live.now port frames.now) }
         ensures nothing { OnErr result (self.new.verdicts.items ≡ []) }
+        ensures kept { (self.new.lane ≡ self.old.lane) × (self.new.batch ≡ self.old.batch)
+            × (self.new.version ≡ self.old.version) }
         ensures full { IsErrOf result CountFault.CountFull
             → SomePasses (meanings live.now port frames.now) }
     {
@@ -202,7 +204,7 @@ pub fn report_batch<'a, G: Gate>(
 /// has one report for all its batches takes memory for the longest alone, and counts faster.
 ///
 /// The faults are those of [`report_batch`], in the same order. A batch with too many frames, or one that the gate stops, leaves the
-/// report as it was. Otherwise a fault leaves it without verdicts.
+/// report as it was. Otherwise a fault leaves it without verdicts, and with lane, batch and version as they were.
 pub fn report_batch_into<'a, G: Gate>(
     report: &mut Report<'a>,
     view: LaneView<'_>,
@@ -229,6 +231,8 @@ pub fn report_batch_into<'a, G: Gate>(
         × (IsErrOf result BatchFault.Stalled → report.new ≡ report.old) }
     ensures nothing { IsErrOf result BatchFault.NoMemory ⊎ IsErrOf result BatchFault.CountFull
         → report.new.verdicts.items ≡ [] }
+    ensures kept { OnErr result ((report.new.lane ≡ report.old.lane)
+        × (report.new.batch ≡ report.old.batch) × (report.new.version ≡ report.old.version)) }
 {
     let Batch {
         number,

@@ -2,7 +2,11 @@
 ghost use Rattle.std.specs.Prelude.{◌≡◌};
 ghost use Rattle.batch_reports.specs.Faults.{number_of_batch_fault, number_of_gather_fault};
 
+use crate::batch::MOST_FRAMES;
 use thiserror::Error;
+
+/// The words say this limit.
+const _: () = prove!(MOST_FRAMES == 65_536);
 
 /// Why a batch isn't forwarded.
 #[derive(Clone, Copy, Debug, PartialEq, Eq, Error)]

@@ -1,7 +1,7 @@
 //! Reports gathered, or their tallies, with the totals of all.
 ghost use Rattle.std.specs.Prelude.{◌≡◌, ◌≤◌, ◌^◌, ℕ, None, IfOk, IfErr, IsErrOf};
 ghost use Rattle.std.specs.List.{sum_by};
-ghost use Rattle.frame_stats.specs.Figures.{Figure, counted, AreCountsOf, HasNoZeros};
+ghost use Rattle.frame_stats.specs.Figures.{Figure, counted, AreCountsOf};
 ghost use Rattle.batch_reports.specs.declared.batch.Tally.{Tally};
 ghost use Rattle.batch_reports.specs.Gathering.{AreInOrder, IsGathered, IsWhy, IsWhyNot, IsWhyOfTallies, SumPasses, misfit, misplaced, verdicts_of};
 
@@ -68,7 +68,6 @@ pub fn gather_tallies(
         AreInOrder (λ (t : Tally). t.batch) count tallies.items gathered.tallies.items) }
     ensures counts { IfOk result (λ gathered. (f : Figure)
         → counted gathered.counts f ≡ sum_by (λ t. counted t.counts f) gathered.tallies.items) }
-    ensures no_zeros { IfOk result (λ gathered. HasNoZeros gathered.counts.ports) }
     ensures fits { IfOk result (λ gathered. misplaced (λ (t : Tally). t.batch) count tallies.items
         ≡ None) }
     ensures fault { IfErr result (IsWhyOfTallies count tallies.items) }
@@ -88,7 +87,6 @@ pub(crate) fn in_order_with_counts<T: Numbered>(
     ensures gathered { IfOk result (λ all. AreInOrder T.number count items.items all.0.items) }
     ensures counts { IfOk result (λ all. (f : Figure)
         → counted all.1 f ≡ sum_by (λ x. counted (T.counts_of x) f) all.0.items) }
-    ensures no_zeros { IfOk result (λ all. HasNoZeros all.1.ports) }
     ensures fits { IfOk result (λ all. misplaced T.number count items.items ≡ None) }
     ensures fault { IfErr result (IsWhyNot T.number (SumPasses T.counts_of) count items.items) }
 {
@@ -107,7 +105,6 @@ pub(crate) fn in_order_with_counts<T: Numbered>(
 fn total_of<T: Numbered>(alloc: Global, items: &[T]) -> Result<Counts, CountFault>
     ensures counts { IfOk result (λ c. (f : Figure)
         → counted c f ≡ sum_by (λ x. counted (T.counts_of x) f) items.now) }
-    ensures no_zeros { IfOk result (λ c. HasNoZeros c.ports) }
     ensures full { IsErrOf result CountFault.CountFull → SumPasses T.counts_of items.now }
 {
     let mut total = Counts::zero(alloc);

@@ -1,5 +1,5 @@
 //! One batch, by the lane that is in.
-ghost use Rattle.std.specs.Prelude.{◌≡◌, ◌<◌, ◌↔◌, ◌⊎◌, ℕ, [], IfOk, OnOk, IsErrOf, length, true, false};
+ghost use Rattle.std.specs.Prelude.{◌≡◌, ◌<◌, ◌↔◌, ◌⊎◌, ℕ, [], IfOk, OnOk, OnErr, IsErrOf, length, true, false};
 ghost use Rattle.frame_stats.specs.Figures.{SomePasses};
 ghost use Rattle.plan_publish.specs.Lane.{number_of};
 ghost use Rattle.plan_publish.specs.Held.{held_entities, held_lane, held_version};
@@ -59,7 +59,7 @@ pub fn run_batch<'a, G: Gate>(
 /// has one report for all its batches takes memory for the longest alone, and counts faster.
 ///
 /// The faults are those of [`run_batch`], in the same order. A batch with too many frames, or one that the gate stops, leaves the
-/// report as it was. Otherwise a fault leaves it without verdicts.
+/// report as it was. Otherwise a fault leaves it without verdicts, and with lane, batch and version as they were.
 pub fn run_batch_into<'a, G: Gate>(
     report: &mut Report<'a>,
     held: &Held<'_>,
@@ -86,6 +86,8 @@ pub fn run_batch_into<'a, G: Gate>(
         × (IsErrOf result BatchFault.Stalled → report.new ≡ report.old) }
     ensures nothing { IsErrOf result BatchFault.NoMemory ⊎ IsErrOf result BatchFault.CountFull
         → report.new.verdicts.items ≡ [] }
+    ensures kept { OnErr result ((report.new.lane ≡ report.old.lane)
+        × (report.new.batch ≡ report.old.batch) × (report.new.version ≡ report.old.version)) }
 {
     report_batch_into(report, view_of(held), batch, turns, gate)
 }

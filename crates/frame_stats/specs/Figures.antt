@@ -8,7 +8,7 @@ use Rattle.frame_meaning.specs.declared.verdict.Verdict.TheVariants.{Forward, Dr
 use Rattle.frame_meaning.specs.Reason.{number_of_reason}
 use Rattle.frame_stats.specs.declared.counts.Counts.{Counts}
 use Rattle.frame_stats.specs.declared.port_counts.PortCounts.{PortCounts}
-use Rattle.frame_stats.specs.Ports.{in_map, NoneIsZero}
+use Rattle.frame_stats.specs.Ports.{in_map}
 use Rattle.frame_stats.specs.Runs.{in_runs}
 
 -- the frames, the bytes that leave, the frames that are dropped for a reason, and those that leave by a GEM port
@@ -17,6 +17,10 @@ pub data Figure : Type 0 where
   Bytes : Figure
   DropsFor : (reason : Reason) → Figure
   FramesTo : (port : ℕ) → Figure
+
+-- how many GEM ports there may be, as a port-ID has 16 bits
+abbrev pub gem_ports : ℕ
+gem_ports = 65536
 
 -- ---- of verdicts
 
@@ -58,14 +62,9 @@ abbrev pub AddsFrames : ℕ → ℕ → PortCounts → PortCounts → Type 0
 AddsFrames gem frames old new =
     (port : ℕ) → at_port new port ≡ at_port old port + (if gem == port then frames else 0)
 
--- no entry of their map is 0
-abbrev pub HasNoZeros : PortCounts → Type 0
-HasNoZeros ports = NoneIsZero ports.others
-
 -- these counts are those of the verdicts
 pub record AreCountsOf (verdicts : List Verdict) (c : Counts) : Type 0 where
   pub figures : (f : Figure) → counted c f ≡ figure f verdicts
-  pub no_zeros : HasNoZeros c.ports
 
 -- a sum of the verdicts passes 64 bits
 abbrev pub SomePasses : List Verdict → Type 0
@@ -84,7 +83,6 @@ pub record NamesPort (verdicts : List Verdict) (place : ℕ) : Type 0 where
 -- these are the sums of two counts
 pub record AreSums (a b c : Counts) : Type 0 where
   pub figures : (f : Figure) → counted c f ≡ counted a f + counted b f
-  pub no_zeros : HasNoZeros c.ports
 
 -- a sum of two counts passes 64 bits
 abbrev pub SomeSumPasses : Counts → Counts → Type 0

@@ -9,7 +9,7 @@ ghost use Rattle.frame_stats.specs.Tallies.{weight};
 use crate::counts::Counts;
 use crate::fault::CountFault;
 use crate::port_counts::PortCounts;
-use frame_meaning::{OutFrame, Verdict};
+use frame_meaning::{OutFrame, Reason, Verdict};
 use std::alloc::Global;
 
 /// The counts of these verdicts. It takes memory for the GEM ports that have to give up their places to others.
@@ -65,7 +65,7 @@ impl Counts {
 #[inline(never)]
 fn note_all(
     verdicts: &[Verdict<'_>],
-    drops: &mut [u64; 9],
+    drops: &mut [u64; Reason::COUNT],
     ports: &mut PortCounts,
 ) -> Result<u64, CountFault>
     requires no_drops { (reason : Reason) → slice_index drops.old (number_of_reason reason - 1) ≡ 0 }
@@ -94,7 +94,7 @@ fn note_all(
 fn note(
     verdict: &Verdict<'_>,
     bytes: &mut u64,
-    drops: &mut [u64; 9],
+    drops: &mut [u64; Reason::COUNT],
     ports: &mut PortCounts,
 ) -> Result<(), CountFault>
     requires few_drops { (reason : Reason)

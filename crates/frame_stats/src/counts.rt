@@ -1,5 +1,6 @@
 //! Counts of verdicts.
 use crate::port_counts::PortCounts;
+use frame_meaning::Reason;
 use std::alloc::{AllocError, Global};
 
 /// What is counted of verdicts on frames.
@@ -10,7 +11,7 @@ pub struct Counts {
     /// The bytes of the frames that are forwarded, as they leave.
     pub bytes: u64,
     /// The frames that are dropped: those for the reason of number r at place r - 1.
-    pub drops: [u64; 9],
+    pub drops: [u64; Reason::COUNT],
     /// The frames that are forwarded, by the port-ID of the GEM port.
     pub ports: PortCounts,
 }
@@ -18,17 +19,16 @@ pub struct Counts {
 impl Counts {
     ghost use Rattle.std.specs.Prelude.{◌≡◌, IfOk};
     ghost use Rattle.frame_stats.specs.Books.{IsZero};
-    ghost use Rattle.frame_stats.specs.Figures.{Figure, counted, HasNoZeros};
+    ghost use Rattle.frame_stats.specs.Figures.{Figure, counted};
 
     /// Nothing is counted. It takes no memory.
     pub fn zero(alloc: Global) -> Counts
         ensures zero { IsZero result }
-        ensures no_zeros { HasNoZeros result.ports }
     {
         Counts {
             frames: 0,
             bytes: 0,
-            drops: [0; 9],
+            drops: [0; Reason::COUNT],
             ports: PortCounts::new(alloc),
         }
     }
@@ -36,18 +36,16 @@ impl Counts {
     /// Nothing is counted any more. GEM ports keep their places.
     pub fn clear(&mut self)
         ensures zero { IsZero self.new }
-        ensures no_zeros { HasNoZeros self.new.ports }
     {
         self.frames = 0;
         self.bytes = 0;
-        self.drops = [0; 9];
+        self.drops = [0; Reason::COUNT];
         self.ports.clear();
     }
 
     /// The same counts again. It takes memory for the GEM ports that had to give up their places to others.
     pub fn copy(&self, alloc: Global) -> Result<Counts, AllocError>
         ensures same { IfOk result (λ c. (f : Figure) → counted c f ≡ counted self.now f) }
-        ensures no_zeros { IfOk result (λ c. HasNoZeros c.ports) }
     {
         let ports = self.ports.copy(alloc)?;
         Ok(Counts {

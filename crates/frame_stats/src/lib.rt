@@ -25,5 +25,5 @@ pub use book::StatBook;
 pub use count::count_of;
 pub use counts::Counts;
 pub use fault::{CountFault, StatFault};
-pub use port_counts::PortCounts;
+pub use port_counts::{GEM_PORTS, PortCounts};
 pub use sums::counts_sum;

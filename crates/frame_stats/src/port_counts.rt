@@ -6,6 +6,9 @@ use crate::run::{RUNS, Run, end_frames, place_of};
 use std::alloc::{AllocError, Global};
 use std::collections::BTreeMap;
 
+/// How many GEM ports there may be: a port-ID has 16 bits.
+pub const GEM_PORTS: usize = 65_536;
+
 /// How many frames left by each GEM port.
 ///
 /// The frames of a port are in one of 16 places, which its number chooses. Where another port takes that place, they go to a map. So

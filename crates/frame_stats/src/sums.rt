@@ -1,9 +1,11 @@
 //! Sums of counts.
 ghost use Rattle.std.specs.Prelude.{◌≡◌, ◌+◌, ◌≤◌, ◌<◌, ◌^◌, ℕ, IfOk, OnOk, IsErrOf, MatchOption, slice_index};
+ghost use Rattle.frame_meaning.specs.Reason.{reason_count};
 ghost use Rattle.frame_stats.specs.Figures.{AreSums, SomeSumPasses, SumsFit};
 
 use crate::counts::Counts;
 use crate::fault::CountFault;
+use frame_meaning::Reason;
 use std::alloc::Global;
 
 /// The sums of both, figure by figure. It takes memory for the GEM ports that have to give up their places to others.
@@ -43,14 +45,14 @@ pub fn counts_sum(alloc: Global, a: &Counts, b: &Counts) -> Result<Counts, Count
 }
 
 /// The sums place by place.
-fn drops_sum(a: &[u64; 9], b: &[u64; 9]) -> Option<[u64; 9]>
+fn drops_sum(a: &[u64; Reason::COUNT], b: &[u64; Reason::COUNT]) -> Option<[u64; Reason::COUNT]>
     ensures { MatchOption result
-        ((k : ℕ) × (k < 9) × (2 ^ 64 ≤ slice_index a.now k + slice_index b.now k))
-        (λ s. (k : ℕ) → k < 9 → (slice_index s k ≡ slice_index a.now k + slice_index b.now k)
+        ((k : ℕ) × (k < reason_count) × (2 ^ 64 ≤ slice_index a.now k + slice_index b.now k))
+        (λ s. (k : ℕ) → k < reason_count → (slice_index s k ≡ slice_index a.now k + slice_index b.now k)
         × (slice_index a.now k + slice_index b.now k < 2 ^ 64)) }
 {
-    let mut sums = [0; 9];
-    for k in 0..9 {
+    let mut sums = [0; Reason::COUNT];
+    for k in 0..Reason::COUNT {
         match a[k].checked_add(b[k]) {
             Some(sum) => sums[k] = sum,
             None => return None,

@@ -1,8 +1,9 @@
 -- What a control shows: the state of its desk, and the accepted requests.
-use Rattle.std.specs.Prelude.{ℕ, Bool, List, [], ◌∷◌, ◌++◌, Option, Some, None, if◌then◌else◌}
+use Rattle.std.specs.Prelude.{ℕ, Bool, List, [], ◌∷◌, ◌++◌, Option, option_map, if◌then◌else◌}
 use Rattle.omci_msg.specs.declared.Request.{Request}
 use Rattle.omci_msg.specs.declared.Reply.{Reply}
 use Rattle.omci_msg.specs.Message.{reply_spelling}
+use Rattle.omci_msg.specs.Replies.{wanted_reply}
 use Rattle.mib_state.specs.After.{is_accepted}
 use Rattle.mib_upload.specs.Upload.{DeskState, answered}
 use Rattle.plan_publish.specs.History.{Home}
@@ -20,7 +21,7 @@ accepted_of p = p.published ++ p.pending
 
 -- the bytes of the answer to a request, where one is wanted
 abbrev pub answer_to : Request → Reply → Option (List ℕ)
-answer_to q reply = if q.wants_answer then Some (reply_spelling reply) else None
+answer_to q reply = option_map reply_spelling (wanted_reply q reply)
 
 -- whether a request is accepted now
 abbrev pub takes : Progress → Request → Bool

@@ -6,7 +6,7 @@ use Rattle.mib_state.specs.Step.{left}
 use Rattle.mib_state.specs.After.{after}
 use Rattle.plan_publish.specs.declared.edition.Edition.{Edition}
 use Rattle.plan_publish.specs.declared.edition.Accepted.{Accepted}
-use Rattle.plan_publish.specs.declared.history.Beginning.{Beginning}
+use Rattle.plan_publish.specs.declared.history.Prefix.{Prefix}
 use Rattle.plan_publish.specs.Requests.{StartsWith, one_more, version_of, last_of, is_same}
 use Rattle.plan_publish.specs.History.{Home}
 
@@ -33,8 +33,8 @@ abbrev pub EachFits : List Request → Home → List Accepted → Type 0
 EachFits all home [] = Unit {0}
 EachFits all home (a ∷ ops) = (StartsWith all a.before.seen.log × (a.before.seen.book ≡ home)) × EachFits all home ops
 
--- whether it shows that a beginning of its history was absorbed: one of all but the last request, or one that ends with the last
-abbrev pub shows : Edition → Beginning → Bool
+-- whether it shows that a prefix of its history was absorbed: one of all but the last request, or one that ends with the last
+abbrev pub shows : Edition → Prefix → Bool
 shows e learnt =
     nat_le learnt.len e.base.len
     || (learnt.len == e.base.len + 1 && e.version == learnt.len && option_eq is_same e.last learnt.newest)

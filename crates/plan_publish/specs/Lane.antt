@@ -1,11 +1,11 @@
 -- What a lane knows.
-use Rattle.std.specs.Prelude.{◌≡◌, ℕ, List, [], Option, Some, option_map}
+use Rattle.std.specs.Prelude.{◌≡◌, ℕ, List, [], ◌∷◌, Option, Some, option_map}
 use Rattle.left_right.specs.Sides.{view}
 use Rattle.omci_msg.specs.declared.Request.{Request}
 use Rattle.plan_publish.specs.declared.rule.View.{View}
 use Rattle.plan_publish.specs.declared.lane.Lane.{Lane}
 use Rattle.plan_publish.specs.History.{Home}
-use Rattle.plan_publish.specs.Requests.{StartsWithEach}
+use Rattle.plan_publish.specs.Requests.{StartsWith, StartsWithEach, version_of}
 
 -- how many lanes there can be
 abbrev pub most_lanes : ℕ
@@ -27,8 +27,22 @@ abbrev pub learnt_by : Lane → List Request
 learnt_by l = l.learnt.seen.log
 
 -- all that the lane held begins these requests
-abbrev pub HeldBeginnings : List Request → Lane → Type 0
-HeldBeginnings accepted l = (held : List (List Request)) → held_by l ≡ Some held → StartsWithEach accepted held
+abbrev pub HeldPrefixes : List Request → Lane → Type 0
+HeldPrefixes accepted l = (held : List (List Request)) → held_by l ≡ Some held → StartsWithEach accepted held
+
+-- the lane has held one list more, which begins with each list that it held before and with what it has learnt
+pub record HasEntered (before after : Lane) : Type 0 where
+  pub now : List Request
+  pub lists : List (List Request)
+  pub held_before : held_by before ≡ Some lists
+  pub held_after : held_by after ≡ Some (now ∷ lists)
+  pub begins_held : StartsWithEach now lists
+  pub begins_learnt : StartsWith now (learnt_by after)
+
+-- it has held just this version
+pub record HasHeld (before after : Lane) (version : ℕ) : Type 0 where
+  pub entered : HasEntered before after
+  pub version_is : version ≡ version_of entered.now
 
 -- which history it is of
 abbrev pub home_of : Lane → Home

@@ -22,7 +22,7 @@ pub record Lists : Type 0 where
 abbrev pub all_of : Lists → List Request
 all_of lists = lists.published ++ lists.pending
 
--- the copy that is shown is the one after the published requests, and each operation knows a beginning of all accepted ones
+-- the copy that is shown is the one after the published requests, and each operation knows a prefix of all accepted ones
 pub record Stands (x : Edition) (v : View) (ops : List Accepted) : Type 0 where
   pub is_after : IsAfter x v.published
   pub trail : HasTrail x v.published

@@ -84,10 +84,10 @@ impl Control {
         let Ok(carried) = self.carry_out(&request) else {
             return Err(ControlFault::NoMemory);
         };
-        if request.wants_answer {
-            return Ok(Some(write(&carried.reply)));
+        match request.wanted_reply(carried.reply) {
+            Some(reply) => Ok(Some(write(&reply))),
+            None => Ok(None),
         }
-        Ok(None)
     }
 
     /// Carries a request out: its reply, what it touched, and whether it is accepted. An accepted one will be in the next version

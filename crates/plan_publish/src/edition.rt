@@ -5,7 +5,7 @@ ghost use Rattle.std.specs.Option.{option_eq};
 ghost use Rattle.plan_publish.specs.Requests.{StartsWith, is_same};
 ghost use Rattle.plan_publish.specs.Edition.{IsAfter, HasTrail, taken_in, shows};
 
-use crate::history::Beginning;
+use crate::history::Prefix;
 use forward_plan::Live;
 use left_right::Absorb;
 use omci_msg::Request;
@@ -15,7 +15,7 @@ use std::alloc::{AllocError, Global};
 #[derive(Drop)]
 pub struct Accepted {
     pub request: Request,
-    pub before: Beginning,
+    pub before: Prefix,
 }
 
 /// The entities with their plan, how many requests they have absorbed, the last of these, and the history before that.
@@ -23,13 +23,13 @@ pub struct Accepted {
 pub struct Edition {
     pub live: Live,
     pub version: u64,
-    pub base: Beginning,
+    pub base: Prefix,
     pub last: Option<Request>,
 }
 
 impl Edition {
     /// No instance.
-    pub(crate) fn new(alloc: Global, base: Beginning) -> Result<Edition, AllocError>
+    pub(crate) fn new(alloc: Global, base: Prefix) -> Result<Edition, AllocError>
         requires { base.seen.log ≡ [] }
         ensures { IfOk result (λ e. IsAfter e [] × HasTrail e [] × (e.base ≡ base)) }
     {
@@ -42,7 +42,7 @@ impl Edition {
     }
 
     /// Whether it shows that what begins its history was absorbed.
-    pub(crate) fn shows(&self, learnt: &Beginning) -> bool
+    pub(crate) fn shows(&self, learnt: &Prefix) -> bool
         requires { self.now.base.seen.book ≡ learnt.now.seen.book }
         ensures value { result ≡ shows self.now learnt.now }
         ensures lists { OnTrue result ((now : _) → IsAfter self.now now → HasTrail self.now now

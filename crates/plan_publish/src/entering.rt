@@ -6,7 +6,7 @@ ghost use Rattle.plan_publish.specs.Edition.{shows};
 ghost use Rattle.plan_publish.specs.Holding.{Holds};
 
 use crate::edition::Edition;
-use crate::history::Beginning;
+use crate::history::Prefix;
 use crate::rule::{Entering, Published, Tests, View};
 use left_right::reader::{Reader, Reading};
 
@@ -18,7 +18,7 @@ pub(crate) type PlanReading = Reading<Edition, View, Published>;
 /// and so before the copy that is entered. But no contract of `left_right` says so.
 pub(crate) fn enter_with<J: Tests>(
     reader: PlanReader,
-    learnt: &Beginning,
+    learnt: &Prefix,
 ) -> Result<PlanReading, PlanReader>
     requires home { (view reader.place).home ≡ Some (key_of learnt.now.seen.book) }
     requires test { J.passes ≡ (λ e. shows e learnt.now) }

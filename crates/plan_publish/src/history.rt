@@ -1,4 +1,4 @@
-//! The history of all accepted requests, and its beginnings. It exists in contracts alone; what is stored of a beginning is how
+//! The history of all accepted requests, and its prefixes. It exists in contracts alone; what is stored of a prefix is how
 //! many requests it has and the newest of them.
 ghost use Rattle.std.specs.Prelude.{◌≡◌, ◌<◌, ◌≤◌, ◌++◌, ◌∷◌, [], ◌^◌, length, nat_le, None, MatchBool};
 ghost use Rattle.plan_publish.specs.Requests.{StartsWith, last_of};
@@ -7,7 +7,7 @@ ghost use Rattle.plan_publish.specs.History.{head_of};
 use logbook::{Gain, Offer, Plain, Play, Rule, Seen, Start, Word};
 use omci_msg::Request;
 
-/// The most requests that a beginning can have.
+/// The most requests that a prefix can have.
 const MOST: u64 = 1 << 62;
 
 /// The rule of the history.
@@ -60,9 +60,9 @@ impl Plain<Request, Request, u64> for Adds {
 /// The word of a history: how many requests it has.
 pub(crate) type Head = Word<Request, u64, Recorded>;
 
-/// A beginning of the history.
+/// A prefix of the history.
 #[derive(Drop)]
-pub struct Beginning {
+pub struct Prefix {
     len: u64,
     newest: Option<Request>,
     seen: Seen<Request, u64, Recorded>,
@@ -71,14 +71,14 @@ pub struct Beginning {
     ghost ends: { newest ≡ last_of seen.log },
 }
 
-/// A new history, and its empty beginning.
-pub(crate) fn new_history() -> (Head, Beginning)
+/// A new history, and its empty prefix.
+pub(crate) fn new_history() -> (Head, Prefix)
     ensures { (result.1.seen.log ≡ []) × (result.0 ≡ head_of result.1.seen.book) }
 {
     let (seen, mut first, _second) = Seen::open(Start::alone(), 0, 0);
     (
         Word::tracked(0, &mut first),
-        Beginning {
+        Prefix {
             len: 0,
             newest: None,
             seen,
@@ -86,7 +86,7 @@ pub(crate) fn new_history() -> (Head, Beginning)
     )
 }
 
-impl Beginning {
+impl Prefix {
     pub(crate) fn len(&self) -> u64
         ensures { (result ≡ self.now.len) × (result ≡ length self.now.seen.log)
             × (result ≤ 2 ^ 62) }
@@ -100,10 +100,10 @@ impl Beginning {
         self.newest
     }
 
-    pub(crate) fn again(&self) -> Beginning
+    pub(crate) fn again(&self) -> Prefix
         ensures { result ≡ self.now }
     {
-        Beginning {
+        Prefix {
             len: self.len,
             newest: self.newest,
             seen: self.seen.again(),
@@ -111,7 +111,7 @@ impl Beginning {
     }
 
     /// Whether it is no longer than another one of the same history, which then begins with it.
-    pub(crate) fn begins(&self, other: &Beginning) -> bool
+    pub(crate) fn begins(&self, other: &Prefix) -> bool
         requires { other.now.seen.book ≡ self.now.seen.book }
         ensures value { result ≡ nat_le self.now.len other.now.len }
         ensures lists { MatchBool result
@@ -157,7 +157,7 @@ impl Beginning {
         if found != len {
             return false;
         }
-        *self = Beginning {
+        *self = Prefix {
             len: len + 1,
             newest: Some(*request),
             seen,

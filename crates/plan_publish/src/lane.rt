@@ -7,7 +7,7 @@ ghost use Rattle.plan_publish.specs.History.{key_of};
 use crate::edition::Edition;
 use crate::entering::{PlanReader, enter_with};
 use crate::held::{Guard, Held};
-use crate::history::Beginning;
+use crate::history::Prefix;
 use crate::rule::{Published, View};
 use crate::told::Told;
 use left_right::reader::Reader;
@@ -20,22 +20,22 @@ pub struct Lane {
     pub(crate) reader: Option<Reader<Edition, View, Published>>,
     number: u16,
     // It begins with all that the lane learnt.
-    learnt: Beginning,
+    learnt: Prefix,
     ghost at_home: { ForSome reader (λ r. (view r.place).home ≡ Some (key_of learnt.seen.book)) },
 }
 
 impl Lane {
-    ghost use Rattle.std.specs.Prelude.{◌⊎◌, IfSome};
+    ghost use Rattle.std.specs.Prelude.{◌⊎◌, None, IfSome};
     ghost use Rattle.std.specs.Bool.{OnTrue};
     ghost use Rattle.std.specs.Borrow.{sem, RestsIfNone};
     ghost use Rattle.plan_publish.specs.Requests.{StartsWith};
     ghost use Rattle.plan_publish.specs.Told.{told_home, told_list};
-    ghost use Rattle.plan_publish.specs.Lane.{number_of, known_by, held_by, learnt_by, home_of, HeldBeginnings, IsSameLane, IsUnchanged};
+    ghost use Rattle.plan_publish.specs.Lane.{number_of, known_by, held_by, learnt_by, home_of, HasEntered, HasHeld, HeldPrefixes, IsSameLane, IsUnchanged};
     ghost use Rattle.plan_publish.specs.Holding.{Holds};
     ghost use Rattle.plan_publish.specs.Held.{held_entities, held_lane, held_lists, held_version};
     ghost use Rattle.plan_publish.specs.contracts.lane.Lane.{the_row};
 
-    pub(crate) fn new(reader: PlanReader, number: u16, learnt: Beginning) -> Lane
+    pub(crate) fn new(reader: PlanReader, number: u16, learnt: Prefix) -> Lane
         requires { (view reader.place).home ≡ Some (key_of learnt.seen.book) }
         ensures { (number_of result ≡ number) × (known_by result ≡ Some (view reader.place))
             × (result.learnt ≡ learnt) }
@@ -97,23 +97,36 @@ impl Lane {
         }
     }
 
-    /// Learns what was published, and says whether the lane, which enters for a moment, holds just that: then all that it held
-    /// before begins what was told. It is false where the lane can't enter, and where more was published meanwhile. It waits for
-    /// nobody, and takes no memory. The token has to come from the same `open`.
+    /// Learns what was published, and says whether the lane, which enters for a moment, holds just that. Then all lists that it held
+    /// before are prefixes of the token's. It is false where the lane can't enter, and where more was published meanwhile. It waits
+    /// for nobody, and takes no memory. The token has to come from the same `open`.
     pub fn confirm(&mut self, told: &Told) -> bool
         requires { told_home told.now ≡ home_of self.old }
-        ensures held { OnTrue result (HeldBeginnings (told_list told.now) self.old) }
+        ensures held { OnTrue result (HeldPrefixes (told_list told.now) self.old) }
+        ensures lists { (held_by self.new ≡ held_by self.old) ⊎ HasEntered self.old self.new }
         ensures told { StartsWith (learnt_by self.new) (told_list told.now) }
         ensures before { StartsWith (learnt_by self.new) (learnt_by self.old) }
+        ensures either { (learnt_by self.new ≡ told_list told.now)
+            ⊎ (learnt_by self.new ≡ learnt_by self.old) }
         ensures number { number_of self.new ≡ number_of self.old }
         ensures home { home_of self.new ≡ home_of self.old }
     {
         self.learn(told);
-        let Some(held) = self.enter() else {
-            return false;
-        };
+        match self.pass() {
+            Some(version) => version == told.version(),
+            None => false,
+        }
+    }
+
+    /// Enters, and leaves again. It gives the version that the lane held, or None where it can't enter.
+    fn pass(&mut self) -> Option<u64>
+        ensures same { IsSameLane self.old self.new }
+        ensures none { result ≡ None → held_by self.new ≡ held_by self.old }
+        ensures held { IfSome result (HasHeld self.old self.new) }
+    {
+        let held = self.enter()?;
         let version = held.version();
         held.leave();
-        version == told.version()
+        Some(version)
     }
 }

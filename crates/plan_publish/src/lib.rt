@@ -17,14 +17,14 @@
 //! are in.
 //!
 //! **What a lane may rely on.** All that it forwards while it is in, it forwards by one version, whatever is published
-//! meanwhile. That version never falls: its list begins with every list that the lane held before. A publish gives a [`Told`],
-//! which may be shared and told to any lane; a lane that has learnt it holds nothing that begins with less. If the number of
-//! what it then holds is that of the token, it holds just what was published.
+//! meanwhile. That version never falls: every list that the lane held before is a prefix of its list. A publish gives a token,
+//! [`Told`], which any lane may learn. A lane that has learnt it holds only lists of which the token's is a prefix. Where what it
+//! then holds has the token's number, it holds just what was published.
 //!
-//! **Lists in contracts alone.** What is published, held, told and learnt are lists of requests. No field stores them: they are
-//! what the seats at `left_right`'s table know, and the beginnings of one history of all accepted requests (`history`), of which
-//! are stored a length and the newest request. `specs/Rule.antt` has the rule that holds after each step, whoever takes it. And
-//! [`law_of_interleavings`] says, over definitions alone, what follows for every order of messages, publishes and lanes' steps.
+//! **Lists in contracts alone.** What is published, held, told and learnt are lists of requests. They are ghost state, and no field
+//! stores them: they are prefixes of one history of all accepted requests (`history`), of which a length and the newest request are
+//! stored. `specs/Rule.antt` has the rule that holds after each step, whoever takes it. [`law_of_interleavings`] says, over
+//! definitions alone, what follows for every order of messages, publishes and lanes' steps.
 #![tactic(auto)]
 
 mod control;

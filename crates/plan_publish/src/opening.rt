@@ -11,7 +11,7 @@ ghost use Rattle.plan_publish.specs.Shown.{Shows};
 use crate::control::Control;
 use crate::edition::Edition;
 use crate::fault::OpenFault;
-use crate::history::{Beginning, new_history};
+use crate::history::{Prefix, new_history};
 use crate::lane::Lane;
 use crate::publisher::{PlanWriter, Publisher, publish_now};
 use crate::rule::Notes;
@@ -24,7 +24,7 @@ use std::sync::Wait;
 const MOST_LANES: u16 = 16;
 
 /// A lane that knows which history it is of.
-fn make_lane(writer: &mut PlanWriter, number: u16, history: &Beginning) -> Result<Lane, AllocError>
+fn make_lane(writer: &mut PlanWriter, number: u16, history: &Prefix) -> Result<Lane, AllocError>
     requires { ((view writer.old.desk.place).home ≡ Some (key_of history.now.seen.book))
         × (history.now.seen.log ≡ []) }
     ensures lane { IfOk result (λ l. IsNew l number history.now.seen.book) }
@@ -42,7 +42,7 @@ fn make_lanes(
     writer: &mut PlanWriter,
     mut all: Vec<Lane>,
     lanes: u16,
-    history: &Beginning,
+    history: &Prefix,
 ) -> Result<Vec<Lane>, AllocError>
     requires room { (vec_len all ≡ 0) × (lanes ≤ vec_capacity all) }
     requires home { ((view writer.old.desk.place).home ≡ Some (key_of history.now.seen.book))
@@ -61,7 +61,7 @@ fn make_lanes(
 }
 
 /// A writer of two copies without an instance.
-fn new_writer(alloc: Global, history: &Beginning, lanes: u16) -> Result<PlanWriter, AllocError>
+fn new_writer(alloc: Global, history: &Prefix, lanes: u16) -> Result<PlanWriter, AllocError>
     requires lanes { (0 < lanes) × (lanes ≤ most_lanes) }
     requires history { history.now.seen.log ≡ [] }
     ensures stands { IfOk result (λ w. WriterStands w) }
@@ -80,7 +80,7 @@ fn with_lanes<R: Wait>(
     writer: PlanWriter,
     all: Vec<Lane>,
     lanes: u16,
-    history: &Beginning,
+    history: &Prefix,
 ) -> Result<(PlanWriter, Vec<Lane>), AllocError>
     requires stands { WriterStands writer }
     requires nothing { ((view writer.desk.place).published ≡ [])

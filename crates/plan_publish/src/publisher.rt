@@ -7,7 +7,7 @@ ghost use Rattle.plan_publish.specs.Edition.{requests_of};
 ghost use Rattle.plan_publish.specs.Publisher.{all_of, Stands, WriterStands};
 
 use crate::edition::{Accepted, Edition};
-use crate::history::{Beginning, Head};
+use crate::history::{Head, Prefix};
 use crate::rule::{Pending, Published, Publishing, View};
 use core::mem::replace_with;
 use left_right::writer::Writer;
@@ -23,7 +23,7 @@ pub(crate) struct Publisher {
     writer: PlanWriter,
     head: Head,
     /// The whole history.
-    history: Beginning,
+    history: Prefix,
     /// How many requests are accepted.
     accepted: u64,
 }
@@ -101,7 +101,7 @@ fn rule_out<R: Wait>(rt: &R, wrong: bool)
 }
 
 /// The history goes on where all accepted requests are known to be of it.
-fn follow(history: &mut Beginning, head: &Head, accepted: u64, request: &Request)
+fn follow(history: &mut Prefix, head: &Head, accepted: u64, request: &Request)
     requires { head.now ≡ head_of history.old.seen.book }
     ensures book { history.new.seen.book ≡ history.old.seen.book }
     ensures log { (all : _) → StartsWith all history.old.seen.log → accepted ≡ version_of all
@@ -113,7 +113,7 @@ fn follow(history: &mut Beginning, head: &Head, accepted: u64, request: &Request
 }
 
 impl Publisher {
-    pub(crate) fn new(writer: PlanWriter, head: Head, history: Beginning) -> Publisher
+    pub(crate) fn new(writer: PlanWriter, head: Head, history: Prefix) -> Publisher
         requires stands { Stands writer.desk.shown.value (view writer.desk.place) [] }
         requires nothing { ((view writer.desk.place).published ≡ [])
             × (drop writer.behind writer.log.items ≡ []) × (history.seen.log ≡ []) }
@@ -158,7 +158,7 @@ impl Publisher {
 
     /// Publishes all pending requests, and gives all that are published. It waits for lanes that hold the copy from before the
     /// last call.
-    pub(crate) fn publish<R: Wait>(&mut self, rt: &R) -> Beginning
+    pub(crate) fn publish<R: Wait>(&mut self, rt: &R) -> Prefix
         ensures published { self.new
             ≡ record self.old { published = all_of self.old; pending = [] } }
         ensures told { (result.seen.log ≡ all_of self.old) × (result.seen.book ≡ self.old.home) }

@@ -5,7 +5,6 @@ use Rattle.batch_reports.proofs.gathering.gather.Goals as goal
 pub returns-in-Ok-clause-counts : goal.returns-in-Ok-clause-counts
 returns-in-Ok-clause-counts c = record {
   figures = λ f. c.in-Ok.ensures.counts f ∙ figure_of_all f c.in-Ok.reports.items;
-  no_zeros = c.in-Ok.ensures.no_zeros;
 }
 
 pub returns-in-Err-clause-fault : goal.returns-in-Err-clause-fault

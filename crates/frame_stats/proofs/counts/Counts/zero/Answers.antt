@@ -2,5 +2,5 @@
 use Rattle.std.proofs.Common.{rules}
 use Rattle.frame_stats.proofs.counts.Counts.zero.Goals as goal
 
-pub returns-clause-zero : goal.returns-clause-zero
-returns-clause-zero c = search rules fits 30
+pub returns : goal.returns
+returns c = search rules fits 30

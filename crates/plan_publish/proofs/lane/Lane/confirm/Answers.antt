@@ -1,19 +1,36 @@
-use Rattle.std.proofs.Common.{◌≡◌, ◌∙◌, sym, subst, nat_eq}
+use Rattle.std.proofs.Common.{◌≡◌, ◌∙◌, sym, subst, nat_eq, inl, inr}
 use Rattle.std.proofs.lemmas.Bool.{OnTrue_from, eqb-true}
-use Rattle.plan_publish.specs.Requests.{StartsWithEach}
-use Rattle.plan_publish.specs.Lane.{HeldBeginnings, learnt_by}
+use Rattle.plan_publish.specs.Requests.{StartsWith, StartsWithEach}
+use Rattle.plan_publish.specs.Lane.{HeldPrefixes, learnt_by}
 use Rattle.plan_publish.specs.Told.{told_list}
 use Rattle.plan_publish.proofs.Confirming.{confirmed}
 use Rattle.plan_publish.proofs.lane.Lane.confirm.Goals as goal
 
-pub returns-clause-held : goal.returns-clause-held
-returns-clause-held c =
+pub returns-in-Some-clause-held : goal.returns-in-Some-clause-held
+returns-in-Some-clause-held c =
     let told = told_list c.args.told.now in
-    let found = c.version-version.result in
+    let found = c.in-Some.version in
     let wanted = c.version.result in
-    OnTrue_from (nat_eq found wanted) (HeldBeginnings told c.args.self.now) (λ same held is.
-    let h = c.in-Some.ensures.holds in
-    let lists : h.0 ≡ held = cc (sym h.1 ∙ c.learn.ensures.held ∙ is) in
-    let begins = confirmed told h.2.now (learnt_by c.learn.new.self) h.0 found wanted c.version.ensures.version c.version.ensures.small
-    (c.version-version.ensures ∙ h.2.version_is) h.2.begins_learnt c.learn.ensures.told h.2.begins_held (eqb-true found wanted same) in
+    let held = c.in-Some.ensures.held in
+    let one = held.entered in
+    let learns : StartsWith (learnt_by c.pass.new.self) told = rw c.pass.ensures.same.learnt c.learn.ensures.told in
+    OnTrue_from (nat_eq found wanted) (HeldPrefixes told c.args.self.now) (λ same all is.
+    let lists : one.lists ≡ all = cc (sym one.held_before ∙ c.learn.ensures.held ∙ is) in
+    let begins = confirmed told one.now (learnt_by c.pass.new.self) one.lists found wanted c.version.ensures.version c.version.ensures.small
+    held.version_is one.begins_learnt learns one.begins_held (eqb-true found wanted same) in
     subst (StartsWithEach told) lists begins)
+
+pub returns-in-Some-clause-lists : goal.returns-in-Some-clause-lists
+returns-in-Some-clause-lists c =
+    let one = c.in-Some.ensures.held.entered in
+    inr (record {
+      now = one.now;
+      lists = one.lists;
+      held_before = sym c.learn.ensures.held ∙ one.held_before;
+      held_after = one.held_after;
+      begins_held = one.begins_held;
+      begins_learnt = one.begins_learnt;
+    })
+
+pub returns-in-None-clause-lists : goal.returns-in-None-clause-lists
+returns-in-None-clause-lists c = inl (c.pass.ensures.none c.in-None.is ∙ c.learn.ensures.held)

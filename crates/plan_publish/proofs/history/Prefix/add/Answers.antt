@@ -4,7 +4,7 @@ use Rattle.plan_publish.specs.Requests.{last_of}
 use Rattle.plan_publish.proofs.Beginnings.{last_of-push}
 use Rattle.omci_msg.specs.declared.Request.{Request}
 use Rattle.plan_publish.proofs.Adding.{adds_moves}
-use Rattle.plan_publish.proofs.history.Beginning.add.Goals as goal
+use Rattle.plan_publish.proofs.history.Prefix.add.Goals as goal
 
 pub compare_exchange-found-requires : goal.compare_exchange-found-requires
 compare_exchange-found-requires c =

@@ -2,7 +2,7 @@ use Rattle.std.proofs.Common.{◌≤◌, ◌<◌, length, List, subst, ap, arith
 use mathlib.Core.List.{IsPrefix}
 use Rattle.omci_msg.specs.declared.Request.{Request}
 use Rattle.plan_publish.proofs.Beginnings.{shorter}
-use Rattle.plan_publish.proofs.history.Beginning.begins.Goals as goal
+use Rattle.plan_publish.proofs.history.Prefix.begins.Goals as goal
 
 pub returns-then-self-other-clause-lists : goal.returns-then-self-other-clause-lists
 returns-then-self-other-clause-lists c =
