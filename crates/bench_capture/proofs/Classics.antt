@@ -10,8 +10,8 @@ use Rattle.bench_capture.specs.Reading.{Reading, nothing_left, stopped, with_fra
 use Rattle.bench_capture.specs.Recorded.{Recorded}
 use Rattle.bench_capture.specs.Records.{HasFirst, IsRecord, WhyNoRecord, TooMany, Broken}
 use Rattle.bench_capture.specs.declared.classic.Records.{Records}
-use Rattle.bench_capture.specs.declared.fault.CaptureFault.{CaptureFault}
-use Rattle.bench_capture.specs.declared.fault.CaptureFault.TheVariants.{Torn}
+use Rattle.bench_capture.specs.declared.fault.CaptureFileFault.{CaptureFileFault}
+use Rattle.bench_capture.specs.declared.fault.CaptureFileFault.TheVariants.{Torn}
 use Rattle.bench_capture.specs.declared.span.Span.{Span}
 use Rattle.bench_capture.specs.declared.span.Taken.{Taken}
 use Rattle.capture.specs.Numbers.{number_in}
@@ -176,7 +176,7 @@ taken_reads old new bytes more taken is =
     by_frame (Some span) has left = ap (λ (first : Recorded). with_frame first left) (sym has.0)
 
 -- where no record can be taken, that is what there was
-pub faulty_reads : (old : Records) (bytes more : List ℕ) (fault : CaptureFault) → 0 < length bytes → WhyNoRecord old bytes fault → AreEnough 262160 bytes more
+pub faulty_reads : (old : Records) (bytes more : List ℕ) (fault : CaptureFileFault) → 0 < length bytes → WhyNoRecord old bytes fault → AreEnough 262160 bytes more
     → records_at old.order old.nanoseconds old.number (bytes ++ more) ≡ stopped fault
 faulty_reads old bytes more _ some (TooMany all) enough =
     let many : (old.number == 4294967295) ≡ true = eq-eqb old.number 4294967295 all in

@@ -3,7 +3,7 @@ use Rattle.std.proofs.Common.{◌≡◌, ℕ, List, [], ◌∷◌, ◌++◌, tak
 use Rattle.bench_capture.specs.Classic.{classic_of, records_at}
 use Rattle.bench_capture.specs.File.{reading_of}
 use Rattle.bench_capture.specs.Reading.{nothing_left, stopped}
-use Rattle.bench_capture.specs.declared.fault.CaptureFault.TheVariants.{Magic, Header, Link, Torn, TooLong}
+use Rattle.bench_capture.specs.declared.fault.CaptureFileFault.TheVariants.{Magic, Header, Link, Torn, TooLong}
 use Rattle.bench_pcapng.specs.Blocks.{order_of_block, whole_length}
 use Rattle.bench_pcapng.specs.Effects.{effect_of}
 use Rattle.bench_pcapng.specs.Interfaces.{interface_of, options_of}

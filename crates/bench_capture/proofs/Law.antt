@@ -7,7 +7,7 @@ use Rattle.bench_capture.specs.Faults.{of_classic}
 use Rattle.bench_capture.specs.File.{reading_of}
 use Rattle.bench_capture.specs.Reading.{Reading, nothing_left, stopped}
 use Rattle.bench_capture.specs.Recorded.{Recorded}
-use Rattle.bench_capture.specs.declared.fault.CaptureFault.TheVariants as faults_here
+use Rattle.bench_capture.specs.declared.fault.CaptureFileFault.TheVariants as faults_here
 use Rattle.bench_pcapng.specs.Reading.{is_pcapng}
 use Rattle.capture.specs.Records as classic
 use Rattle.capture.specs.declared.fault.CaptureFault.{CaptureFault}

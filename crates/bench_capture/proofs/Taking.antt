@@ -11,8 +11,8 @@ use Rattle.bench_capture.specs.Formats.{AreEnough, IsFaulty, IsTaken, IsWithin, 
 use Rattle.bench_capture.specs.Reading.{stopped, with_frame}
 use Rattle.bench_capture.specs.Records.{HasFirst, IsRecord, WhyNoRecord}
 use Rattle.bench_capture.specs.declared.classic.Records.{Records}
-use Rattle.bench_capture.specs.declared.fault.CaptureFault.{CaptureFault}
-use Rattle.bench_capture.specs.declared.fault.CaptureFault.TheVariants.{Header}
+use Rattle.bench_capture.specs.declared.fault.CaptureFileFault.{CaptureFileFault}
+use Rattle.bench_capture.specs.declared.fault.CaptureFileFault.TheVariants.{Header}
 use Rattle.bench_capture.specs.declared.format.Format.TheVariants.{Classic, Pcapng}
 use Rattle.bench_capture.specs.declared.span.Span.{Span}
 use Rattle.bench_capture.specs.declared.span.Taken.{Taken}
@@ -57,7 +57,7 @@ classic_taken old new bytes taken is = record {
     by_frame None has = absurd has
     by_frame (Some span) has = has.1
 
-pub classic_faulty : (old new : Records) (bytes : List ℕ) (fault : CaptureFault) → 0 < length bytes → WhyNoRecord old bytes fault × (new ≡ old)
+pub classic_faulty : (old new : Records) (bytes : List ℕ) (fault : CaptureFileFault) → 0 < length bytes → WhyNoRecord old bytes fault × (new ≡ old)
     → IsFaulty (Classic old) bytes fault (Classic new)
 classic_faulty old new bytes fault some why = record {
   same = ap (λ (known : Records). Classic known) why.1;
@@ -109,7 +109,7 @@ block_fails old bytes more fault some (inl none) is =
     ∙ fails_last old bytes fault some is
 block_fails old bytes more fault some (inr enough) is = fails_on old bytes more fault some enough is
 
-block_faulty_by : (old new : Progress) (bytes : List ℕ) (fault : PcapngFault) (told : CaptureFault) → 0 < length bytes
+block_faulty_by : (old new : Progress) (bytes : List ℕ) (fault : PcapngFault) (told : CaptureFileFault) → 0 < length bytes
     → (step_of (place_at old bytes) ≡ Fails fault) × (new ≡ old) → reading_in (pcapng.stopped fault) ≡ stopped told → IsFaulty (Pcapng (between old)) bytes told (Pcapng (between new))
 block_faulty_by old new bytes fault told some is same = record {
   same = ap (λ (known : Progress). Pcapng (between known)) is.1;
@@ -161,7 +161,7 @@ rest_taken old new passing bytes block is =
     by_packet None comes = tt
     by_packet (Some located) comes = comes.1.within
 
-rest_faulty_by : (old new : Progress) (passing : Passing) (bytes : List ℕ) (fault : PcapngFault) (told : CaptureFault) → (step_within old passing bytes ≡ Fails fault) × (new ≡ old)
+rest_faulty_by : (old new : Progress) (passing : Passing) (bytes : List ℕ) (fault : PcapngFault) (told : CaptureFileFault) → (step_within old passing bytes ≡ Fails fault) × (new ≡ old)
     → reading_in (pcapng.stopped fault) ≡ stopped told → IsFaulty (Pcapng (within old passing)) bytes told (Pcapng (within new passing))
 rest_faulty_by old new passing bytes fault told is same = record {
   same = ap (λ (known : Progress). Pcapng (within known passing)) is.1;

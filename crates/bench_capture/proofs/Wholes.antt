@@ -6,10 +6,10 @@ use Rattle.bench_capture.specs.File.{reading_in, reading_of}
 use Rattle.bench_capture.specs.Formats.{IsFaulty, IsTaken, Opens, Takes, frame_fault_of, reading_at, with_span}
 use Rattle.bench_capture.specs.Reading.{Reading, nothing_left, stopped}
 use Rattle.bench_capture.specs.declared.classic.Records.{Records}
-use Rattle.bench_capture.specs.declared.fault.CaptureFault.{CaptureFault}
-use Rattle.bench_capture.specs.declared.fault.CaptureFault.TheVariants.{Header, Torn}
-use Rattle.bench_capture.specs.declared.fault.FrameFault.{FrameFault}
-use Rattle.bench_capture.specs.declared.fault.FrameFault.TheVariants.{Capture, NoMemory}
+use Rattle.bench_capture.specs.declared.fault.CaptureFileFault.{CaptureFileFault}
+use Rattle.bench_capture.specs.declared.fault.CaptureFileFault.TheVariants.{Header, Torn}
+use Rattle.bench_capture.specs.declared.fault.NextFrameFault.{NextFrameFault}
+use Rattle.bench_capture.specs.declared.fault.NextFrameFault.TheVariants.{Capture, NoMemory}
 use Rattle.bench_capture.specs.declared.format.Format.{Format}
 use Rattle.bench_capture.specs.declared.format.Format.TheVariants.{Classic, Pcapng}
 use Rattle.bench_capture.specs.declared.span.Taken.{Taken}
@@ -26,7 +26,7 @@ pub whole_opened : (file : List ℕ) (format : Format) (size : ℕ) → Opens fi
 whole_opened file format size opens =
     ap (λ (left : List ℕ). reading_at format left) (sym (append-nil (drop size file))) ∙ sym (opens.2 []) ∙ ap (λ (all : List ℕ). reading_of all) (append-nil file)
 
-pub whole_faulty : (file : List ℕ) (fault : CaptureFault) → Opens file (Err fault) → reading_of file ≡ stopped fault
+pub whole_faulty : (file : List ℕ) (fault : CaptureFileFault) → Opens file (Err fault) → reading_of file ≡ stopped fault
 whole_faulty file fault opens = ap (λ (all : List ℕ). reading_of all) (sym (append-nil file)) ∙ opens [] (inl refl)
 
 pub whole_taken : (old new : Format) (bytes : List ℕ) (taken : Taken) → IsTaken old bytes taken new
@@ -35,11 +35,11 @@ whole_taken old new bytes taken is =
     ap (λ (all : List ℕ). reading_at old all) (sym (append-nil bytes)) ∙ is.reads []
     ∙ ap (λ (left : List ℕ). with_span bytes taken.frame (reading_at new left)) (append-nil (drop taken.length bytes))
 
-pub whole_fails : (old new : Format) (bytes : List ℕ) (fault : CaptureFault) → IsFaulty old bytes fault new → reading_at old bytes ≡ stopped fault
+pub whole_fails : (old new : Format) (bytes : List ℕ) (fault : CaptureFileFault) → IsFaulty old bytes fault new → reading_at old bytes ≡ stopped fault
 whole_fails old new bytes fault is = ap (λ (all : List ℕ). reading_at old all) (sym (append-nil bytes)) ∙ is.reads [] (inl refl)
 
 -- where nothing was taken, that is what is next
-pub fault_next : (old new : Format) (bytes : List ℕ) (fault : FrameFault) (all : Reading) → Takes old bytes (Err fault) new → reading_at old bytes ≡ all
+pub fault_next : (old new : Format) (bytes : List ℕ) (fault : NextFrameFault) (all : Reading) → Takes old bytes (Err fault) new → reading_at old bytes ≡ all
     → IsNext (Err fault) all (reading_at new bytes)
 fault_next old new bytes (Capture fault) all is same =
     (sym same ∙ whole_fails old new bytes fault is, ap (λ (format : Format). reading_at format bytes) is.same ∙ same)
@@ -59,13 +59,13 @@ pub between_none : (known : Progress) → reading_at (Pcapng (record { blocks = 
 between_none known = ap (λ (all : pcapng.Reading). reading_in all) (blocks.reading_none (pcapng.place_at known []) refl)
 
 -- a block that is passed over has the fault of one that is torn
-pub within_none : (known : Progress) (passing : Passing) (fault : CaptureFault) → frame_fault_of (fault_in passing.first known.number blocks_faults.Torn) ≡ Capture fault
+pub within_none : (known : Progress) (passing : Passing) (fault : CaptureFileFault) → frame_fault_of (fault_in passing.first known.number blocks_faults.Torn) ≡ Capture fault
     → reading_at (Pcapng (record { blocks = known; passing = Some passing })) [] ≡ stopped fault
 within_none known passing fault told = ap (λ (all : pcapng.Reading). reading_in all) (torn_rest known passing) ∙ by_first passing.first told
   where
     by_first : (first : Bool) → frame_fault_of (fault_in first known.number blocks_faults.Torn) ≡ Capture fault → reading_in (pcapng.stopped (fault_in first known.number blocks_faults.Torn)) ≡ stopped fault
-    by_first true same = let found : Header ≡ fault = cc in ap (λ (f : CaptureFault). stopped f) found
-    by_first false same = let found : Torn known.number ≡ fault = cc in ap (λ (f : CaptureFault). stopped f) found
+    by_first true same = let found : Header ≡ fault = cc in ap (λ (f : CaptureFileFault). stopped f) found
+    by_first false same = let found : Torn known.number ≡ fault = cc in ap (λ (f : CaptureFileFault). stopped f) found
 
 -- which isn't want of memory
 pub torn_is_fault : (first : Bool) (n : ℕ) → frame_fault_of (fault_in first n blocks_faults.Torn) ≡ NoMemory → ⊥

@@ -2,23 +2,23 @@
 use Rattle.std.specs.Prelude.{◌≡◌, ⊤, Bool, true, false, Option, Some, None, Result, Ok, Err, IsSome}
 use Rattle.bench_capture.specs.Reading.{Reading, nothing_left, stopped, with_frame}
 use Rattle.bench_capture.specs.Recorded.{Recorded}
-use Rattle.bench_capture.specs.declared.fault.CaptureFault.{CaptureFault}
-use Rattle.bench_capture.specs.declared.fault.FrameFault.{FrameFault}
-use Rattle.bench_capture.specs.declared.fault.FrameFault.TheVariants as frames
+use Rattle.bench_capture.specs.declared.fault.CaptureFileFault.{CaptureFileFault}
+use Rattle.bench_capture.specs.declared.fault.NextFrameFault.{NextFrameFault}
+use Rattle.bench_capture.specs.declared.fault.NextFrameFault.TheVariants as frames
 use Rattle.bench_capture.specs.declared.fault.ReadFault.{ReadFault}
 use Rattle.bench_capture.specs.declared.fault.ReadFault.TheVariants.{Capture, Unreadable, NoMemory}
 
 -- ---- a file in memory
 
 -- what the opening of a file gives, of all that there is to be read: all of it, or the fault that its beginning has
-abbrev pub IsOpened : Reading → Result Reading CaptureFault → Type 0
+abbrev pub IsOpened : Reading → Result Reading CaptureFileFault → Type 0
 IsOpened all (Ok left) = left ≡ all
 IsOpened all (Err fault) = all ≡ stopped fault
 
 -- what the next call gives, of what was left to be read, and what is left then: the first frame and those behind it; nothing, where
 -- no frame and no fault is left; or the fault that is left behind the last frame. Where nothing or a fault comes, as much is left as
 -- before, and so it is where memory is wanting.
-abbrev pub IsNext : Result (Option Recorded) FrameFault → Reading → Reading → Type 0
+abbrev pub IsNext : Result (Option Recorded) NextFrameFault → Reading → Reading → Type 0
 IsNext (Ok None) old new = (old ≡ nothing_left) × (new ≡ old)
 IsNext (Ok (Some frame)) old new = old ≡ with_frame frame new
 IsNext (Err (frames.Capture fault)) old new = (old ≡ stopped fault) × (new ≡ old)

@@ -4,7 +4,7 @@ use Rattle.std.specs.Prelude.{ℕ, zero, suc, ◌+◌, ◌*◌, ◌^◌, Bool, L
 use Rattle.bench_capture.specs.Faults.{at_record, of_classic}
 use Rattle.bench_capture.specs.Reading.{Reading, nothing_left, stopped, with_frame}
 use Rattle.bench_capture.specs.Recorded.{Recorded}
-use Rattle.bench_capture.specs.declared.fault.CaptureFault.TheVariants.{Torn}
+use Rattle.bench_capture.specs.declared.fault.CaptureFileFault.TheVariants.{Torn}
 use Rattle.capture.specs.Numbers.{number_in}
 use Rattle.capture.specs.Records.{behind_first, first_frame, header_of, record_fault}
 use Rattle.capture.specs.declared.fault.CaptureFault as classic

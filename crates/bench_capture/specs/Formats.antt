@@ -4,17 +4,17 @@ use Rattle.bench_capture.specs.Classic.{records_at}
 use Rattle.bench_capture.specs.File.{reading_in, reading_of}
 use Rattle.bench_capture.specs.Reading.{Reading, nothing_left, stopped, with_frame}
 use Rattle.bench_capture.specs.Recorded.{Recorded}
-use Rattle.bench_capture.specs.declared.fault.CaptureFault.{CaptureFault}
-use Rattle.bench_capture.specs.declared.fault.CaptureFault.TheVariants.{Header, Link, Torn, TooLong}
-use Rattle.bench_capture.specs.declared.fault.FrameFault.{FrameFault}
-use Rattle.bench_capture.specs.declared.fault.FrameFault.TheVariants.{Capture, NoMemory}
+use Rattle.bench_capture.specs.declared.fault.CaptureFileFault.{CaptureFileFault}
+use Rattle.bench_capture.specs.declared.fault.CaptureFileFault.TheVariants.{Header, Link, Torn, TooLong}
+use Rattle.bench_capture.specs.declared.fault.NextFrameFault.{NextFrameFault}
+use Rattle.bench_capture.specs.declared.fault.NextFrameFault.TheVariants.{Capture, NoMemory}
 use Rattle.bench_capture.specs.declared.format.Format.{Format}
 use Rattle.bench_capture.specs.declared.format.Format.TheVariants.{Classic, Pcapng}
 use Rattle.bench_capture.specs.declared.span.Gap.{Gap}
 use Rattle.bench_capture.specs.declared.span.Span.{Span}
 use Rattle.bench_capture.specs.declared.span.Taken.{Taken}
 use Rattle.bench_pcapng.specs.Blocks.{wanted_length}
-use Rattle.bench_pcapng.specs.Passing.{going_on, inside_of, kept_of, letting_of, passing_of}
+use Rattle.bench_pcapng.specs.Passing.{going_on, inside_of, kept_of, letting_of, passing_of, shown_length}
 use Rattle.bench_pcapng.specs.Reading as pcapng
 use Rattle.bench_pcapng.specs.Reading.{Progress}
 use Rattle.bench_pcapng.specs.declared.blocks.Block.{Block}
@@ -31,7 +31,7 @@ reading_at (Classic records) bytes = records_at records.order records.nanosecond
 reading_at (Pcapng pieces) bytes = reading_in (going_on pieces.blocks pieces.passing bytes)
 
 -- what is left where a file ends: nothing, or the fault that it has there
-abbrev pub ended_by : Option CaptureFault → Reading
+abbrev pub ended_by : Option CaptureFileFault → Reading
 ended_by None = nothing_left
 ended_by (Some fault) = stopped fault
 
@@ -84,19 +84,19 @@ pub record IsTaken (old : Format) (bytes : List ℕ) (taken : Taken) (new : Form
   pub reads : (more : List ℕ) → reading_at old (bytes ++ more) ≡ with_span bytes taken.frame (reading_at new (drop taken.length bytes ++ more))
 
 -- a record or block that has this fault, if the bytes are enough to show it
-pub record IsFaulty (old : Format) (bytes : List ℕ) (fault : CaptureFault) (new : Format) : Type 0 where
+pub record IsFaulty (old : Format) (bytes : List ℕ) (fault : CaptureFileFault) (new : Format) : Type 0 where
   pub same : new ≡ old
   pub reads : (more : List ℕ) → AreEnough (wanted_of old bytes) bytes more → reading_at old (bytes ++ more) ≡ stopped fault
 
 -- what taking a record or a block from the front of the bytes gives
-abbrev pub Takes : Format → List ℕ → Result Taken FrameFault → Format → Type 0
+abbrev pub Takes : Format → List ℕ → Result Taken NextFrameFault → Format → Type 0
 Takes old bytes (Ok taken) new = IsTaken old bytes taken new
 Takes old bytes (Err (Capture fault)) new = IsFaulty old bytes fault new
 Takes old bytes (Err NoMemory) new = new ≡ old
 
 -- what the beginning of a file is: so many bytes, behind which the rest of it goes on; or it has a fault, if the bytes are enough
 -- to show it
-abbrev pub Opens : List ℕ → Result (Format × ℕ) CaptureFault → Type 0
+abbrev pub Opens : List ℕ → Result (Format × ℕ) CaptureFileFault → Type 0
 Opens file (Ok (format, size)) = (size ≤ length file) × (blocks_read format ≤ size)
     × ((more : List ℕ) → reading_of (file ++ more) ≡ reading_at format (drop size file ++ more))
 Opens file (Err fault) = (more : List ℕ) → AreEnough (wanted_to_open file) file more → reading_of (file ++ more) ≡ stopped fault
@@ -134,7 +134,7 @@ FewKept (Pcapng pieces) = IfSome pieces.passing (λ passing. kept_of passing.out
 
 -- the bytes are few, or show whether the next record or block has a fault
 abbrev pub IsHeld : Format → List ℕ → Type 0
-IsHeld format bytes = (wanted_of format bytes ≤ length bytes) ⊎ (length bytes < 262176)
+IsHeld format bytes = (wanted_of format bytes ≤ length bytes) ⊎ (length bytes < shown_length)
 
 -- what is known within a first block that the bytes don't hold all of, without those that are let go
 abbrev pub OpensLong : List ℕ → Option (Format × Gap) → Type 0
@@ -156,7 +156,7 @@ span_of located = record {
 abbrev pub taken_of : Block → Taken
 taken_of block = record { length = block.length; frame = option_map span_of block.packet }
 
-abbrev pub frame_fault_of : PcapngFault → FrameFault
+abbrev pub frame_fault_of : PcapngFault → NextFrameFault
 frame_fault_of faults.Header = Capture Header
 frame_fault_of (faults.Link link) = Capture (Link link)
 frame_fault_of (faults.Torn n) = Capture (Torn n)

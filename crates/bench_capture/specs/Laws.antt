@@ -3,7 +3,7 @@ use Rattle.std.specs.Prelude.{◌≡◌, true, false, List, ℕ, Some, None, Ok,
 use Rattle.bench_capture.specs.Faults.{number_of_fault, of_classic}
 use Rattle.bench_capture.specs.File.{reading_of}
 use Rattle.bench_capture.specs.Recorded.{recorded_of}
-use Rattle.bench_capture.specs.declared.fault.CaptureFault as here
+use Rattle.bench_capture.specs.declared.fault.CaptureFileFault as here
 use Rattle.bench_pcapng.specs.Fault as numbers
 use Rattle.bench_pcapng.specs.Reading as pcapng
 use Rattle.bench_pcapng.specs.Reading.{is_pcapng}
@@ -24,4 +24,4 @@ pub record PcapngIsRead : Type 0 where
   pub frames : (file : List ℕ) → is_pcapng file ≡ true → (reading_of file).frames ≡ map recorded_of (pcapng.reading_of file).packets
   pub sound : (file : List ℕ) → is_pcapng file ≡ true → (pcapng.reading_of file).fault ≡ None → (reading_of file).fault ≡ None
   pub faulty : (file : List ℕ) (fault : PcapngFault) → is_pcapng file ≡ true → (pcapng.reading_of file).fault ≡ Some fault
-      → (found : here.CaptureFault) × ((reading_of file).fault ≡ Some found) × (number_of_fault found ≡ numbers.number_of_fault fault)
+      → (found : here.CaptureFileFault) × ((reading_of file).fault ≡ Some found) × (number_of_fault found ≡ numbers.number_of_fault fault)

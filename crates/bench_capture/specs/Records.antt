@@ -4,8 +4,8 @@ use Rattle.bench_capture.specs.Classic.{first_recorded}
 use Rattle.bench_capture.specs.Faults.{at_record}
 use Rattle.bench_capture.specs.Formats.{IsWithin, recorded_at}
 use Rattle.bench_capture.specs.declared.classic.Records.{Records}
-use Rattle.bench_capture.specs.declared.fault.CaptureFault.{CaptureFault}
-use Rattle.bench_capture.specs.declared.fault.CaptureFault.TheVariants.{Torn}
+use Rattle.bench_capture.specs.declared.fault.CaptureFileFault.{CaptureFileFault}
+use Rattle.bench_capture.specs.declared.fault.CaptureFileFault.TheVariants.{Torn}
 use Rattle.bench_capture.specs.declared.span.Span.{Span}
 use Rattle.bench_capture.specs.declared.span.Taken.{Taken}
 use Rattle.capture.specs.Records.{behind_first, record_fault}
@@ -27,11 +27,11 @@ pub record IsRecord (old : Records) (bytes : List ℕ) (taken : Taken) (new : Re
   pub counted : new ≡ record old { number = old.number + 1 }
 
 -- there are too many records, or the one at the front has a fault
-pub data WhyNoRecord (old : Records) (bytes : List ℕ) : CaptureFault → Type 0 where
+pub data WhyNoRecord (old : Records) (bytes : List ℕ) : CaptureFileFault → Type 0 where
   TooMany : old.number ≡ 4294967295 → WhyNoRecord old bytes (Torn old.number)
   Broken : (fault : RecordFault) → ((old.number ≡ 4294967295) → ⊥) → record_fault old.order bytes ≡ Some fault
       → WhyNoRecord old bytes (at_record old.number fault)
 
-abbrev pub TakesRecord : Records → List ℕ → Result Taken CaptureFault → Records → Type 0
+abbrev pub TakesRecord : Records → List ℕ → Result Taken CaptureFileFault → Records → Type 0
 TakesRecord old bytes (Ok taken) new = IsRecord old bytes taken new
 TakesRecord old bytes (Err fault) new = WhyNoRecord old bytes fault × (new ≡ old)

@@ -1,14 +1,14 @@
 //! The records of a capture in the classic format.
 ghost use Rattle.std.specs.Prelude.{◌≡◌, ◌≤◌, length};
 ghost use Rattle.bench_capture.specs.Classic.{has_nanoseconds, nanoseconds_of};
-ghost use Rattle.bench_capture.specs.Faults.{at_record, of_classic};
+ghost use Rattle.bench_capture.specs.Faults.{at_record};
 
-use crate::fault::CaptureFault;
+use crate::fault::CaptureFileFault;
 use crate::span::{Span, Taken};
 use capture::{Order, RecordFault, split_record};
 
 /// How many bytes stand before those that a record stores.
-const RECORD_HEADER_LEN: usize = 16;
+pub(crate) const RECORD_HEADER_LEN: usize = 16;
 
 /// The magic number of a file whose times are in nanoseconds.
 const NANOSECONDS_MAGIC: u32 = 0xa1b2_3c4d;
@@ -48,25 +48,12 @@ fn nanoseconds_of(nanoseconds: bool, seconds: u32, fraction: u32) -> u64
 }
 
 /// The fault of a file whose record of this number has one.
-pub(crate) fn fault_at(number: u32, fault: RecordFault) -> CaptureFault
+pub(crate) fn fault_at(number: u32, fault: RecordFault) -> CaptureFileFault
     ensures { result ≡ at_record number fault }
 {
     match fault {
-        RecordFault::Torn => CaptureFault::Torn(u64::from(number)),
-        RecordFault::TooLong => CaptureFault::TooLong(u64::from(number)),
-    }
-}
-
-/// The same fault of a capture in either format.
-pub(crate) fn of_classic(fault: capture::CaptureFault) -> CaptureFault
-    ensures { result ≡ of_classic fault }
-{
-    match fault {
-        capture::CaptureFault::Magic => CaptureFault::Magic,
-        capture::CaptureFault::Header => CaptureFault::Header,
-        capture::CaptureFault::Link(link) => CaptureFault::Link(link),
-        capture::CaptureFault::Torn(number) => CaptureFault::Torn(u64::from(number)),
-        capture::CaptureFault::TooLong(number) => CaptureFault::TooLong(u64::from(number)),
+        RecordFault::Torn => CaptureFileFault::Torn(u64::from(number)),
+        RecordFault::TooLong => CaptureFileFault::TooLong(u64::from(number)),
     }
 }
 
@@ -75,12 +62,12 @@ impl Records {
     ghost use Rattle.bench_capture.specs.Records.{TakesRecord};
 
     /// Takes the record at the front of the bytes. Err where it has a fault.
-    pub(crate) fn take(&mut self, bytes: &[u8]) -> Result<Taken, CaptureFault>
+    pub(crate) fn take(&mut self, bytes: &[u8]) -> Result<Taken, CaptureFileFault>
         requires { 0 < length bytes.now }
         ensures { TakesRecord self.old bytes.now result self.new }
     {
         if self.number == u32::MAX {
-            return Err(CaptureFault::Torn(u64::from(self.number)));
+            return Err(CaptureFileFault::Torn(u64::from(self.number)));
         }
         let (frame, behind) = match split_record(self.order, bytes) {
             Ok(parts) => parts,

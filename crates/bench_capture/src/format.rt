@@ -3,16 +3,16 @@ ghost use Rattle.std.specs.Prelude.{◌≡◌, IfOk, false};
 ghost use Rattle.bench_capture.specs.Formats.{FewKept, Opens, wanted_to_open};
 ghost use Rattle.bench_pcapng.specs.Reading.{is_pcapng};
 
-use crate::classic::{Records, has_nanoseconds, of_classic};
-use crate::fault::{CaptureFault, FrameFault};
+use crate::classic::{RECORD_HEADER_LEN, Records, has_nanoseconds};
+use crate::fault::{CaptureFileFault, NextFrameFault};
 use crate::pieces::Pieces;
 use crate::span::{Gap, Taken};
 use bench_pcapng::{Blocks, is_pcapng};
-use capture::{HEADER_LEN, read_header};
+use capture::{HEADER_LEN, STORED_LIMIT, read_header};
 use std::alloc::Global;
 
 /// The most bytes that a record has.
-const MOST_RECORD: usize = 16 + 262_144;
+const MOST_RECORD: usize = RECORD_HEADER_LEN + STORED_LIMIT as usize;
 
 /// What is known of a capture between two records or blocks.
 #[derive(Drop)]
@@ -35,7 +35,7 @@ pub(crate) fn wanted_to_open(file: &[u8]) -> usize
 }
 
 /// What is known of a capture in the classic format behind its header, and how many bytes that has.
-fn open_classic(file: &[u8]) -> Result<(Format, usize), CaptureFault>
+fn open_classic(file: &[u8]) -> Result<(Format, usize), CaptureFileFault>
     requires { is_pcapng file.now ≡ false }
     ensures opens { Opens file.now result }
     ensures kept { IfOk result (λ parts. FewKept parts.0) }
@@ -49,16 +49,17 @@ fn open_classic(file: &[u8]) -> Result<(Format, usize), CaptureFault>
             };
             Ok((Format::Classic(records), HEADER_LEN))
         }
-        Err(fault) => Err(of_classic(fault)),
+        Err(fault) => Err(CaptureFileFault::from(fault)),
     }
 }
 
 impl Format {
     ghost use Rattle.std.specs.Prelude.{◌≡◌, ◌⊎◌, ◌↔◌, ◌≤◌, ◌<◌, ◌-◌, ◌^◌, [], IfOk, IsTrue, None, false, length};
+    ghost use Rattle.bench_pcapng.specs.Passing.{shown_length};
     ghost use Rattle.bench_capture.specs.Formats.{FewKept, IsHeld, LetsGo, Opens, OpensLong, Takes, blocks_read, ended_by, is_within, reading_at, wanted_of, wanted_to_open};
 
     /// What is known of a capture behind its beginning, and how many bytes that has. Err where it has a fault.
-    pub(crate) fn open(alloc: Global, file: &[u8]) -> Result<(Format, usize), CaptureFault>
+    pub(crate) fn open(alloc: Global, file: &[u8]) -> Result<(Format, usize), CaptureFileFault>
         ensures opens { Opens file.now result }
         ensures kept { IfOk result (λ parts. FewKept parts.0) }
     {
@@ -73,15 +74,15 @@ impl Format {
                 };
                 Ok((Format::Pcapng(pieces), length))
             }
-            None => Err(CaptureFault::Header),
+            None => Err(CaptureFileFault::Header),
         }
     }
 
-    /// What is known of a capture within its first block, which these bytes don't hold all of, and which of them are let go. None where
-    /// none can be: then they are few, or show whether the beginning has a fault.
+    /// What is known of a capture within its first block, which is incomplete, and the part of it that can be discarded. `None`: under
+    /// 262,176 bytes are held, or they show whether the file's start has a fault.
     pub(crate) fn open_long(alloc: Global, file: &[u8]) -> Option<(Format, Gap)>
         ensures opens { OpensLong file.now result }
-        ensures held { result ≡ None → wanted_to_open file.now ≤ length file.now ⊎ length file.now < 262176 }
+        ensures held { result ≡ None → wanted_to_open file.now ≤ length file.now ⊎ length file.now < shown_length }
     {
         let (known, past) = Blocks::pass_over_first(alloc, file)?;
         let pieces = Pieces {
@@ -116,7 +117,7 @@ impl Format {
     }
 
     /// The fault of a file that ends here, where that isn't between two records or blocks.
-    pub(crate) fn fault_at_end(&self) -> Option<CaptureFault>
+    pub(crate) fn fault_at_end(&self) -> Option<CaptureFileFault>
         ensures { reading_at self.now [] ≡ ended_by result }
     {
         match self {
@@ -125,7 +126,7 @@ impl Format {
         }
     }
 
-    /// Which of these bytes, which don't hold all of a block, can be let go. None where none of them can be: then there are few of them.
+    /// The part of an incomplete block that can be discarded. `None`: under 262,176 bytes are held.
     pub(crate) fn let_go(&mut self, bytes: &[u8]) -> Option<Gap>
         ensures goes { LetsGo self.old bytes.now result self.new }
         ensures kept { FewKept self.old → FewKept self.new }
@@ -148,7 +149,7 @@ impl Format {
     }
 
     /// Takes the record or block at the front of the bytes. Err where it has a fault, or there is no memory for an interface.
-    pub(crate) fn take(&mut self, bytes: &[u8]) -> Result<Taken, FrameFault>
+    pub(crate) fn take(&mut self, bytes: &[u8]) -> Result<Taken, NextFrameFault>
         requires some { 0 < length bytes.now }
         requires few { blocks_read self.old < 2 ^ 64 - 1 }
         ensures takes { Takes self.old bytes.now result self.new }
@@ -157,7 +158,7 @@ impl Format {
         match self {
             Format::Classic(records) => match records.take(bytes) {
                 Ok(taken) => Ok(taken),
-                Err(fault) => Err(FrameFault::Capture(fault)),
+                Err(fault) => Err(NextFrameFault::Capture(fault)),
             },
             Format::Pcapng(pieces) => pieces.take(bytes),
         }

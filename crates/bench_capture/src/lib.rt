@@ -5,7 +5,7 @@
 //! first four bytes, `0a 0d 0d 0a`, and is read as `bench_pcapng` defines it; any other is read as `capture` does.
 //! [`law_of_classic_captures`] and [`law_of_pcapng_captures`] tie the definitions to theirs.
 //!
-//! **From a slice.** [`Frames`] gives one frame after the other, each as a slice of the file.
+//! **From a slice.** [`CaptureFrames`] gives one frame after the other, each as a slice of the file.
 //!
 //! **From a reader.** [`FrameReader`] reads a file in pieces, into one buffer of 512 KB that is used again and never grows: every record
 //! of the classic format fits in it. A frame is a slice of the buffer. A block of the pcapng format that is longer than 262,176 bytes
@@ -26,8 +26,8 @@ mod span;
 mod turn;
 mod window;
 
-pub use fault::{CaptureFault, FrameFault, ReadFault};
-pub use frames::Frames;
+pub use fault::{CaptureFileFault, NextFrameFault, ReadFault};
+pub use frames::CaptureFrames;
 pub use laws::{law_of_classic_captures, law_of_pcapng_captures};
 pub use reader::FrameReader;
 pub use recorded::RecordedFrame;

@@ -2,7 +2,7 @@
 ghost use Rattle.std.specs.Prelude.{◌≡◌};
 ghost use Rattle.bench_capture.specs.Formats.{frame_fault_of, taken_of};
 
-use crate::fault::{CaptureFault, FrameFault};
+use crate::fault::{CaptureFileFault, NextFrameFault};
 use crate::span::{Gap, Span, Taken};
 use bench_pcapng::{Block, Blocks, Passing, Past, PcapngFault};
 
@@ -33,15 +33,15 @@ fn taken_of(block: &Block<'_>) -> Taken
 }
 
 /// The same fault of a capture in either format.
-fn of_pcapng(fault: PcapngFault) -> FrameFault
+fn of_pcapng(fault: PcapngFault) -> NextFrameFault
     ensures { result ≡ frame_fault_of fault }
 {
     match fault {
-        PcapngFault::Header => FrameFault::Capture(CaptureFault::Header),
-        PcapngFault::Link(link) => FrameFault::Capture(CaptureFault::Link(link)),
-        PcapngFault::Torn(number) => FrameFault::Capture(CaptureFault::Torn(number)),
-        PcapngFault::TooLong(number) => FrameFault::Capture(CaptureFault::TooLong(number)),
-        PcapngFault::NoMemory => FrameFault::NoMemory,
+        PcapngFault::Header => NextFrameFault::Capture(CaptureFileFault::Header),
+        PcapngFault::Link(link) => NextFrameFault::Capture(CaptureFileFault::Link(link)),
+        PcapngFault::Torn(number) => NextFrameFault::Capture(CaptureFileFault::Torn(number)),
+        PcapngFault::TooLong(number) => NextFrameFault::Capture(CaptureFileFault::TooLong(number)),
+        PcapngFault::NoMemory => NextFrameFault::NoMemory,
     }
 }
 
@@ -61,14 +61,14 @@ impl Pieces {
     }
 
     /// The fault of a file that ends here, where that is within a block.
-    pub(crate) fn fault_at_end(&self) -> Option<CaptureFault>
+    pub(crate) fn fault_at_end(&self) -> Option<CaptureFileFault>
         ensures { reading_at (Pcapng self.now) [] ≡ ended_by result }
     {
         match self.passing {
             None => None,
             Some(passing) => match of_pcapng(self.blocks.torn(passing)) {
-                FrameFault::Capture(fault) => Some(fault),
-                FrameFault::NoMemory => None,
+                NextFrameFault::Capture(fault) => Some(fault),
+                NextFrameFault::NoMemory => None,
             },
         }
     }
@@ -84,7 +84,7 @@ impl Pieces {
         }
     }
 
-    /// Which of these bytes, which don't hold all of a block, can be let go. None where none of them can be: then there are few of them.
+    /// The part of an incomplete block that can be discarded. `None`: under 262,176 bytes are held.
     pub(crate) fn let_go(&mut self, bytes: &[u8]) -> Option<Gap>
         ensures goes { LetsGo (Pcapng self.old) bytes.now result (Pcapng self.new) }
         ensures kept { FewKept (Pcapng self.old) → FewKept (Pcapng self.new) }
@@ -99,7 +99,7 @@ impl Pieces {
     }
 
     /// Takes the block at the front of the bytes.
-    fn read(&mut self, bytes: &[u8]) -> Result<Taken, FrameFault>
+    fn read(&mut self, bytes: &[u8]) -> Result<Taken, NextFrameFault>
         requires some { 0 < length bytes.now }
         requires few { self.old.blocks.number < 2 ^ 64 - 1 }
         requires between { self.old.passing ≡ None }
@@ -114,7 +114,7 @@ impl Pieces {
 
     /// Takes the block at the front of the bytes, or the rest of one that is passed over. Err where it has a fault, or there is no memory
     /// for an interface.
-    pub(crate) fn take(&mut self, bytes: &[u8]) -> Result<Taken, FrameFault>
+    pub(crate) fn take(&mut self, bytes: &[u8]) -> Result<Taken, NextFrameFault>
         requires some { 0 < length bytes.now }
         requires few { self.old.blocks.number < 2 ^ 64 - 1 }
         ensures takes { Takes (Pcapng self.old) bytes.now result (Pcapng self.new) }

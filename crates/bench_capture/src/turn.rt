@@ -1,10 +1,11 @@
 //! One turn of reading on: a record or a block is taken from the bytes that are held, or more bytes are wanted.
 ghost use Rattle.std.specs.Prelude.{◌≡◌, ◌<◌, [], false, true, List, ℕ, Ok, length};
+ghost use Rattle.bench_pcapng.specs.Passing.{shown_length};
 ghost use Rattle.bench_capture.specs.Formats.{FewKept};
 ghost use Rattle.bench_capture.specs.Windows.{IsTurn, held};
 ghost use Rattle.bench_capture.specs.declared.window.Window.{Window};
 
-use crate::fault::{FrameFault, ReadFault};
+use crate::fault::{NextFrameFault, ReadFault};
 use crate::format::Format;
 use crate::span::Span;
 use crate::window::Window;
@@ -49,7 +50,7 @@ pub(crate) fn take_turn(
         → IsTurn format.old window.old rest result format.new window.new }
     ensures wants { result ≡ Ok Turn.Wants → ended ≡ false }
     ensures kept { FewKept format.new }
-    ensures room { result ≡ Ok Turn.Wants → length (held window.new) < 262176 }
+    ensures room { result ≡ Ok Turn.Wants → length (held window.new) < shown_length }
 {
     let bytes = window.as_slice();
     if bytes.is_empty() {
@@ -70,8 +71,8 @@ pub(crate) fn take_turn(
                 None => Turn::Passed,
             })
         }
-        Err(FrameFault::NoMemory) => Err(ReadFault::NoMemory),
-        Err(FrameFault::Capture(fault)) => {
+        Err(NextFrameFault::NoMemory) => Err(ReadFault::NoMemory),
+        Err(NextFrameFault::Capture(fault)) => {
             if ended || format.is_enough(bytes) {
                 return Err(ReadFault::Capture(fault));
             }

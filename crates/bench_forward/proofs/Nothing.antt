@@ -8,7 +8,8 @@ use Rattle.frame_stats.specs.Figures.{Figure, Frames, Bytes, DropsFor, FramesTo,
 use Rattle.frame_meaning.specs.Reason.{number_of_reason}
 use Rattle.bench_forward.specs.Dropped.{none_dropped, numbers_of}
 use Rattle.bench_forward.specs.declared.dropped.Dropped.{Dropped}
-use Rattle.bench_forward.specs.Rows.{AreWithin, DropsAreWithin, reason_count}
+use Rattle.bench_forward.specs.Rows.{AreWithin, DropsAreWithin}
+use Rattle.frame_meaning.specs.Reason.{reason_count}
 use Rattle.bench_forward.specs.Totals.{AreTotals, dropped_at, shown}
 use Rattle.bench_forward.specs.declared.totals.Totals.{Totals}
 

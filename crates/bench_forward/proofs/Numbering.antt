@@ -11,7 +11,8 @@ use Rattle.std.proofs.lemmas.List.Folds.{Any-from_list_any}
 use Rattle.std.proofs.lemmas.List.Quantifiers.{position-Some}
 use Rattle.std.proofs.lemmas.Map.Keys.{IsDistinct-from_apart}
 use Rattle.std.proofs.lemmas.Map.Steps.{length-le_from_distinct_below}
-use Rattle.bench_forward.specs.Interfaces.{AreNumbersOf, gem_ports}
+use Rattle.frame_stats.specs.Figures.{gem_ports}
+use Rattle.bench_forward.specs.Interfaces.{AreNumbersOf}
 use Rattle.bench_forward.specs.Packets.{interface_of}
 
 -- ---- where a GEM port stands

@@ -1,8 +1,8 @@
 -- What is kept from one frame to the next, and how the frames end.
-use Rattle.std.proofs.Common.{◌≡◌, ◌<◌, ℕ, ◌+◌, true, List, [], ◌∷◌, ◌++◌, length, take, Option, Some, None, Ok, Err, refl, sym, ap, ◌∙◌, arith, subst, append_assoc, length-append}
+use Rattle.std.proofs.Common.{◌≡◌, ◌<◌, ℕ, ◌+◌, true, List, [], ◌∷◌, ◌++◌, length, take, Option, Some, None, Ok, Err, refl, sym, ap, ◌∙◌, arith, subst, append_assoc, length-append, inl, inr}
 use Rattle.std.specs.Prelude.{IfSome}
 use Rattle.std.specs.Io.KnownBytes.{Appends}
-use Rattle.std.proofs.KnownBytes.{Appends-kept, Appends-nil, Appends-trans}
+use Rattle.std.proofs.KnownBytes.{Appends-kept, Appends-nil, Appends-trans, Keeps-refl}
 use Rattle.std.proofs.Math.Seq.{take-append_seam}
 use Rattle.std.proofs.lemmas.List.{append-nil, length-map, map-append}
 use Rattle.mib_state.specs.Entities.{Entities}
@@ -24,7 +24,7 @@ use Rattle.bench_forward.specs.declared.fault.ForwardFault.TheVariants.{Read, Co
 use Rattle.bench_forward.specs.declared.forwarding.State.{State}
 use Rattle.bench_forward.specs.declared.totals.Totals.{Totals}
 use Rattle.bench_forward.proofs.OneMore.{figure_more, gems_more, lines_more, packets_more, totals_more}
-use Rattle.bench_forward.proofs.Wholes.{part_before, part_behind}
+use Rattle.bench_forward.proofs.Wholes.{past_behind}
 
 -- ---- what is kept
 
@@ -118,17 +118,8 @@ ends_by_reader (Some all) (Some left) new seen e port s w NoMemory is goes now =
 -- the header isn't written whole
 pub ends_in_header : (initial : Option Reading) (e : Entities) (port : ℕ) (t : Totals) (pb pa lines : Option (List ℕ)) → AppendsPart pb pa section_block → AreTotals [] 0 t
     → IfSome initial (λ all. Ends e port all (Err Write) (record { packets_before = pb; packets_after = pa; lines_before = lines; lines_after = lines }) t)
-unfolding packets_of packet_file
 ends_in_header None e port t pb pa lines part none = tt
-ends_in_header (Some all) e port t pb pa lines part none = (
-  0,
-  record {
-    within = omega arith;
-    packets = part_before pb pa section_block _ part;
-    lines = (0, omega arith, Appends-nil lines);
-    totals = none;
-  },
-)
+ends_in_header (Some all) e port t pb pa lines part none = inl (record { packets = part; lines = Keeps-refl lines; totals = none })
 
 -- the frames behind which the next is this
 record IsNext (frames seen : List Recorded) (frame : Recorded) : Type 0 where
@@ -172,12 +163,13 @@ module _ (all : Reading) (seen : List Recorded) (frame : Recorded) (next : IsNex
     rw next.with_next (passes_with much),
   )
   ends_by Write broken =
-      let number : s.totals.frames + 1 ≡ length seen + 1 = omega (arith, now.forwarded.totals.figures Frames, length-map seen (verdict_on e port)) in (
+      let number : s.totals.frames + 1 ≡ length seen + 1 = omega (arith, now.forwarded.totals.figures Frames, length-map seen (verdict_on e port)) in
+      inr (
         length seen,
         record {
-          within = omega (arith, next.within);
-          packets = rw (next.with_next, packets_more e port seen frame, ← now.gems) (part_behind pb pm pa _ _ now.forwarded.packets broken.packets);
-          lines = rw (next.with_next, lines_more e port seen frame (s.totals.frames + 1) number) (part_behind lb lm la _ _ now.forwarded.lines broken.lines);
+          within = next.within;
+          packets = rw (next.front, next.with_next, packets_more e port seen frame, ← now.gems) (past_behind pb pm pa _ _ now.forwarded.packets broken.packets);
+          lines = rw (next.front, next.with_next, lines_more e port seen frame (s.totals.frames + 1) number) (past_behind lb lm la _ _ now.forwarded.lines broken.lines);
           totals = rw (next.front, broken.totals) now.forwarded.totals;
         },
       )

@@ -11,6 +11,7 @@ use Rattle.tag_view.specs.Frame.{Reading, frame_bytes}
 use Rattle.tag_view.specs.Tag.{tag_bytes}
 use Rattle.text_writing.specs.Written.{AppendsPart}
 use Rattle.bench_forward.specs.Blocks.{block, packet_block, padding}
+use Rattle.bench_forward.specs.Outcome.{AppendsPast}
 use Rattle.bench_forward.specs.Parts.{packet_end, packet_front, packet_length}
 
 -- ---- known bytes
@@ -19,6 +20,15 @@ use Rattle.bench_forward.specs.Parts.{packet_end, packet_front, packet_length}
 pub part_behind : (a b c : Option (List ℕ)) (bytes more : List ℕ) → Appends a b bytes → AppendsPart b c more → AppendsPart a c (bytes ++ more)
 part_behind a b c bytes more first part =
     (length bytes + part.0, simp length-append (omega (arith, part.1)), rw (take-append-add bytes more part.0) (Appends-trans a b c bytes (take part.0 more) first part.2))
+
+-- and so it is all of these bytes, and more
+pub past_behind : (a b c : Option (List ℕ)) (bytes more : List ℕ) → Appends a b bytes → AppendsPart b c more → AppendsPast a c bytes (bytes ++ more)
+past_behind a b c bytes more first part = (
+  length bytes + part.0,
+  omega arith,
+  simp length-append (omega (arith, part.1)),
+  rw (take-append-add bytes more part.0) (Appends-trans a b c bytes (take part.0 more) first part.2),
+)
 
 -- a part of the first of two
 pub part_before : (a b : Option (List ℕ)) (bytes more : List ℕ) → AppendsPart a b bytes → AppendsPart a b (bytes ++ more)

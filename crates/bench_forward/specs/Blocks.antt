@@ -3,6 +3,7 @@
 use Rattle.std.specs.Prelude.{ℕ, ◌+◌, ◌-◌, ◌/◌, ◌%◌, ◌^◌, List, [], ◌∷◌, ◌++◌, length, replicate, codes}
 use Rattle.std.specs.Fmt.{decimal}
 use Rattle.byteorder.specs.Endian.{little_bytes}
+use Rattle.capture.specs.Limits.{ethernet_link}
 
 -- how many zeros make a length a multiple of four
 abbrev pub padding : ℕ → ℕ
@@ -28,12 +29,12 @@ unfoldable pub section_block : List ℕ
 section_block =
     block 0x0a0d0d0a (little_bytes 4 0x1a2b3c4d ++ little_bytes 2 1 ++ little_bytes 2 0 ++ replicate 8 255)
 
--- the interface that stands for a GEM port: link type 1, Ethernet; two reserved bytes; no snap length; its name (option 2,
+-- the interface that stands for a GEM port: link type of Ethernet; two reserved bytes; no snap length; its name (option 2,
 -- if_name), times in nanoseconds (option 9, if_tsresol), and the end of the options
 unfoldable pub interface_block : ℕ → List ℕ
 interface_block gem =
     block 1
-    (little_bytes 2 1 ++ little_bytes 2 0 ++ little_bytes 4 0 ++ option 2 (codes "gem " ++ decimal gem) ++ option 9 (9 ∷ [])
+    (little_bytes 2 ethernet_link ++ little_bytes 2 0 ++ little_bytes 4 0 ++ option 2 (codes "gem " ++ decimal gem) ++ option 9 (9 ∷ [])
     ++ option 0 [])
 
 -- a packet of an interface: its number, the high and the low half of the time, how many bytes are stored and how many the frame had,

@@ -1,9 +1,6 @@
 -- How the numbers of interfaces are found.
 use Rattle.std.specs.Prelude.{◌≡◌, ◌<◌, ℕ, List, length, slice_index}
-
--- how many GEM ports there may be, as a port-ID has 16 bits
-abbrev pub gem_ports : ℕ
-gem_ports = 65536
+use Rattle.frame_stats.specs.Figures.{gem_ports}
 
 -- at the place of each GEM port that has an interface stands the number of that
 pub record AreNumbersOf (gems numbers : List ℕ) : Type 0 where

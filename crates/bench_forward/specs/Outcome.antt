@@ -1,12 +1,13 @@
 -- What the forwarding of the frames of a capture leaves, by how it ended.
-use Rattle.std.specs.Prelude.{◌≡◌, ◌≤◌, ◌+◌, ℕ, List, Option, Some, None, Result, Ok, Err, length, take}
-use Rattle.std.specs.Io.KnownBytes.{Appends}
+use Rattle.std.specs.Prelude.{◌≡◌, ◌≤◌, ◌<◌, ◌+◌, ◌⊎◌, ℕ, List, [], Option, Some, None, Result, Ok, Err, length, take}
+use Rattle.std.specs.Io.KnownBytes.{Appends, Keeps}
 use Rattle.mib_state.specs.Entities.{Entities}
 use Rattle.frame_stats.specs.Figures.{SomePasses}
 use Rattle.bench_capture.specs.Reading.{Reading}
 use Rattle.bench_capture.specs.Recorded.{Recorded}
 use Rattle.bench_capture.specs.declared.fault.ReadFault.TheVariants.{Capture, Unreadable, NoMemory}
 use Rattle.text_writing.specs.Written.{AppendsPart}
+use Rattle.bench_forward.specs.Blocks.{section_block}
 use Rattle.bench_forward.specs.Frames.{AreTotalsOf, lines_of, packets_of, verdicts_on}
 use Rattle.bench_forward.specs.declared.fault.ForwardFault.{ForwardFault}
 use Rattle.bench_forward.specs.declared.fault.ForwardFault.TheVariants.{Read, CountFull, Write}
@@ -30,11 +31,21 @@ pub record FirstAreForwarded (e : Entities) (port : ℕ) (frames : List Recorded
   pub within : n ≤ length frames
   pub forwarded : AreForwarded e port (take n frames) w t
 
--- a front of what comes of the first n frames and of the next is written, and the totals are those of the first n
+-- a front of what stands before all frames is written, and no line
+pub record StopsInHeader (e : Entities) (port : ℕ) (w : Written) (t : Totals) : Type 0 where
+  pub packets : AppendsPart w.packets_before w.packets_after section_block
+  pub lines : Keeps w.lines_before w.lines_after
+  pub totals : AreTotalsOf e port [] t
+
+-- the known bytes grow by a front of bs, which is no shorter than some bytes
+abbrev pub AppendsPast : Option (List ℕ) → Option (List ℕ) → List ℕ → List ℕ → Type 0
+AppendsPast old new least bs = (n : ℕ) × (length least ≤ n) × (n ≤ length bs) × Appends old new (take n bs)
+
+-- all that comes of the first n frames is written, and a front of what comes of the next. The totals are those of the first n
 pub record StopsInFrame (e : Entities) (port : ℕ) (frames : List Recorded) (n : ℕ) (w : Written) (t : Totals) : Type 0 where
-  pub within : n ≤ length frames
-  pub packets : AppendsPart w.packets_before w.packets_after (packets_of e port (take (n + 1) frames))
-  pub lines : AppendsPart w.lines_before w.lines_after (lines_of e port (take (n + 1) frames))
+  pub within : n < length frames
+  pub packets : AppendsPast w.packets_before w.packets_after (packets_of e port (take n frames)) (packets_of e port (take (n + 1) frames))
+  pub lines : AppendsPast w.lines_before w.lines_after (lines_of e port (take n frames)) (lines_of e port (take (n + 1) frames))
   pub totals : AreTotalsOf e port (take n frames) t
 
 -- By how it ended, of all that there was to be read. Where the capture ended or a fault of it was met, the frames in front of that are
@@ -46,4 +57,4 @@ Ends e port all (Err (Read (Unreadable kind))) w t = (n : ℕ) × FirstAreForwar
 Ends e port all (Err (Read NoMemory)) w t = (n : ℕ) × FirstAreForwarded e port all.frames n w t
 Ends e port all (Err CountFull) w t =
     (n : ℕ) × FirstAreForwarded e port all.frames n w t × SomePasses (verdicts_on e port (take (n + 1) all.frames))
-Ends e port all (Err Write) w t = (n : ℕ) × StopsInFrame e port all.frames n w t
+Ends e port all (Err Write) w t = StopsInHeader e port w t ⊎ ((n : ℕ) × StopsInFrame e port all.frames n w t)

@@ -1,11 +1,8 @@
 -- What keeps totals from passing 64 bits: no count is more than that of all frames.
 use Rattle.std.specs.Prelude.{◌≡◌, ◌≤◌, ℕ, List, length, slice_index, slice_index_or}
+use Rattle.frame_meaning.specs.Reason.{reason_count}
 use Rattle.bench_forward.specs.Dropped.{none_dropped}
 use Rattle.bench_forward.specs.declared.dropped.Dropped.{Dropped}
-
--- how many reasons there are
-abbrev pub reason_count : ℕ
-reason_count = 9
 
 -- there are so many counts, and none is more than this
 pub record AreWithin (count most : ℕ) (counts : List ℕ) : Type 0 where

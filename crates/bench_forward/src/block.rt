@@ -6,6 +6,7 @@ ghost use Rattle.byteorder.specs.Endian.{little_bytes};
 ghost use Rattle.bench_forward.specs.Blocks.{block, interface_block, option, padding, section_block};
 
 use arrayvec::ArrayVec;
+use capture::ETHERNET;
 use itoa::Buffer;
 
 /// Room for a whole block without a packet's bytes.
@@ -19,9 +20,6 @@ const SECTION_HEADER: [u8; 28] = [
 
 /// The type of an interface description block.
 const INTERFACE: u32 = 1;
-
-/// The link type of Ethernet.
-const ETHERNET: u16 = 1;
 
 /// The code of the option that ends the options.
 const END: u16 = 0;

@@ -2,11 +2,9 @@
 ghost use Rattle.std.specs.Prelude.{◌≡◌};
 ghost use Rattle.bench_forward.specs.Packets.{interface_of, with_interface};
 
+use frame_stats::GEM_PORTS;
 use std::alloc::{AllocError, Global};
 use std::marker::Model;
-
-/// How many GEM ports there may be: a port-ID has 16 bits.
-pub(crate) const GEM_PORTS: usize = 65_536;
 
 /// Which GEM ports have an interface, by the numbers of these. It is seen as their list. A number is found without a search, and
 /// with all memory taken at the start none is taken for an interface.
@@ -20,7 +18,8 @@ pub(crate) struct Interfaces {
 
 impl Model for Interfaces {
     ghost use Rattle.std.specs.Prelude.{◌≤◌, ℕ, List, vec_capacity};
-    ghost use Rattle.bench_forward.specs.Interfaces.{AreNumbersOf, gem_ports};
+    ghost use Rattle.frame_stats.specs.Figures.{gem_ports};
+    ghost use Rattle.bench_forward.specs.Interfaces.{AreNumbersOf};
 
     ghost Value = { List ℕ };
 

@@ -1,15 +1,14 @@
 //! What is counted of the frames of a capture.
 ghost use Rattle.std.specs.Prelude.{◌≡◌, ◌≤◌, ◌<◌, ◌+◌, ◌^◌, if◌then◌else◌};
-ghost use Rattle.frame_meaning.specs.Reason.{number_of_reason};
-ghost use Rattle.frame_stats.specs.Figures.{Bytes};
+ghost use Rattle.frame_meaning.specs.Reason.{number_of_reason, reason_count};
+ghost use Rattle.frame_stats.specs.Figures.{Bytes, gem_ports};
 ghost use Rattle.frame_stats.specs.Tallies.{weight};
-ghost use Rattle.bench_forward.specs.Interfaces.{gem_ports};
 ghost use Rattle.bench_forward.specs.Rows.{AreWithin, DropsAreWithin};
 
 use crate::dropped::Dropped;
-use crate::interfaces::GEM_PORTS;
 use crate::packet::leaving_length;
 use frame_meaning::{Reason, Verdict};
+use frame_stats::GEM_PORTS;
 use std::alloc::{AllocError, Global};
 
 /// What is counted of the frames of a capture. Frames are numbered from 1. All memory is taken at the start, so that none is taken
@@ -21,7 +20,7 @@ pub struct Totals {
     pub(crate) bytes: u64,
     pub(crate) cut: u64,
     // The reason of number r is at place r - 1.
-    pub(crate) drops: [Dropped; 9],
+    pub(crate) drops: [Dropped; Reason::COUNT],
     // By the port-ID of a GEM port.
     pub(crate) gems: Vec<u64>,
     ghost few_forwarded: { forwarded ≤ frames },
@@ -34,7 +33,7 @@ pub struct Totals {
 #[inline(always)]
 pub(crate) fn place_of(reason: Reason) -> usize
     ensures value { result + 1 ≡ number_of_reason reason }
-    ensures few { result < 9 }
+    ensures few { result < reason_count }
 {
     usize::from(reason.code() - 1)
 }
@@ -77,7 +76,7 @@ impl Totals {
             forwarded: 0,
             bytes: 0,
             cut: 0,
-            drops: [Dropped::NONE; 9],
+            drops: [Dropped::NONE; Reason::COUNT],
             gems: vec![in alloc; 0; GEM_PORTS]?,
         })
     }

@@ -2,15 +2,13 @@
 use Rattle.std.specs.Prelude.{ℕ, ◌+◌, ◌||◌, List, Option, Some, None, if◌then◌else◌, ◌==◌, nat_lt, nat_eq, length, position, take, drop, codes}
 use Rattle.std.specs.List.{starts_with}
 use Rattle.std.specs.Option.{option_and_then, option_map}
-use Rattle.script_lines.specs.Line.{number_from, port_of, spelled_bytes, without_cr}
+use Rattle.script_lines.specs.Line.{decimal_of, line_limit, port_of, spelled_bytes, without_cr}
 use Rattle.bench_history.specs.declared.event.Event.{Event}
 use Rattle.bench_history.specs.declared.event.Event.TheVariants.{Sent, Replied, Entered, Left, Dropped, Waited, Nothing}
 
 -- a number of 32 bits in one to ten decimal digits
 abbrev pub number_of : List ℕ → Option ℕ
-number_of digits =
-    if length digits == 0 || nat_lt 10 (length digits) then None
-    else option_and_then (λ n. if nat_lt n 4294967296 then Some n else None) (number_from 0 digits)
+number_of digits = option_and_then (λ n. if nat_lt n 4294967296 then Some n else None) (decimal_of 10 digits)
 
 -- the number in front of the first space, and what stands behind that
 abbrev pub numbered : (List ℕ → Option ℕ) → List ℕ → Option (ℕ × List ℕ)
@@ -57,4 +55,4 @@ content_told line =
 
 -- what a line says, None where it is bad; one over 20,000 bytes is
 unfoldable pub event_of : List ℕ → Option Event
-event_of line = if nat_lt 20000 (length line) then None else content_told (without_cr line)
+event_of line = if nat_lt line_limit (length line) then None else content_told (without_cr line)

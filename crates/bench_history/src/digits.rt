@@ -1,7 +1,7 @@
 //! Bytes by their digits.
 ghost use Rattle.std.specs.Prelude.{◌≡◌, ◌≤◌, ◌==◌, Ok, length};
 ghost use Rattle.hex.specs.Hex.{decode_of};
-ghost use Rattle.script_lines.specs.Line.{spelled_bytes};
+ghost use Rattle.script_lines.specs.Line.{line_limit, spelled_bytes};
 
 use script_digits::are_pairs;
 use script_lines::{MOST_SPELLED, read_bytes};
@@ -18,19 +18,20 @@ impl<'a> Model for Digits<'a> {
     ghost use Rattle.std.specs.Prelude.{◌≡◌, ◌≤◌, ℕ, List, [], true, length};
     ghost use Rattle.std.specs.Result.{is_ok, result_unwrap_or};
     ghost use Rattle.hex.specs.Hex.{decode_of};
+    ghost use Rattle.script_lines.specs.Line.{line_limit};
 
     ghost Value = { List ℕ };
 
     ghost view = { λ d. result_unwrap_or (decode_of d.digits.now) [] };
 
     ghost invariant = { λ d.
-        (is_ok (decode_of d.digits.now) ≡ true) × (length d.digits.now ≤ 20000) };
+        (is_ok (decode_of d.digits.now) ≡ true) × (length d.digits.now ≤ line_limit) };
 }
 
 impl<'a> Digits<'a> {
     /// The bytes that characters spell, or None where they are no digits or an odd number of them.
     pub(crate) fn of(characters: &'a [u8]) -> Option<Self>
-        requires { length characters.now ≤ 20000 }
+        requires { length characters.now ≤ line_limit }
         ensures { result ≡ spelled_bytes characters.now }
     {
         if !are_pairs(characters) {
@@ -72,7 +73,7 @@ impl<'a> Digits<'a> {
     /// The digits, two for each byte, as they stand in the text.
     pub fn as_digits(&self) -> &'a [u8]
         ensures bytes { decode_of result.now ≡ Ok self.now }
-        ensures short { length result.now ≤ 20000 }
+        ensures short { length result.now ≤ line_limit }
     {
         self.digits
     }

@@ -1,11 +1,11 @@
 //! What one line of a history says.
 ghost use Rattle.std.specs.Prelude.{◌≡◌, ◌≤◌, ◌==◌, IfSome, length, option_map, position};
-ghost use Rattle.script_lines.specs.Line.{port_of, without_cr};
+ghost use Rattle.script_lines.specs.Line.{line_limit, port_of, without_cr};
 ghost use Rattle.bench_history.specs.Line.{content_told, entered_by, event_of, frame_told, left_by, number_of, numbered, told, waited_by};
 
 use crate::digits::Digits;
 use crate::event::Event;
-use crate::number::read_number;
+use crate::number::read_count;
 use script_lines::{LINE_LIMIT, read_port};
 
 /// Where the first space stands.
@@ -33,13 +33,13 @@ fn split_number(parts: &[u8]) -> Option<(u32, &[u8])>
     ensures within { IfSome result (λ cut. length cut.1.now ≤ length parts.now) }
 {
     let space = space_in(parts)?;
-    let number = read_number(parts.split_at(space).0)?;
+    let number = read_count(parts.split_at(space).0)?;
     Some((number, parts.split_at(space + 1).1))
 }
 
 /// A frame that entered, by `PORT HEX`.
 fn read_entered(parts: &[u8]) -> Option<Event<'_>>
-    requires { length parts.now ≤ 20000 }
+    requires { length parts.now ≤ line_limit }
     ensures { result ≡ entered_by parts.now }
 {
     let (port, digits) = split_port(parts)?;
@@ -49,7 +49,7 @@ fn read_entered(parts: &[u8]) -> Option<Event<'_>>
 
 /// A frame that left, by `N GEM HEX`.
 fn read_left(parts: &[u8]) -> Option<Event<'_>>
-    requires { length parts.now ≤ 20000 }
+    requires { length parts.now ≤ line_limit }
     ensures { result ≡ left_by parts.now }
 {
     let (number, parts) = split_number(parts)?;
@@ -60,7 +60,7 @@ fn read_left(parts: &[u8]) -> Option<Event<'_>>
 
 /// What a line says of a frame.
 fn read_frame_told(content: &[u8]) -> Option<Event<'_>>
-    requires { length content.now ≤ 20000 }
+    requires { length content.now ≤ line_limit }
     ensures { result ≡ frame_told content.now }
 {
     if let Some(parts) = content.strip_prefix(b"f ") {
@@ -69,7 +69,7 @@ fn read_frame_told(content: &[u8]) -> Option<Event<'_>>
     if let Some(parts) = content.strip_prefix(b"g ") {
         return read_left(parts);
     }
-    let number = read_number(content.strip_prefix(b"d ")?)?;
+    let number = read_count(content.strip_prefix(b"d ")?)?;
     Some(Event::Dropped { number })
 }
 
@@ -80,7 +80,7 @@ fn read_waited(behind: &[u8]) -> Option<Event<'_>>
     if behind.is_empty() {
         return Some(Event::Waited { replies: None });
     }
-    let replies = read_number(behind.strip_prefix(b" ")?)?;
+    let replies = read_count(behind.strip_prefix(b" ")?)?;
     Some(Event::Waited {
         replies: Some(replies),
     })
@@ -88,7 +88,7 @@ fn read_waited(behind: &[u8]) -> Option<Event<'_>>
 
 /// What a line says that is neither empty nor a remark.
 fn read_told(content: &[u8]) -> Option<Event<'_>>
-    requires { length content.now ≤ 20000 }
+    requires { length content.now ≤ line_limit }
     ensures { result ≡ told content.now }
 {
     if let Some(digits) = content.strip_prefix(b"o ") {
@@ -107,7 +107,7 @@ fn read_told(content: &[u8]) -> Option<Event<'_>>
 
 /// What a line without the CR at its end says.
 fn read_content(content: &[u8]) -> Option<Event<'_>>
-    requires { length content.now ≤ 20000 }
+    requires { length content.now ≤ line_limit }
     ensures { result ≡ content_told content.now }
 {
     if content.is_empty() || content.starts_with(b"#") {

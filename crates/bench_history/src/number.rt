@@ -2,19 +2,11 @@
 ghost use Rattle.std.specs.Prelude.{◌≡◌};
 ghost use Rattle.bench_history.specs.Line.{number_of};
 
+use script_lines::read_decimal;
+
 /// The number that one to ten decimal digits spell, leading zeros among them; None where they spell none of 32 bits.
-pub(crate) fn read_number(digits: &[u8]) -> Option<u32>
+pub(crate) fn read_count(digits: &[u8]) -> Option<u32>
     ensures { result ≡ number_of digits.now }
 {
-    if digits.is_empty() || digits.len() > 10 {
-        return None;
-    }
-    let mut number = 0;
-    for digit in digits {
-        if !digit.is_ascii_digit() {
-            return None;
-        }
-        number = 10 * number + u64::from(*digit - b'0');
-    }
-    u32::try_from(number).ok()
+    u32::try_from(read_decimal(digits, 10)?).ok()
 }

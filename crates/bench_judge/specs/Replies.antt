@@ -1,27 +1,23 @@
 -- Which replies are right.
-use Rattle.std.specs.Prelude.{◌≡◌, ℕ, Bool, true, false, ◌||◌, ◌==◌, if◌then◌else◌, List, Some, Ok, slice_get, take}
+use Rattle.std.specs.Prelude.{◌≡◌, ℕ, Bool, true, false, if◌then◌else◌, List, Some, Ok, slice_get, take}
 use Rattle.omci_msg.specs.declared.action.Action.{Action}
 use Rattle.omci_msg.specs.declared.action.Action.TheVariants.{Create, Delete, Set, Get, GetNext, MibUpload, MibUploadNext, MibReset, Other}
 use Rattle.omci_msg.specs.declared.request.Request.{Request}
 use Rattle.omci_msg.specs.declared.reply.Reply.{Reply}
 use Rattle.omci_msg.specs.Message.{reply_of}
+use Rattle.managed_entity.specs.Class.{is_created}
 use Rattle.bench_history.specs.History.{replies_in}
 use Rattle.bench_history.specs.declared.event.Event.{Event}
 use Rattle.bench_history.specs.declared.event.Event.TheVariants.{Replied}
 use Rattle.bench_judge.specs.Asked.{Wanted, wanted}
 
--- the classes of the model whose instances are created: 802.1p mapper service profile, extended VLAN tagging operation
--- configuration data, GEM interworking termination point and GEM port network CTP
-abbrev pub is_modelled_class : ℕ → Bool
-is_modelled_class class = class == 130 || class == 171 || class == 266 || class == 268
-
 -- whether a real unit's reply to an action on a class has the model's contents: other classes give it other syncs and rows
 abbrev pub is_modelled : Action → ℕ → Bool
-is_modelled Create class = is_modelled_class class
-is_modelled Delete class = is_modelled_class class
-is_modelled Set class = is_modelled_class class
-is_modelled Get class = is_modelled_class class
-is_modelled GetNext class = is_modelled_class class
+is_modelled Create class = is_created class
+is_modelled Delete class = is_created class
+is_modelled Set class = is_created class
+is_modelled Get class = is_created class
+is_modelled GetNext class = is_created class
 is_modelled MibUpload class = false
 is_modelled MibUploadNext class = false
 is_modelled MibReset class = true

@@ -1,6 +1,7 @@
 -- The least versions of all frames, found once through all versions, and what is known on the way.
 use Rattle.std.specs.Prelude.{◌≡◌, ◌≢◌, ◌<◌, ◌≤◌, ℕ, suc, Bool, true, false, List, Option, Some, None, is_some, length, slice_get, slice_index}
 use Rattle.omci_msg.specs.declared.request.Request.{Request}
+use Rattle.forward_plan.specs.Ports.{port_count}
 use Rattle.bench_history.specs.declared.event.Event.{Event}
 use Rattle.bench_judge.specs.Frames.{Fits, FitsLeast, MayHave}
 use Rattle.bench_judge.specs.declared.frame.Frame.{Frame}
@@ -114,9 +115,9 @@ pub record IsSoFar (unordered : Bool) (events : List Event) (requests : List Req
 
 -- each port has the last ended frame of it among the first n, if there is one
 pub record AreTails (frames : List Frame) (n : ℕ) (tails : List ℕ) : Type 0 where
-  pub ended : (p : ℕ) → p < 65536 → slice_index tails p < length frames → has_end frames (slice_index tails p) ≡ true
-  pub port : (p : ℕ) → p < 65536 → slice_index tails p < length frames → port_at frames (slice_index tails p) ≡ p
-  pub below : (p : ℕ) → p < 65536 → slice_index tails p < length frames → slice_index tails p < n
+  pub ended : (p : ℕ) → p < port_count → slice_index tails p < length frames → has_end frames (slice_index tails p) ≡ true
+  pub port : (p : ℕ) → p < port_count → slice_index tails p < length frames → port_at frames (slice_index tails p) ≡ p
+  pub below : (p : ℕ) → p < port_count → slice_index tails p < length frames → slice_index tails p < n
   pub last : (m : ℕ) → m < n → has_end frames m ≡ true → m ≤ slice_index tails (port_at frames m)
   pub some : (m : ℕ) → m < n → has_end frames m ≡ true → slice_index tails (port_at frames m) < n
 

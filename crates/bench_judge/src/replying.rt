@@ -1,19 +1,13 @@
 //! Which replies are right.
 ghost use Rattle.std.specs.Prelude.{◌≡◌, Bool, Decides};
 ghost use Rattle.bench_judge.specs.Asked.{Wanted};
-ghost use Rattle.bench_judge.specs.Replies.{IsReplyTo, is_judged, is_modelled_class};
+ghost use Rattle.bench_judge.specs.Replies.{IsReplyTo, is_judged};
 
 use crate::asking::Due;
 use crate::message::read_answered;
 use bench_history::Digits;
+use managed_entity::Class;
 use omci_msg::{Action, Reply, Request};
-
-/// Whether a class is one of the model's whose instances are created.
-fn is_modelled_class(class: u16) -> bool
-    ensures { result ≡ is_modelled_class class }
-{
-    matches!(class, 130 | 171 | 266 | 268)
-}
 
 /// Whether the contents of the reply to a request are looked at.
 pub(crate) fn is_judged(modelled: bool, request: &Request) -> bool
@@ -25,7 +19,7 @@ pub(crate) fn is_judged(modelled: bool, request: &Request) -> bool
     match request.action {
         Action::MibReset => true,
         Action::MibUpload | Action::MibUploadNext | Action::Other(_) => false,
-        _ => is_modelled_class(request.class),
+        _ => Class::is_created(request.class),
     }
 }
 

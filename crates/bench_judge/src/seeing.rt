@@ -6,6 +6,7 @@ ghost use Rattle.hex.specs.Hex.{decode_of};
 ghost use Rattle.tag_view.specs.Frame.{frame_bytes};
 ghost use Rattle.tag_view.specs.Tag.{tag_bytes};
 ghost use Rattle.frame_meaning.specs.Meaning.{meaning};
+ghost use Rattle.script_lines.specs.Line.{line_limit};
 ghost use Rattle.bench_judge.specs.Explained.{IsSeenAs};
 ghost use Rattle.bench_judge.specs.Frames.{IsSeenBy};
 
@@ -72,7 +73,7 @@ fn are_tags(tags: &[Tag], bytes: &[u8]) -> bool
 
 /// Whether digits spell what stands before the rest of a frame that leaves: its addresses and tags.
 fn is_front(frame: &OutFrame<'_>, digits: &[u8], buffer: &mut [u8; MOST_SPELLED]) -> bool
-    requires { length digits.now ≤ 20000 }
+    requires { length digits.now ≤ line_limit }
     ensures { (bytes : List ℕ) → decode_of digits.now ≡ Ok bytes
         → Decides result (frame.now.addresses ++ flat_map tag_bytes frame.now.tags ≡ bytes) }
 {
@@ -93,7 +94,7 @@ fn is_spelled(
     buffer: &mut [u8; MOST_SPELLED],
 ) -> bool
     requires rest { 2 * length frame.now.rest ≤ length sent.now }
-    requires short { length seen.now ≤ 20000 }
+    requires short { length seen.now ≤ line_limit }
     ensures { (bytes more : List ℕ) → decode_of sent.now ≡ Ok bytes → decode_of seen.now ≡ Ok more
         → Decides result (frame_bytes (record frame.now {
           rest = drop (length bytes - length frame.now.rest) bytes;

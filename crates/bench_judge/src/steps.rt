@@ -5,10 +5,8 @@ ghost use Rattle.bench_judge.specs.Bounds.{AreSent, AreStepsUnder};
 use crate::bounds::version_at;
 use crate::frame::Frame;
 use crate::judgement::Step;
+use forward_plan::PORTS;
 use std::alloc::{AllocError, Global};
-
-/// How many ports there may be: one for each number of 16 bits.
-const PORTS: usize = 65_536;
 
 /// The frames whose versions are greater than those of all ended frames before them at their ports, and than 0, in order; none where each
 /// frame is judged by itself.

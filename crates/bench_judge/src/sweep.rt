@@ -3,6 +3,7 @@
 ghost use Rattle.std.specs.Prelude.{◌≡◌, ◌<◌, ◌||◌, Bool, List, Some, true, Decides, IfOk, MatchBool, MatchOption, suc, is_some, length, nat_le, slice_get, take};
 ghost use Rattle.omci_msg.specs.declared.request.Request.{Request as TheRequest};
 ghost use Rattle.mib_state.specs.After.{after};
+ghost use Rattle.forward_plan.specs.Ports.{port_count};
 ghost use Rattle.bench_judge.specs.Frames.{AreWithin, MayHave};
 ghost use Rattle.bench_history.specs.declared.event.Event.{Event as TheEvent};
 ghost use Rattle.bench_judge.specs.Sweep.{AreLeast, AreQueuedSoFar, IsSoFar, IsWhole, NoneFit};
@@ -11,12 +12,9 @@ ghost use Rattle.bench_judge.specs.declared.frame.Frame.{Frame as TheFrame};
 use crate::frame::Frame;
 use crate::seeing::{Buffers, is_seen};
 use bench_history::Event;
-use forward_plan::Live;
+use forward_plan::{Live, PORTS};
 use omci_msg::Request;
 use std::alloc::{AllocError, Global};
-
-/// How many ports there are: one for each number of 16 bits.
-const PORTS: usize = 65_536;
 
 /// The queues of frames, and the versions that were found so far.
 #[derive(Drop)]
@@ -117,9 +115,9 @@ fn enqueue(
     port: u16,
     unordered: bool,
 ) -> Result<(), AllocError>
-    requires tails { length tails.old.items ≡ 65536 }
+    requires tails { length tails.old.items ≡ port_count }
     requires links { number < length sweep.old.next.items }
-    ensures tails { length tails.new.items ≡ 65536 }
+    ensures tails { length tails.new.items ≡ port_count }
     ensures links { length sweep.new.next.items ≡ length sweep.old.next.items }
     ensures versions { sweep.new.versions.items ≡ sweep.old.versions.items }
     ensures queued { (frames : List TheFrame) (frame : TheFrame)

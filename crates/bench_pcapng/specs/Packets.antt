@@ -9,16 +9,17 @@ use Rattle.bench_pcapng.specs.declared.fault.BlockFault.{BlockFault}
 use Rattle.bench_pcapng.specs.declared.fault.BlockFault.TheVariants.{Link, Torn, TooLong}
 use Rattle.bench_pcapng.specs.declared.interface.Interface.{Interface}
 use Rattle.bench_pcapng.specs.declared.order.Order.{Order}
+use Rattle.capture.specs.Limits.{ethernet_link, stored_limit}
 
--- an interface, if it is there and its link type is 1, Ethernet
+-- an interface, if it is there and one of Ethernet
 abbrev pub checked_of : Option Interface → Result Interface BlockFault
 checked_of None = Err Torn
-checked_of (Some interface) = if interface.link == 1 then Ok interface else Err (Link interface.link)
+checked_of (Some interface) = if interface.link == ethernet_link then Ok interface else Err (Link interface.link)
 
 -- the packet that stores so many bytes of the data
 unfoldable pub stored_of : ℕ → ℕ → ℕ → ℕ → List ℕ → Result Captured BlockFault
 stored_of interface time original stored bytes =
-    if nat_lt 262144 stored then Err TooLong
+    if nat_lt stored_limit stored then Err TooLong
     else (if nat_lt (length bytes) stored then Err Torn
     else Ok (record { interface = interface; time = time; original = original; bytes = take stored bytes }))
 

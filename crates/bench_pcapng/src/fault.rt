@@ -1,6 +1,10 @@
 //! Why a capture can't be read.
 
+use capture::STORED_LIMIT;
 use thiserror::Error;
+
+/// The words say this limit.
+const _: () = prove!(STORED_LIMIT == 262_144);
 
 /// What is wrong with a capture in the pcapng format, or that there is no memory to read on. Blocks are numbered from 0.
 #[derive(Clone, Copy, Debug, PartialEq, Eq, Error)]

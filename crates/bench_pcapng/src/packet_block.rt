@@ -7,6 +7,7 @@ use crate::interface::Interface;
 use crate::order::Order;
 use crate::packet::Packet;
 use crate::time::nanoseconds_of;
+use capture::{ETHERNET, STORED_LIMIT};
 
 /// How many bytes stand before the data of an enhanced or obsolete packet block: the interface, the time in two parts of 32 bits, how
 /// many bytes are stored, and how many the frame had.
@@ -14,12 +15,6 @@ const TIMED_LEN: usize = 20;
 
 /// How many bytes stand before the data of a simple packet block: how many the frame had.
 const SIMPLE_LEN: usize = 4;
-
-/// The most bytes that a packet may store.
-const STORED_LIMIT: u32 = 262_144;
-
-/// The link type of Ethernet.
-const ETHERNET: u16 = 1;
 
 /// The interface of a number, if it is there and one of Ethernet.
 pub(crate) fn interface_at(interfaces: &[Interface], number: u32) -> Result<Interface, BlockFault>

@@ -11,14 +11,15 @@ use crate::options::{END, OPTION_HEADER_LEN, padded, split_option};
 use crate::order::Order;
 use crate::outcome::{Kept, Outcome};
 use crate::pcapng::is_pcapng;
+use capture::STORED_LIMIT;
 use std::alloc::Global;
 
 /// How many bytes of a block show what it does, but for the options of an interface: 28 in front of a packet's bytes, 262,144 of these,
 /// and 4 more.
-const SHOWN_LEN: usize = 262_176;
+const SHOWN_LEN: usize = 28 + STORED_LIMIT as usize + 4;
 
-/// How many bytes of a block's body are among these.
-const BODY_SHOWN_LEN: usize = 262_164;
+/// How many bytes of a block's body are among these: all but 8 in front and 4 behind.
+const BODY_SHOWN_LEN: usize = SHOWN_LEN - 12;
 
 /// How many bytes stand in front of the options of an interface: the type and the length of the block, the link type, two reserved
 /// bytes, and the snap length.
@@ -185,8 +186,7 @@ impl Passing {
         Some(letting(kept, length, self))
     }
 
-    /// Which of these bytes, with which the block goes on, are let go. None where none of them can be: then they are under 262,176, or hold
-    /// all of the block.
+    /// The part of the block that can be discarded. `None`: under 262,176 bytes are held, or all of the block.
     #[tactic(auto, unfolding(crate::specs::Passing::letting_of))]
     pub fn let_go(self, bytes: &[u8]) -> Option<Past>
         ensures value { result ≡ letting_of self bytes.now }

@@ -4,6 +4,7 @@
 -- are stored, how many the frame had, of four bytes each, and then the stored bytes.
 use Rattle.std.specs.Prelude.{◌≡◌, ◌≤◌, ◌<◌, ℕ, zero, suc, ◌+◌, ◌%◌, ◌^◌, ◌||◌, List, [], ◌∷◌, ◌++◌, Option, Some, None, Result, Ok, Err, if◌then◌else◌, ◌==◌, nat_lt, is_some, length, take, drop}
 use Rattle.byteorder.specs.Endian.{big_number}
+use Rattle.capture.specs.Limits.{ethernet_link, stored_limit}
 use Rattle.capture.specs.Numbers.{number_in}
 use Rattle.capture.specs.declared.fault.CaptureFault.{CaptureFault}
 use Rattle.capture.specs.declared.fault.CaptureFault.TheVariants.{Magic, Header, Link, Torn, TooLong}
@@ -27,12 +28,12 @@ order_of file =
 abbrev pub link_of : Order → List ℕ → ℕ
 link_of order file = number_in order (drop 20 file) % 2 ^ 16
 
--- the byte order of a header whose magic number shows this one; the link type of Ethernet is 1
+-- the byte order of a header whose magic number shows this one
 abbrev pub header_by : Option Order → List ℕ → Result Order CaptureFault
 header_by None file = Err Magic
 header_by (Some order) file =
     if nat_lt (length file) 24 then Err Header
-    else (if link_of order file == 1 then Ok order else Err (Link (link_of order file)))
+    else (if link_of order file == ethernet_link then Ok order else Err (Link (link_of order file)))
 
 abbrev pub header_of : List ℕ → Result Order CaptureFault
 header_of file = header_by (order_of file) file
@@ -51,7 +52,7 @@ AreRecords order bytes (frame ∷ frames) =
     × (bytes ≡ front ++ (frame ++ behind))
     × (length front ≡ 16)
     × (stored_length order front ≡ length frame)
-    × (length frame ≤ 262144)
+    × (length frame ≤ stored_limit)
     × AreRecords order behind frames
 
 -- the file is a header and these frames
@@ -71,7 +72,7 @@ abbrev pub record_fault : Order → List ℕ → Option RecordFault
 record_fault order bytes =
     let stored = stored_length order bytes in
     if nat_lt (length bytes) 16 then Some records.Torn
-    else (if nat_lt 262144 stored then Some records.TooLong
+    else (if nat_lt stored_limit stored then Some records.TooLong
     else (if nat_lt (length (drop 16 bytes)) stored then Some records.Torn
     else None))
 

@@ -1,6 +1,10 @@
 //! Why a capture can't be read.
 
+use crate::limits::STORED_LIMIT;
 use thiserror::Error;
+
+/// The words say this limit.
+const _: () = prove!(STORED_LIMIT == 262_144);
 
 /// What is wrong with a capture file. Where several things are, it is the one that stands first
 /// here, and of records the first that has a fault. They are numbered from 0.

@@ -3,14 +3,12 @@ ghost use Rattle.std.specs.Prelude.{◌≡◌};
 ghost use Rattle.capture.specs.Records.{order_of, header_of};
 
 use crate::fault::CaptureFault;
+use crate::limits::ETHERNET;
 use crate::order::Order;
 use byteorder::{BigEndian, ByteOrder};
 
 /// How many bytes the header has.
 pub const HEADER_LEN: usize = 24;
-
-/// The link type of Ethernet.
-const ETHERNET: u16 = 1;
 
 /// The byte order that the magic number at a file's start shows. The second number of each order
 /// says that times are in nanoseconds; they aren't looked at.

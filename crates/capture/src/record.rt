@@ -4,14 +4,12 @@ ghost use Rattle.std.specs.Result.{result_err};
 ghost use Rattle.capture.specs.Records.{behind_first, first_frame, record_fault};
 
 use crate::fault::CaptureFault;
+use crate::limits::STORED_LIMIT;
 use crate::order::Order;
 
 /// How many bytes stand before the stored ones: seconds, their fraction, how many bytes are
 /// stored, how many the frame had.
 const RECORD_HEADER_LEN: usize = 16;
-
-/// The most bytes that a record may store.
-const STORED_LIMIT: usize = 262_144;
 
 /// Why there is no whole record.
 #[derive(Clone, Copy, Debug)]
@@ -47,10 +45,11 @@ pub fn split_record(order: Order, bytes: &[u8]) -> Result<(&[u8], &[u8]), Record
     if bytes.len() < RECORD_HEADER_LEN {
         return Err(RecordFault::Torn);
     }
-    let stored = order.read_u32(&bytes[8..]) as usize;
+    let stored = order.read_u32(&bytes[8..]);
     if stored > STORED_LIMIT {
         return Err(RecordFault::TooLong);
     }
+    let stored = stored as usize;
     let behind = &bytes[RECORD_HEADER_LEN..];
     if behind.len() < stored {
         return Err(RecordFault::Torn);

@@ -10,4 +10,4 @@ returns-in-Ok-clause-opens c =
     (header_long c.args.file.now c.in-Ok.order (sym c.in-Ok.ensures), omega arith, classic_opened c.args.file.now c.in-Ok.order c.requires (sym c.in-Ok.ensures))
 
 pub returns-in-Err-clause-opens : goal.returns-in-Err-clause-opens
-returns-in-Err-clause-opens c = rw c.of_classic.ensures (classic_not_opened c.args.file.now c.in-Err.fault c.requires (sym c.in-Err.ensures))
+returns-in-Err-clause-opens c = rw c.from.ensures (classic_not_opened c.args.file.now c.in-Err.fault c.requires (sym c.in-Err.ensures))

@@ -1,7 +1,7 @@
 -- Within a block the file is torn.
 use Rattle.std.proofs.Common.{◌≡◌, ◌∙◌, ap, sym}
 use Rattle.bench_capture.specs.Formats.{frame_fault_of}
-use Rattle.bench_capture.specs.declared.fault.FrameFault.TheVariants.{Capture, NoMemory}
+use Rattle.bench_capture.specs.declared.fault.NextFrameFault.TheVariants.{Capture, NoMemory}
 use Rattle.bench_capture.proofs.Wholes.{between_none, torn_is_fault, within_none}
 use Rattle.bench_pcapng.specs.Passing.{fault_in}
 use Rattle.bench_pcapng.specs.declared.fault.BlockFault.TheVariants.{Torn}

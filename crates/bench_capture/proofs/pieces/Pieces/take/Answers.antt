@@ -2,7 +2,7 @@
 use Rattle.std.proofs.Common.{◌≡◌, ap, subst, sym, Option}
 use Rattle.std.specs.Prelude.{Err}
 use Rattle.bench_capture.specs.Formats.{IsTaken, Takes}
-use Rattle.bench_capture.specs.declared.fault.FrameFault.{FrameFault}
+use Rattle.bench_capture.specs.declared.fault.NextFrameFault.{NextFrameFault}
 use Rattle.bench_capture.specs.declared.format.Format.TheVariants.{Pcapng}
 use Rattle.bench_capture.specs.declared.pieces.Pieces.{Pieces}
 use Rattle.bench_capture.specs.declared.span.Taken.{Taken}
@@ -25,5 +25,5 @@ returns-in-Err-clause-takes c =
     let bytes = c.args.bytes.now in
     let at : c.args.self.now ≡ within known c.in-Some.passing = ap (λ (passing : Option Passing). record { blocks = known; passing = passing }) c.in-Some.is in
     subst (λ (old : Pieces). Takes (Pcapng old) bytes (Err c.of_pcapng.result) (Pcapng (record { blocks = c.read_rest.new.self; passing = old.passing }))) (sym at)
-    (subst (λ (fault : FrameFault). Takes (Pcapng (within known c.in-Some.passing)) bytes (Err fault) (Pcapng (within c.read_rest.new.self c.in-Some.passing))) (sym c.of_pcapng.ensures)
+    (subst (λ (fault : NextFrameFault). Takes (Pcapng (within known c.in-Some.passing)) bytes (Err fault) (Pcapng (within c.read_rest.new.self c.in-Some.passing))) (sym c.of_pcapng.ensures)
     (rest_faulty known c.read_rest.new.self c.in-Some.passing bytes c.in-Err.fault c.in-Err.ensures))

@@ -1,6 +1,6 @@
 use Rattle.std.proofs.Common.{◌≡◌, ℕ, List, refl, arith, subst, sym}
 use Rattle.std.specs.Prelude.{replicate}
-use Rattle.bench_forward.specs.Interfaces.{gem_ports}
+use Rattle.frame_stats.specs.Figures.{gem_ports}
 use Rattle.bench_forward.specs.Rows.{AreWithin}
 use Rattle.bench_forward.proofs.Nothing.{no_drops_within, none_within, nothing_counted}
 use Rattle.bench_forward.proofs.totals.Totals.new.Goals as goal

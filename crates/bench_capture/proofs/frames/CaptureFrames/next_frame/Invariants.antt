@@ -1,7 +1,7 @@
 -- What is left to be read is what there was.
 use Rattle.std.proofs.Common.{◌≡◌, ◌+◌, ◌<◌, ◌^◌, length}
 use Rattle.bench_capture.specs.Formats.{blocks_read, reading_at}
-use Rattle.bench_capture.proofs.frames.Frames.next_frame.Given as goal
+use Rattle.bench_capture.proofs.frames.CaptureFrames.next_frame.Given as goal
 
 abbrev pub invariant-loop-self : goal.invariant-loop-self
 invariant-loop-self l = record {

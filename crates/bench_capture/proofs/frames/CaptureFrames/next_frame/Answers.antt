@@ -5,7 +5,7 @@ use Rattle.bench_capture.specs.Reading.{with_frame}
 use Rattle.bench_capture.specs.Recorded.{Recorded}
 use Rattle.bench_capture.specs.declared.span.Span.{Span}
 use Rattle.bench_capture.proofs.Wholes.{fault_next, whole_taken}
-use Rattle.bench_capture.proofs.frames.Frames.next_frame.Goals as goal
+use Rattle.bench_capture.proofs.frames.CaptureFrames.next_frame.Goals as goal
 
 pub returns-in-Err : goal.returns-in-Err
 returns-in-Err c =

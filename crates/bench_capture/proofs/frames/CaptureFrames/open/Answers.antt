@@ -2,7 +2,7 @@
 use Rattle.std.proofs.Common.{◌∙◌, List, ℕ, ap}
 use Rattle.bench_capture.specs.Formats.{reading_at}
 use Rattle.bench_capture.proofs.Wholes.{whole_faulty, whole_opened}
-use Rattle.bench_capture.proofs.frames.Frames.open.Goals as goal
+use Rattle.bench_capture.proofs.frames.CaptureFrames.open.Goals as goal
 
 pub returns-in-Ok : goal.returns-in-Ok
 returns-in-Ok c =
