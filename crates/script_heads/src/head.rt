@@ -1,6 +1,7 @@
 //! The reading of a frame's first bytes.
 ghost use Rattle.std.specs.Prelude.{◌≡◌, ◌≤◌, ℕ, List, Ok, length};
 ghost use Rattle.hex.specs.Hex.{decode_of};
+ghost use Rattle.script_lines.specs.Line.{line_limit};
 ghost use Rattle.script_heads.specs.Heads.{IsHeadOf};
 
 use script_digits::read_digits;
@@ -13,7 +14,7 @@ const HEAD: usize = 24;
 /// As many bytes as digits spell, of which the first are those that they spell. What the others are is left open: entities mean the same
 /// for these bytes as for those that are spelled, but for the rest behind the tags that a frame leaves with.
 pub fn read_head<'b>(digits: &[u8], buffer: &'b mut [u8; MOST_SPELLED]) -> &'b [u8]
-    requires { length digits.now ≤ 20000 }
+    requires { length digits.now ≤ line_limit }
     ensures { (bytes : List ℕ) → decode_of digits.now ≡ Ok bytes → IsHeadOf bytes result.now }
 {
     let count = digits.len() / 2;

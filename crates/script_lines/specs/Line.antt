@@ -11,6 +11,10 @@ pub data Asked : Type 0 where
   Frame : ℕ → List ℕ → Asked
   Nothing : Asked
 
+-- how many bytes a line may have, with what ends it but its line feed
+abbrev pub line_limit : ℕ
+line_limit = 20000
+
 -- one CR at the end is dropped
 abbrev pub without_cr : List ℕ → List ℕ
 without_cr line = let last = length line - 1 in if slice_index line last == 13 then take last line else line
@@ -24,11 +28,13 @@ abbrev pub number_from : ℕ → List ℕ → Option ℕ
 number_from n [] = Some n
 number_from n (digit ∷ digits) = if nat_le 48 digit && nat_le digit 57 then number_from (10 * n + (digit - 48)) digits else None
 
+-- what decimal digits spell, if there are some and at most so many
+abbrev pub decimal_of : ℕ → List ℕ → Option ℕ
+decimal_of most digits = if length digits == 0 || nat_lt most (length digits) then None else number_from 0 digits
+
 -- a port in one to five decimal digits
 abbrev pub port_of : List ℕ → Option ℕ
-port_of digits =
-    if length digits == 0 || nat_lt 5 (length digits) then None
-    else option_and_then (λ port. if nat_lt port 65536 then Some port else None) (number_from 0 digits)
+port_of digits = option_and_then (λ port. if nat_lt port 65536 then Some port else None) (decimal_of 5 digits)
 
 -- a port, and behind the first space the bytes of a frame
 abbrev pub frame_asked_by : List ℕ → Option Asked
@@ -52,4 +58,4 @@ content_of line =
 
 -- what a line asks for, None where it is bad; one over 20,000 bytes is
 unfoldable pub asked_by : List ℕ → Option Asked
-asked_by line = if nat_lt 20000 (length line) then None else content_of (without_cr line)
+asked_by line = if nat_lt line_limit (length line) then None else content_of (without_cr line)

@@ -8,7 +8,7 @@ pub mod reading;
 mod text;
 
 pub use line::{Line, Parts};
-pub use number::read_port;
+pub use number::{read_decimal, read_port};
 pub use reading::{
     LINE_LIMIT, MOST_SPELLED, Numbered, read_bytes, read_line, read_numbered, split_line,
 };

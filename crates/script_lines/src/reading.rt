@@ -1,7 +1,7 @@
 //! A line of a script, read.
 ghost use Rattle.std.specs.Prelude.{◌≡◌, ◌≤◌, ◌+◌, ◌*◌, ◌==◌, IfSome, length, option_map, position};
 ghost use Rattle.std.specs.Option.{option_and_then};
-ghost use Rattle.script_lines.specs.Line.{asked_by, content_of, frame_asked_by, letter_asked_by, spelled_bytes};
+ghost use Rattle.script_lines.specs.Line.{asked_by, content_of, frame_asked_by, letter_asked_by, line_limit, spelled_bytes};
 ghost use Rattle.script_lines.specs.Line.{Frame};
 ghost use Rattle.script_lines.specs.Shown.{AreDigitsWithin, IsSpelledWithin, asked_in, frame_in, shown};
 
@@ -98,7 +98,7 @@ fn split_content(content: &[u8]) -> Option<Parts<'_>>
 pub fn split_line(line: &[u8]) -> Option<Parts<'_>>
     ensures asked { option_and_then asked_in result ≡ asked_by line.now }
     ensures within { IfSome result (AreDigitsWithin (length line.now)) }
-    ensures short { IfSome result (λ _. length line.now ≤ 20000) }
+    ensures short { IfSome result (λ _. length line.now ≤ line_limit) }
 {
     if line.len() > LINE_LIMIT {
         return None;

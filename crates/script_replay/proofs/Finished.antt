@@ -11,7 +11,7 @@ use Rattle.script_replay.specs.Finish.{Finishes, last_asked}
 use Rattle.script_replay.specs.Replay.{ended_script, Replays, StopsAtLine}
 use Rattle.script_replay.specs.declared.fault.ReplayFault.{ReplayFault}
 use Rattle.script_replay.specs.declared.fault.ReplayFault.TheVariants.{BadLine, Read, Write, NoMemory}
-use Rattle.script_replay.proofs.Ends.{ends_ok, ends_write, part_behind}
+use Rattle.script_replay.proofs.Ends.{ends_last_write, ends_ok, part_behind}
 use Rattle.script_replay.proofs.Replaying.{SoFar, answers_at_end, before_at_end}
 
 -- a read that gives nothing takes start
@@ -50,6 +50,6 @@ module _ (known left before mid after : Option (List ℕ)) (read : List ℕ) (e 
       let number : n ≡ suc lines = omega (arith, f.0) in
       rw number (ends_bad_at_end known left before after read lines took end bad (rw same (Appends-kept before mid after _ told f.2)))
   finished (Err Write) f =
-      ends_write known left before after read took (rw (answers_at_end read e rest lines total now) (part_behind before mid after _ _ told f))
+      ends_last_write known left before after read took end (rw (answers_at_end read e rest lines total now) (part_behind before mid after _ _ told f))
   finished (Err (Read n)) f = absurd f
   finished (Err NoMemory) f = absurd f

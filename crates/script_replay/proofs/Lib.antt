@@ -5,3 +5,4 @@ pub mod Held
 pub mod Messages
 pub mod Replaying
 pub mod Turns
+pub mod Answered

@@ -4,7 +4,7 @@ use Rattle.std.specs.Prelude.{option_map, nat_lt}
 use Rattle.std.proofs.lemmas.List.{append-nil, map-append, length-map}
 use Rattle.std.proofs.lemmas.Bool.{lt-ltb}
 use Rattle.mib_upload.specs.Upload.{DeskState, start}
-use Rattle.script_lines.specs.Line.{Asked, asked_by}
+use Rattle.script_lines.specs.Line.{Asked, asked_by, line_limit}
 use Rattle.script_lines.specs.Text.{cut, last_line}
 use Rattle.script_lines.proofs.Cutting.{NoFeedBelow, cut-append, rest_has_none}
 use Rattle.script_replay.specs.Answers.{answers, answers_from, before_bad, state_from, script_of}
@@ -28,7 +28,7 @@ unfolding asked_by
 next_is_bad [] more long none = absurd (omega arith)
 next_is_bad (b ∷ rest) more long none =
     let begun = begins b rest more none in
-    let over : nat_lt 20000 (length begun.line) ≡ true = lt-ltb 20000 (length begun.line) (omega (arith, begun.long)) in
+    let over : nat_lt line_limit (length begun.line) ≡ true = lt-ltb 20000 (length begun.line) (omega (arith, begun.long)) in
     (map asked_by begun.more, ap (map asked_by) begun.is ∙ rw over refl)
 
 module _ (read : List ℕ) (e : DeskState) (rest : List ℕ) (lines total : ℕ) (now : SoFar read e rest lines total) where

@@ -1,5 +1,5 @@
 -- What a replay of a known text leaves.
-use Rattle.std.specs.Prelude.{◌≡◌, ◌≤◌, ℕ, suc, List, Option, Some, None, Result, Ok, Err, length, map, take, drop, option_map}
+use Rattle.std.specs.Prelude.{◌≡◌, ◌≤◌, ◌⊎◌, ℕ, suc, List, Option, Some, None, Result, Ok, Err, length, map, take, drop, option_map}
 use Rattle.std.specs.Io.KnownBytes.{Appends, IsAtEnd, Keeps}
 use Rattle.mib_upload.specs.Upload.{start}
 use Rattle.script_lines.specs.Line.{Asked, asked_by}
@@ -31,16 +31,21 @@ pub record StopsAtRead (n : ℕ) (text : List ℕ) (left before after : Option (
   pub none_bad : before_bad (ended_script (take n text)) ≡ None
   pub written : Appends before after (answers_from start (ended_script (take n text)))
 
--- n bytes are read, and a front of the answers to them is written
+-- n bytes are read, and a front of the answers to the lines that end in them is written
 pub record StopsAtWrite (n : ℕ) (text : List ℕ) (left before after : Option (List ℕ)) : Type 0 where
   pub within : n ≤ length text
   pub read : left ≡ Some (drop n text)
-  pub written : AppendsPart before after (answers (take n text))
+  pub written : AppendsPart before after (answers_from start (ended_script (take n text)))
+
+-- the whole text is read, and a front of the answers to its lines is written, of which the last needs no line feed
+pub record StopsAtLastWrite (text : List ℕ) (left before after : Option (List ℕ)) : Type 0 where
+  pub at_end : IsAtEnd left
+  pub written : AppendsPart before after (answers text)
 
 -- what is left of the text, and what a writer holds before and after, by how the replay ended
 abbrev pub Replays : List ℕ → Result (Unit {0}) ReplayFault → Option (List ℕ) → Option (List ℕ) → Option (List ℕ) → Type 0
 Replays text (Ok done) left before after = IsAnswered text left before after
 Replays text (Err (BadLine n)) left before after = StopsAtLine n text before after
 Replays text (Err (Read n)) left before after = StopsAtRead n text left before after
-Replays text (Err Write) left before after = (n : ℕ) × StopsAtWrite n text left before after
+Replays text (Err Write) left before after = ((n : ℕ) × StopsAtWrite n text left before after) ⊎ StopsAtLastWrite text left before after
 Replays text (Err NoMemory) left before after = (left ≡ Some text) × Keeps before after

@@ -6,7 +6,7 @@ ghost use Rattle.script_lines.specs.Line.{asked_by};
 ghost use Rattle.script_replay.specs.Answers.{fault_line, line_answer, message_answer, reply_line};
 
 use crate::frame::answer_frame;
-use omci_msg::{MsgFault, Reply, read, write};
+use omci_msg::{MsgFault, Reply, write};
 use onu_unit::Unit;
 use script_digits::{are_pairs, write_digits};
 use script_lines::{MOST_SPELLED, Parts, read_bytes, split_line};
@@ -68,15 +68,9 @@ fn answer_message(onu: &mut Unit, bytes: &[u8], answers: &mut Vec<u8>)
     ensures len { vec_len answers.new ≤ vec_len answers.old + 4 * length bytes.now + 6 }
     ensures capacity { vec_capacity answers.old ≤ vec_capacity answers.new }
 {
-    match read(bytes) {
-        Ok(request) => {
-            let reply = onu.answer(&request);
-            if request.wants_answer {
-                put_reply(answers, &reply);
-            } else {
-                put(answers, b"-\n");
-            }
-        }
+    match onu.message(bytes) {
+        Ok(Some(reply)) => put_reply(answers, &reply),
+        Ok(None) => put(answers, b"-\n"),
         Err(fault) => put_fault(answers, fault),
     }
 }

@@ -3,6 +3,7 @@
 ghost use Rattle.std.specs.Prelude.{◌≡◌, ◌+◌, ◌*◌, ◌≤◌, ◌++◌, ℕ, List, Ok, length, vec_len, vec_capacity};
 ghost use Rattle.frame_meaning.specs.Meaning.{meaning};
 ghost use Rattle.hex.specs.Hex.{decode_of, encode_lower};
+ghost use Rattle.script_lines.specs.Line.{line_limit};
 ghost use Rattle.script_replay.specs.Answers.{dropped_line, forwarded_line, verdict_line};
 ghost use Rattle.std.specs.List.{flat_map};
 ghost use Rattle.tag_view.specs.Frame.{spelled};
@@ -89,7 +90,7 @@ pub(crate) fn answer_frame(
     answers: &mut Vec<u8>,
 )
     requires digits { (bytes : List ℕ) × (decode_of digits.now ≡ Ok bytes) }
-    requires short { length digits.now ≤ 20000 }
+    requires short { length digits.now ≤ line_limit }
     requires room { vec_len answers.old + 3 * length digits.now + 15 ≤ vec_capacity answers.old }
     ensures items { (bytes : List ℕ) → decode_of digits.now ≡ Ok bytes
         → answers.new.items ≡ answers.old.items

@@ -1,2 +1,4 @@
 pub mod Lines
 pub mod Front
+pub mod RequestsFirst
+pub mod TraceLines

@@ -1,10 +1,12 @@
 -- The lines of a script that are read behind so many.
 use Rattle.std.proofs.Common.{◌≡◌, ◌∙◌, ◌+◌, ◌-◌, ◌<◌, ℕ, suc, true, false, List, [], ◌∷◌, Option, Some, None, refl, ap, sym, arith}
-use Rattle.std.specs.Prelude.{is_some, take}
+use Rattle.std.specs.Prelude.{take}
 use Rattle.std.proofs.lemmas.Bool.{ltb-true, ltb-false}
 use Rattle.script_lines.specs.Line.{asked_by}
 use Rattle.script_lines.specs.Text.{lines_of}
 use Rattle.script_trace.specs.Script.{IsBadLine, IsGood, IsWhyNotApplied, Told, after_line, after_lines, bad_among, first_bad, goes_on, nothing_told, read_until}
+use Rattle.script_trace.specs.Trace.{may_stand}
+use Rattle.script_trace.specs.declared.line.FrameLines.TheVariants.{Passed}
 use Rattle.script_trace.specs.declared.fault.ScriptFault.{ScriptFault}
 use Rattle.script_trace.specs.declared.fault.ScriptFault.TheVariants.{BadLine, NoMemory}
 
@@ -51,10 +53,10 @@ pub told_one : (n : ℕ) (until : Option ℕ) (line : List ℕ) (rest : List (Li
     → told_behind n until (line ∷ rest) told ≡ told_behind (n + 1) until rest (after_line (n + 1) (asked_by line) told)
 told_one n until line rest told on = ap (λ l. after_lines n l told) (read_one n until line rest on)
 
-good_first : (n : ℕ) (line : List ℕ) (rest : List (List ℕ)) → is_some (asked_by line) ≡ true → bad_among n (line ∷ rest) ≡ bad_among (n + 1) rest
+good_first : (n : ℕ) (line : List ℕ) (rest : List (List ℕ)) → may_stand Passed (asked_by line) ≡ true → bad_among n (line ∷ rest) ≡ bad_among (n + 1) rest
 good_first n line rest good = rw good refl
 
-bad_at_once : (n : ℕ) (line : List ℕ) (rest : List (List ℕ)) → asked_by line ≡ None → bad_among n (line ∷ rest) ≡ Some (n + 1)
+bad_at_once : (n : ℕ) (line : List ℕ) (rest : List (List ℕ)) → may_stand Passed (asked_by line) ≡ false → bad_among n (line ∷ rest) ≡ Some (n + 1)
 bad_at_once n line rest none = rw none refl
 
 pub bad_later : (n : ℕ) (until : Option ℕ) (line : List ℕ) (rest : List (List ℕ)) → goes_on n until ≡ true → IsGood (asked_by line)
@@ -62,7 +64,7 @@ pub bad_later : (n : ℕ) (until : Option ℕ) (line : List ℕ) (rest : List (L
 bad_later n until line rest on good =
     ap (bad_among n) (read_one n until line rest on) ∙ good_first n line (read_until (left_until (n + 1) until) rest) good
 
-pub bad_here : (n : ℕ) (until : Option ℕ) (line : List ℕ) (rest : List (List ℕ)) → goes_on n until ≡ true → asked_by line ≡ None
+pub bad_here : (n : ℕ) (until : Option ℕ) (line : List ℕ) (rest : List (List ℕ)) → goes_on n until ≡ true → may_stand Passed (asked_by line) ≡ false
     → bad_behind n until (line ∷ rest) ≡ Some (n + 1)
 bad_here n until line rest on none =
     ap (bad_among n) (read_one n until line rest on) ∙ bad_at_once n line (read_until (left_until (n + 1) until) rest) none

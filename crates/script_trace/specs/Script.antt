@@ -1,13 +1,15 @@
 -- What the messages of a script leave, and what was wrong with them.
-use Rattle.std.specs.Prelude.{◌≡◌, ℕ, ◌+◌, ◌&&◌, ⊤, Bool, true, not, List, [], ◌∷◌, ◌++◌, Option, Some, None, Result, Ok, Err, if◌then◌else◌, is_some, nat_lt, take}
+use Rattle.std.specs.Prelude.{◌≡◌, ℕ, ◌+◌, ◌&&◌, ⊤, Bool, true, false, not, List, [], ◌∷◌, ◌++◌, Option, Some, None, Result, Ok, Err, if◌then◌else◌, nat_lt, take}
 use Rattle.omci_msg.specs.Message.{request_of}
 use Rattle.omci_msg.specs.declared.Request.{Request}
 use Rattle.omci_msg.specs.declared.fault.MsgFault.{MsgFault}
 use Rattle.mib_state.specs.After.{is_accepted, may_change}
 use Rattle.mib_state.specs.Entities.{State, nothing, unlatched}
 use Rattle.mib_state.specs.Step.{step}
-use Rattle.script_lines.specs.Line.{Asked, Message, Frame, Nothing, asked_by}
+use Rattle.script_lines.specs.Line.{Asked, asked_by}
 use Rattle.script_lines.specs.Text.{lines_of}
+use Rattle.script_trace.specs.Trace.{may_stand, message_in}
+use Rattle.script_trace.specs.declared.line.FrameLines.TheVariants.{Passed}
 use Rattle.script_trace.specs.declared.applied.Accepted.{Accepted}
 use Rattle.script_trace.specs.declared.applied.Applied.{Applied}
 use Rattle.script_trace.specs.declared.applied.Faulty.{Faulty}
@@ -57,11 +59,13 @@ abbrev pub after_message : ℕ → Result Request MsgFault → Told → Told
 after_message n (Ok q) told = after_request n q told
 after_message n (Err fault) told = record told { faulty = told.faulty ++ faulty_at n fault ∷ [] }
 
+-- a line holds these bytes of a message, or none
+abbrev pub after_bytes : ℕ → Option (List ℕ) → Told → Told
+after_bytes n None told = told
+after_bytes n (Some bytes) told = after_message n (request_of bytes) told
+
 abbrev pub after_line : ℕ → Option Asked → Told → Told
-after_line n None told = told
-after_line n (Some (Message bytes)) told = after_message n (request_of bytes) told
-after_line n (Some (Frame port bytes)) told = told
-after_line n (Some Nothing) told = told
+after_line n asked told = after_bytes n (message_in asked) told
 
 -- after lines, the first of which has the number behind this one
 abbrev pub after_lines : ℕ → List (List ℕ) → Told → Told
@@ -91,7 +95,7 @@ after_script until script = after_lines 0 (read_until until (lines_of script)) n
 -- the number of the first bad line among some, the first of which has the number behind this one
 abbrev pub bad_among : ℕ → List (List ℕ) → Option ℕ
 bad_among n [] = None
-bad_among n (line ∷ rest) = if is_some (asked_by line) then bad_among (n + 1) rest else Some (n + 1)
+bad_among n (line ∷ rest) = if may_stand Passed (asked_by line) then bad_among (n + 1) rest else Some (n + 1)
 
 -- the number, from 1, of the first bad line that is read
 abbrev pub first_bad : Option ℕ → List ℕ → Option ℕ
@@ -99,11 +103,11 @@ first_bad until script = bad_among 0 (read_until until (lines_of script))
 
 -- a line isn't bad
 abbrev pub IsGood : Option Asked → Type 0
-IsGood asked = is_some asked ≡ true
+IsGood asked = may_stand Passed asked ≡ true
 
 -- why a line isn't carried out: it is bad, or memory is wanting
 abbrev pub IsBadLine : ℕ → Option Asked → ScriptFault → Type 0
-IsBadLine n asked (BadLine m) = (m ≡ n) × (asked ≡ None)
+IsBadLine n asked (BadLine m) = (m ≡ n) × (may_stand Passed asked ≡ false)
 IsBadLine n asked NoMemory = ⊤
 
 -- why a script isn't carried out: its first bad line, or want of memory

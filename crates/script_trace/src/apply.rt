@@ -1,26 +1,16 @@
 //! The messages of a script, carried out.
 ghost use Rattle.std.specs.Prelude.{◌≡◌, None, IfErr, IfOk};
 ghost use Rattle.omci_msg.specs.Message.{request_of};
-ghost use Rattle.mib_state.specs.After.{may_change};
 ghost use Rattle.script_lines.specs.Line.{asked_by};
 ghost use Rattle.script_trace.specs.Script.{IsBadLine, IsGood, IsWhyNotApplied, after_line, after_message, after_request, after_script, first_bad, goes_on, told_by};
 
 use crate::applied::{Accepted, Applied, Faulty, Refused};
 use crate::fault::ScriptFault;
-use mib_state::Mib;
-use omci_msg::{Action, Request, read};
-use script_lines::{Line, MOST_SPELLED, first_line, read_line};
+use crate::line::{BadLine, FrameLines, read_message};
+use mib_state::{Mib, may_change};
+use omci_msg::{Request, read};
+use script_lines::{MOST_SPELLED, first_line};
 use std::alloc::{AllocError, Global};
-
-/// Whether an action may change the entities.
-fn may_change(action: Action) -> bool
-    ensures { result ≡ may_change action }
-{
-    matches!(
-        action,
-        Action::Create | Action::Delete | Action::Set | Action::MibReset
-    )
-}
 
 /// Whether a line stands behind the last one that is read.
 fn goes_on(read: u64, until: Option<u64>) -> bool
@@ -80,10 +70,10 @@ impl Applied {
             ≡ after_line number (asked_by line.now) (told_by self.old)) }
         ensures bad { IfErr result (IsBadLine number (asked_by line.now)) }
     {
-        match read_line(line, buffer) {
-            Some(Line::Message(bytes)) => Ok(self.apply_message(number, bytes)?),
-            Some(_) => Ok(()),
-            None => Err(ScriptFault::BadLine(number)),
+        match read_message(line, buffer, FrameLines::Passed) {
+            Ok(Some(bytes)) => Ok(self.apply_message(number, bytes)?),
+            Ok(None) => Ok(()),
+            Err(BadLine) => Err(ScriptFault::BadLine(number)),
         }
     }
 }

@@ -1,38 +1,19 @@
 //! Which line of a script set an entry of a received frame VLAN tagging operation table (ITU-T G.988, clause 9.3.13).
-ghost use Rattle.std.specs.Prelude.{◌≡◌, ◌≤◌, IfSome};
+ghost use Rattle.std.specs.Prelude.{◌≡◌};
 ghost use Rattle.omci_msg.specs.declared.Action.TheVariants.{Set};
-ghost use Rattle.managed_entity.specs.Class.{vlan_layout};
-ghost use Rattle.managed_entity.specs.Set.{entry_at};
 ghost use Rattle.script_trace.specs.Setting.{sets_by, sets_entry, setting_line};
 
 use crate::applied::Accepted;
-use managed_entity::{Class, mask_of, names, set_values};
+use managed_entity::{Class, entry_at, mask_of, set_values};
 use omci_msg::{Action, Request};
 use vlan_rule::Entry;
 
-/// Where the entry of the table stands among the values of a Set, if the mask names the table.
-fn entry_at(mask: u16) -> Option<usize>
-    ensures value { result ≡ entry_at mask 0 vlan_layout }
-    ensures front { IfSome result (λ at. at ≤ 8) }
-{
-    let layout = Class::Vlan.layout();
-    let mut at = 0;
-    for place in 0..layout.len() {
-        if names(mask, place) {
-            if layout[place].access.is_table() {
-                return Some(at);
-            }
-            at += layout[place].width as usize;
-        }
-    }
-    None
-}
-
 /// Whether the entry that a Set puts has the key.
+#[tactic(auto, using(crate::proofs::Front::vlan_front))]
 fn has_key(contents: &[u8; 32], key: u64) -> bool
     ensures { result ≡ sets_by Set key contents.now }
 {
-    let Some(at) = entry_at(mask_of(contents)) else {
+    let Some(at) = entry_at(Class::Vlan.layout(), mask_of(contents)) else {
         return false;
     };
     let mut entry = [0; 16];

@@ -5,7 +5,7 @@ use Rattle.std.proofs.lemmas.Result.{err_from_is_err_and}
 use Rattle.script_lines.specs.Text.{cut}
 use Rattle.text_writing.specs.Written.{AppendsPart}
 use Rattle.script_replay.specs.Finish.{Finishes}
-use Rattle.script_replay.proofs.Ends.{ends_bad, ends_write, part_behind, part_of_ended}
+use Rattle.script_replay.proofs.Ends.{ends_bad, ends_write, part_behind}
 use Rattle.script_replay.proofs.Finished.{consumes_none, finished}
 use Rattle.script_replay.proofs.Held.{held, held_no_feed, long_rest, moved, told}
 use Rattle.script_replay.proofs.Replaying.{answers_more, so_far_more, bad_in_piece, bad_if_long, rest_no_feed, so_far_as}
@@ -29,7 +29,7 @@ returns-in_err-write_whole g c =
     let more = answers_more s.0 c.loop.onu (take c.loop.begun c.loop.text) c.loop.lines c.loop.total s.1 piece in
     let p = err_from_is_err_and c.from_residual.result c.from_residual.ensures.1 in
     rw (p.1, p.2)
-    (ends_write _ _ _ _ (s.0 ++ piece) took (part_of_ended _ _ (s.0 ++ piece) (rw more (part_behind _ _ _ _ _ s.3 part))))
+    (ends_write _ _ _ _ (s.0 ++ piece) took (rw more (part_behind _ _ _ _ _ s.3 part)))
 
 pub answer_lines-answered-requires-clause-searched : goal.answer_lines-answered-requires-clause-searched
 answer_lines-answered-requires-clause-searched g c =

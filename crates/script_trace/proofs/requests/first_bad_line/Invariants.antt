@@ -1,7 +1,7 @@
 use Rattle.std.proofs.Common.{◌≡◌, ◌≤◌, ◌+◌, length}
-use Rattle.run_trace.specs.Trace.{first_bad}
-use Rattle.run_trace.proofs.Lines.{bad_from}
-use Rattle.run_trace.proofs.trace.first_bad_line.Given as goal
+use Rattle.script_trace.specs.Trace.{first_bad}
+use Rattle.script_trace.proofs.TraceLines.{bad_from}
+use Rattle.script_trace.proofs.requests.first_bad_line.Given as goal
 
 abbrev pub invariant-loop-rest : goal.invariant-loop-rest
 invariant-loop-rest l = record {

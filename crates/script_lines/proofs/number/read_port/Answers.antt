@@ -1,7 +1,0 @@
--- An answer of its own, so that no other is looked for where a wrong body breaks it.
-use Rattle.std.proofs.Common.{arith}
-use Rattle.std.proofs.lemmas.Grind.{common_steps}
-use Rattle.script_lines.proofs.number.read_port.Goals as goal
-
-pub returns : goal.returns
-returns c = grind (arith, common_steps)
