@@ -7,7 +7,7 @@ use Rattle.frame_meaning.specs.Reason.{number_of_reason}
 use Rattle.frame_meaning.specs.declared.reason.Reason.{Reason}
 use Rattle.frame_meaning.specs.declared.reason.Reason.TheVariants.{Runt, CutTag, NoRule, RuleDiscard, NoMapper, NullPointer, NoInterwork, NoGem, Direction}
 use Rattle.frame_meaning.specs.declared.verdict.Verdict.{Verdict}
-use Rattle.frame_stats.specs.Figures.{Figure, Frames, Bytes, DropsFor, FramesTo, figure}
+use Rattle.frame_stats.specs.Figures.{Figure, Frames, Bytes, DropsFor, FramesTo, figure, gem_ports}
 use Rattle.run_lanes.specs.Run.{verdicts_from}
 use Rattle.run_settings.specs.declared.settings.RunSettings.{RunSettings}
 
@@ -51,7 +51,7 @@ gem_lines_from port n of = flat_map (λ gem. count_line (codes "gem ") gem (of (
 
 -- those that leave by any
 unfoldable pub gem_lines : (Figure → ℕ) → List ℕ
-gem_lines of = gem_lines_from 0 65536 of
+gem_lines of = gem_lines_from 0 gem_ports of
 
 abbrev pub figure_lines : (Figure → ℕ) → List ℕ
 figure_lines of = number_line (codes "frames ") (of Frames) ++ number_line (codes "bytes ") (of Bytes) ++ drop_lines of ++ gem_lines of

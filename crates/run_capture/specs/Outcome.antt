@@ -1,25 +1,22 @@
 -- What a run leaves, by how it ends.
-use Rattle.std.specs.Prelude.{◌≡◌, ℕ, if◌then◌else◌, List, Option, Some, None, Result, Ok, Err, length}
+use Rattle.std.specs.Prelude.{◌≡◌, ℕ, if◌then◌else◌, List, Option, Some, None, Result, Ok, Err, length, map}
 use Rattle.std.specs.Io.KnownBytes.{Appends, Keeps}
 use Rattle.capture.specs.Records.{capture_of}
 use Rattle.capture.specs.declared.fault.CaptureFault.{CaptureFault}
 use Rattle.omci_msg.specs.declared.Request.{Request}
 use Rattle.run_lanes.specs.Run.{AreAdmissible, SomeRunPasses, batches_in}
-use Rattle.run_trace.specs.Trace.{first_bad, requests_of}
+use Rattle.script_trace.specs.Trace.{first_bad, requests_of}
 use Rattle.run_settings.specs.Settings.{can_run}
 use Rattle.run_settings.specs.declared.settings.RunSettings.{RunSettings}
 use Rattle.mib_state.specs.After.{accepted}
 use Rattle.text_writing.specs.Written.{AppendsPart}
 use Rattle.run_capture.specs.Lines.{run_lines}
+use Rattle.run_capture.specs.declared.source.FrameSource.{FrameSource}
+use Rattle.run_capture.specs.declared.source.FrameSource.TheVariants.{Whole, InPieces, Listed}
 use Rattle.run_capture.specs.declared.fault.RunFault.{RunFault}
 use Rattle.run_capture.specs.declared.fault.RunFault.TheVariants.{Settings, BadTrace, Capture, NoMemory, Refused, CountFull, Write}
 
 -- ---- what is wrong with the input
-
--- the fault of a trace whose first bad line is this
-abbrev pub trace_fault : Option ℕ → Option RunFault
-trace_fault (Some n) = Some (BadTrace n)
-trace_fault None = None
 
 -- the fault of a trace whose first bad line is this, or else that of the capture
 abbrev pub file_fault : Option ℕ → Result (List (List ℕ)) CaptureFault → Option RunFault
@@ -31,9 +28,15 @@ file_fault None (Ok frames) = None
 abbrev pub input_fault : List ℕ → List ℕ → RunSettings → Option RunFault
 input_fault trace file s = if can_run s then file_fault (first_bad trace) (capture_of file) else Some Settings
 
--- the first fault of what a run of listed frames is given
-abbrev pub listed_fault : List ℕ → RunSettings → Option RunFault
-listed_fault trace s = if can_run s then trace_fault (first_bad trace) else Some Settings
+-- the fault of frames as they are held: that of their capture
+abbrev pub frames_fault : FrameSource → Option RunFault
+frames_fault (Whole file) = file_fault None (capture_of file.now)
+frames_fault (InPieces pieces) = file_fault None (capture_of pieces.now)
+frames_fault (Listed frames) = None
+
+-- the first fault of what a run of given requests is given
+abbrev pub held_fault : FrameSource → RunSettings → Option RunFault
+held_fault frames s = if can_run s then frames_fault frames else Some Settings
 
 -- ---- the output
 
@@ -44,17 +47,28 @@ pub record IsOutputOver (requests : List Request) (frames : List (List ℕ)) (s 
   pub admissible : AreAdmissible (length requests) s.lanes s.after versions
   pub lines : out ≡ run_lines requests s frames versions
 
--- this is written by a run of the file's frames, with the trace's accepted requests
-pub record IsOutput (trace file : List ℕ) (s : RunSettings) (out : List ℕ) : Type 0 where
+-- this is written by a run of the file's frames, with these requests accepted
+pub record IsOutput (requests : List Request) (file : List ℕ) (s : RunSettings) (out : List ℕ) : Type 0 where
   pub frames : List (List ℕ)
   pub captured : capture_of file ≡ Ok frames
-  pub over : IsOutputOver (accepted (requests_of trace)) frames s out
+  pub over : IsOutputOver requests frames s out
 
--- a sum of the verdicts on the file's frames passes 64 bits, by versions that its batches may have under the trace
-pub record CountsPass (trace file : List ℕ) (s : RunSettings) : Type 0 where
+-- a sum of the verdicts on the file's frames passes 64 bits, by versions that its batches may have with these requests accepted
+pub record CountsPass (requests : List Request) (file : List ℕ) (s : RunSettings) : Type 0 where
   pub frames : List (List ℕ)
   pub captured : capture_of file ≡ Ok frames
-  pub passes : SomeRunPasses (accepted (requests_of trace)) s frames
+  pub passes : SomeRunPasses requests s frames
+
+-- the same of frames as they are held
+abbrev pub IsOutputOf : List Request → FrameSource → RunSettings → List ℕ → Type 0
+IsOutputOf requests (Whole file) s out = IsOutput requests file.now s out
+IsOutputOf requests (InPieces pieces) s out = IsOutput requests pieces.now s out
+IsOutputOf requests (Listed frames) s out = IsOutputOver requests (map (λ frame. frame.now) frames.now) s out
+
+abbrev pub SumsPass : List Request → FrameSource → RunSettings → Type 0
+SumsPass requests (Whole file) s = CountsPass requests file.now s
+SumsPass requests (InPieces pieces) s = CountsPass requests pieces.now s
+SumsPass requests (Listed frames) s = SomeRunPasses requests s (map (λ frame. frame.now) frames.now)
 
 -- ---- the end
 
@@ -72,13 +86,13 @@ Ends first Out Passes (Err Write) before after = (first ≡ None) × (out : List
 
 -- that of a run of a file
 abbrev pub Runs : List ℕ → List ℕ → RunSettings → Result (Unit {0}) RunFault → Option (List ℕ) → Option (List ℕ) → Type 0
-Runs trace file s = Ends (input_fault trace file s) (IsOutput trace file s) (CountsPass trace file s)
-
--- that of a run of listed frames
-abbrev pub RunsFrames : List ℕ → List (List ℕ) → RunSettings → Result (Unit {0}) RunFault → Option (List ℕ) → Option (List ℕ) → Type 0
-RunsFrames trace frames s =
+Runs trace file s =
     let requests = accepted (requests_of trace) in
-    Ends (listed_fault trace s) (IsOutputOver requests frames s) (SomeRunPasses requests s frames)
+    Ends (input_fault trace file s) (IsOutput requests file s) (CountsPass requests file s)
+
+-- that of a run of frames as they are held, while these requests are applied
+abbrev pub RunsFrames : List Request → FrameSource → RunSettings → Result (Unit {0}) RunFault → Option (List ℕ) → Option (List ℕ) → Type 0
+RunsFrames requests frames s = Ends (held_fault frames s) (IsOutputOf (accepted requests) frames s) (SumsPass (accepted requests) frames s)
 
 -- why there is nothing to write
 abbrev pub IsWhyNone : Option RunFault → Type 0 → RunFault → Type 0

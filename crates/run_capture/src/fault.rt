@@ -3,7 +3,11 @@ ghost use Rattle.std.specs.Prelude.{◌≡◌};
 ghost use Rattle.run_capture.specs.Fault.{number_of_fault, status_of_fault};
 
 use capture::CaptureFault;
+use run_settings::{BATCH_LIMIT, LANE_LIMIT};
 use thiserror::Error;
+
+/// The words say these limits.
+const _: () = prove!(LANE_LIMIT == 16 && BATCH_LIMIT == 65_536);
 
 /// Why a run didn't write its lines. Of the first three it is the one that stands first here; they are found whether or not there
 /// is memory.

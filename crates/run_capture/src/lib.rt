@@ -2,8 +2,8 @@
 //!
 //! **What is written** is defined in `specs/Lines.antt`, from the accepted requests, the frames and the versions of the batches:
 //! [`run_over`] writes the lines of versions that the batches may have, as `run_lanes` says. With `after` there is one such
-//! choice, so the lines are a function of the input, whatever the lanes. [`run_pieces`] does the same for a file that is held in pieces, and [`run_frames`] for frames that the caller has
-//! listed, as those of another capture format.
+//! choice, so the lines are a function of the input, whatever the lanes. [`run_frames`] does the same with requests that were read
+//! and frames as they are held: a file whole or in pieces, or a list.
 //!
 //! **All or nothing.** The whole text, a short line a batch and those of the totals, is made before the first byte of it is
 //! written; so a run that finds no memory on the way writes nothing.
@@ -20,7 +20,6 @@ mod source;
 
 pub use fault::RunFault;
 pub use report::report_run;
-pub use run::{
-    run_frames, run_frames_shown, run_over, run_over_shown, run_pieces, run_pieces_shown,
-};
+pub use run::{run_frames, run_over};
 pub use run_settings::RunSettings;
+pub use source::FrameSource;

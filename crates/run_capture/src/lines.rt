@@ -4,6 +4,7 @@ ghost use Rattle.frame_stats.specs.Figures.{Figure, FramesTo, counted};
 ghost use Rattle.frame_stats.specs.Ports.{in_map};
 ghost use Rattle.run_capture.specs.Lines.{accepted_line, batch_line, batch_lines_from, count_line, drop_lines, figure_lines, gem_lines, number_line};
 
+use frame_meaning::Reason;
 use frame_stats::Counts;
 use itoa::Buffer;
 use run_lanes::Ran;
@@ -78,7 +79,7 @@ fn put_batches(
 fn put_drops(text: &mut Vec<u8>, counts: &Counts) -> Result<(), AllocError>
     ensures { OnOk result (text.new.items ≡ text.old.items ++ drop_lines (counted counts.now)) }
 {
-    for place in 0..9 {
+    for place in 0..Reason::COUNT {
         put_count(text, b"drop ", place + 1, counts.drops[place])?;
     }
     Ok(())

@@ -1,5 +1,5 @@
 //! A run: a capture forwarded while a trace is applied, and its lines written.
-ghost use Rattle.std.specs.Prelude.{◌≡◌, ◌<◌, ◌^◌, ℕ, List, None, IfOk, IfErr, OnOk, OnErr, length, map, unwrap_or};
+ghost use Rattle.std.specs.Prelude.{◌≡◌, ◌<◌, ◌^◌, None, IfOk, IfErr, OnOk, OnErr, length, unwrap_or};
 ghost use Rattle.std.specs.Io.KnownBytes.{Appends};
 ghost use Rattle.capture.specs.Records.{capture_of};
 ghost use Rattle.text_writing.specs.Written.{AppendsPart};
@@ -7,31 +7,34 @@ ghost use Rattle.mib_state.specs.After.{accepted};
 ghost use Rattle.run_lanes.specs.Frames.{frames_in, IsCutFor};
 ghost use Rattle.run_lanes.specs.Run.{SomeRunPasses};
 ghost use Rattle.run_settings.specs.Settings.{CanRun};
-ghost use Rattle.run_trace.specs.Trace.{requests_of};
+ghost use Rattle.script_trace.specs.Trace.{requests_of};
 ghost use Rattle.run_capture.specs.Outcome.{
   file_fault,
+  frames_fault,
+  held_fault,
   input_fault,
-  listed_fault,
   CountsPass,
   IsOutput,
+  IsOutputOf,
   IsOutputOver,
   IsWhyNone,
   Runs,
   RunsFrames,
+  SumsPass,
 };
-ghost use Rattle.run_capture.specs.Source.{file_in};
 ghost use Rattle.run_capture.specs.declared.fault.RunFault.TheVariants.{NoMemory};
+ghost use Rattle.run_capture.specs.declared.source.FrameSource.TheVariants.{InPieces, Listed, Whole};
 
 use crate::fault::RunFault;
 use crate::lines::lines_of;
 use crate::progress::{Progress, Watched, show};
-use crate::source::{Source, listing};
-use capture::list_frames;
+use crate::source::{FrameSource, listing};
+use capture::{Pcap, list_frames};
 use capture_pieces::Pieces;
 use omci_msg::Request;
 use run_lanes::{LaneFault, RunFrames, RunSource, run_lanes_over};
 use run_settings::RunSettings;
-use run_trace::{TraceFault, read_requests};
+use script_trace::{ScriptFault, read_requests};
 use std::alloc::Global;
 use std::io::Write;
 use std::rt::Clock;
@@ -79,107 +82,100 @@ fn output_over<R: Threads + Wait + Sync>(
     Ok(out)
 }
 
-/// What a run of a file's frames writes, or why it writes nothing. Of a file in pieces no list of all frames is made.
-fn output_of_file<R: Threads + Wait + Sync>(
+/// What a run of frames writes as they are held, or why it writes nothing. Of a file in pieces no list of all frames is made.
+fn output_of_frames<R: Threads + Wait + Sync>(
     rt: &R,
     alloc: Global,
     requests: &[Request],
-    source: Source<'_>,
+    frames: FrameSource<'_>,
     settings: &RunSettings,
     progress: &Progress,
 ) -> Result<Vec<u8>, RunFault>
     requires { CanRun settings.now }
-    ensures output { (trace : List ℕ) → requests.now ≡ requests_of trace → IfOk result
-        (λ out. IsOutput trace (file_in source.entry) settings.now out.items) }
-    ensures fault { (trace : List ℕ) → requests.now ≡ requests_of trace → IfErr result (IsWhyNone
-        (file_fault None (capture_of (file_in source.entry)))
-        (CountsPass trace (file_in source.entry) settings.now)) }
+    ensures fits { IfOk result (λ out. frames_fault frames.entry ≡ None) }
+    ensures output { IfOk result (λ out.
+        IsOutputOf (accepted requests.now) frames.entry settings.now out.items) }
+    ensures fault { IfErr result (IsWhyNone (frames_fault frames.entry)
+        (SumsPass (accepted requests.now) frames.entry settings.now)) }
 {
-    match source {
-        Source::Whole(file) => match list_frames(alloc, file) {
+    match frames {
+        FrameSource::Whole(file) => match list_frames(alloc, file) {
             Ok(list) => {
                 let frames = RunFrames::Listed(&list);
                 output_over(rt, alloc, requests, frames, settings, progress)
             }
             Err(fault) => Err(listing(fault)),
         },
-        Source::InPieces(pieces) => match pieces.cut(alloc, settings.batch) {
+        FrameSource::InPieces(pieces) => match pieces.cut(alloc, settings.batch) {
             Ok(batches) => {
                 let frames = RunFrames::Cut(&batches);
                 output_over(rt, alloc, requests, frames, settings, progress)
             }
             Err(fault) => Err(listing(fault)),
         },
+        // the batches are counted in 32 bits
+        FrameSource::Listed(list) if list.len() > u32::MAX as usize => Err(RunFault::Refused),
+        FrameSource::Listed(list) => {
+            let frames = RunFrames::Listed(list);
+            output_over(rt, alloc, requests, frames, settings, progress)
+        }
     }
+}
+
+/// The same, also with settings that no run can have.
+fn output_held<R: Threads + Wait + Sync>(
+    rt: &R,
+    alloc: Global,
+    requests: &[Request],
+    frames: FrameSource<'_>,
+    settings: &RunSettings,
+    progress: &Progress,
+) -> Result<Vec<u8>, RunFault>
+    ensures fits { IfOk result (λ out. held_fault frames.entry settings.now ≡ None) }
+    ensures output { IfOk result (λ out.
+        IsOutputOf (accepted requests.now) frames.entry settings.now out.items) }
+    ensures fault { IfErr result (IsWhyNone (held_fault frames.entry settings.now)
+        (SumsPass (accepted requests.now) frames.entry settings.now)) }
+{
+    if !settings.can_run() {
+        return Err(RunFault::Settings);
+    }
+    output_of_frames(rt, alloc, requests, frames, settings, progress)
 }
 
 /// What a run of a file writes, or why it writes nothing.
-fn output_of<R: Threads + Wait + Sync>(
+fn output_of_file<R: Threads + Wait + Sync>(
     rt: &R,
     alloc: Global,
     trace: &[u8],
-    source: Source<'_>,
+    file: &[u8],
     settings: &RunSettings,
-    progress: &Progress,
 ) -> Result<Vec<u8>, RunFault>
-    ensures fits { IfOk result (λ out.
-        input_fault trace.now (file_in source.entry) settings.now ≡ None) }
+    ensures fits { IfOk result (λ out. input_fault trace.now file.now settings.now ≡ None) }
     ensures output { IfOk result (λ out.
-        IsOutput trace.now (file_in source.entry) settings.now out.items) }
-    ensures fault { IfErr result (IsWhyNone
-        (input_fault trace.now (file_in source.entry) settings.now)
-        (CountsPass trace.now (file_in source.entry) settings.now)) }
+        IsOutput (accepted (requests_of trace.now)) file.now settings.now out.items) }
+    ensures fault { IfErr result (IsWhyNone (input_fault trace.now file.now settings.now)
+        (CountsPass (accepted (requests_of trace.now)) file.now settings.now)) }
 {
     if !settings.can_run() {
         return Err(RunFault::Settings);
     }
     let requests = match read_requests(alloc, trace) {
         Ok(requests) => requests,
-        Err(TraceFault::BadLine(line)) => return Err(RunFault::BadTrace(line)),
-        Err(TraceFault::NoMemory) => return Err(without_memory(alloc, source)),
+        Err(ScriptFault::BadLine(line)) => return Err(RunFault::BadTrace(line)),
+        Err(ScriptFault::NoMemory) => return Err(without_memory(file)),
     };
-    output_of_file(rt, alloc, &requests, source, settings, progress)
-}
-
-/// What a run of listed frames writes, or why it writes nothing.
-fn output_of_frames<R: Threads + Wait + Sync>(
-    rt: &R,
-    alloc: Global,
-    trace: &[u8],
-    frames: &[&[u8]],
-    settings: &RunSettings,
-    progress: &Progress,
-) -> Result<Vec<u8>, RunFault>
-    ensures fits { IfOk result (λ out. listed_fault trace.now settings.now ≡ None) }
-    ensures output { IfOk result (λ out. IsOutputOver (accepted (requests_of trace.now))
-        (map (λ frame. frame.now) frames.now) settings.now out.items) }
-    ensures fault { IfErr result (IsWhyNone (listed_fault trace.now settings.now)
-        (SomeRunPasses (accepted (requests_of trace.now)) settings.now
-        (map (λ frame. frame.now) frames.now))) }
-{
-    if !settings.can_run() {
-        return Err(RunFault::Settings);
-    }
-    let requests = match read_requests(alloc, trace) {
-        Ok(requests) => requests,
-        Err(TraceFault::BadLine(line)) => return Err(RunFault::BadTrace(line)),
-        Err(TraceFault::NoMemory) => return Err(RunFault::NoMemory),
-    };
-    // the batches are counted in 32 bits
-    if frames.len() > u32::MAX as usize {
-        return Err(RunFault::Refused);
-    }
-    let frames = RunFrames::Listed(frames);
-    output_over(rt, alloc, &requests, frames, settings, progress)
+    let frames = FrameSource::Whole(file);
+    output_of_frames(rt, alloc, &requests, frames, settings, &Progress::new())
 }
 
 /// Why nothing is written where the requests of the trace find no memory: the capture has a fault, or else that.
-fn without_memory(alloc: Global, source: Source<'_>) -> RunFault
-    ensures { result ≡ unwrap_or (file_fault None (capture_of (file_in source.entry))) NoMemory }
+fn without_memory(file: &[u8]) -> RunFault
+    ensures { result ≡ unwrap_or (file_fault None (capture_of file.now)) NoMemory }
 {
-    match source.fault(alloc) {
-        Some(fault) => RunFault::Capture(fault),
-        None => RunFault::NoMemory,
+    match Pcap::open(file) {
+        Ok(_) => RunFault::NoMemory,
+        Err(fault) => RunFault::Capture(fault),
     }
 }
 
@@ -237,183 +233,159 @@ pub fn run_over<R: Threads + Wait + Sync, W: Write>(
     ensures { Runs trace.now frames.now settings.now result (W.contents writer.old)
         (W.contents writer.new) }
 {
-    let source = Source::Whole(frames);
-    let out = match output_of(rt, alloc, trace, source, settings, &Progress::new()) {
+    let out = match output_of_file(rt, alloc, trace, frames, settings) {
         Ok(out) => out,
         Err(fault) => return Err(fault),
     };
     write_lines(writer, &out)
 }
 
-/// Runs over a capture file that is held in pieces, and does the same as [`run_over`] does with the file as one slice.
-pub fn run_pieces<R: Threads + Wait + Sync, W: Write>(
+/// What a run of a file's frames writes, or why it writes nothing, while a line on `err` shows how far it is.
+fn whole_shown<R: Threads + Wait + Clock + Alloc<A = Global> + Sync, E: Write + Send>(
     rt: &R,
-    alloc: Global,
-    trace: &[u8],
+    requests: &[Request],
+    file: &[u8],
+    settings: &RunSettings,
+    err: &mut E,
+) -> Result<Vec<u8>, RunFault>
+    ensures fits { IfOk result (λ out. held_fault (Whole file.entry) settings.now ≡ None) }
+    ensures output { IfOk result (λ out.
+        IsOutputOf (accepted requests.now) (Whole file.entry) settings.now out.items) }
+    ensures fault { IfErr result (IsWhyNone (held_fault (Whole file.entry) settings.now)
+        (SumsPass (accepted requests.now) (Whole file.entry) settings.now)) }
+{
+    make_shown(
+        rt,
+        settings,
+        err,
+        |progress: &Progress| -> Result<Vec<u8>, RunFault>
+            ensures fits { IfOk result (λ out.
+                held_fault (Whole file.entry) settings.entry.now ≡ None) }
+            ensures output { IfOk result (λ out. IsOutputOf (accepted requests.entry.now)
+                (Whole file.entry) settings.entry.now out.items) }
+            ensures fault { IfErr result (IsWhyNone
+                (held_fault (Whole file.entry) settings.entry.now)
+                (SumsPass (accepted requests.entry.now) (Whole file.entry) settings.entry.now)) }
+        {
+            let frames = FrameSource::Whole(file);
+            output_held(rt, rt.alloc(), requests, frames, settings, progress)
+        },
+    )
+}
+
+/// The same of a file that is held in pieces.
+fn pieces_shown<R: Threads + Wait + Clock + Alloc<A = Global> + Sync, E: Write + Send>(
+    rt: &R,
+    requests: &[Request],
     pieces: &Pieces,
     settings: &RunSettings,
-    writer: &mut W,
-) -> Result<(), RunFault>
-    ensures { Runs trace.now pieces.now settings.now result (W.contents writer.old)
-        (W.contents writer.new) }
-{
-    let source = Source::InPieces(pieces);
-    let out = match output_of(rt, alloc, trace, source, settings, &Progress::new()) {
-        Ok(out) => out,
-        Err(fault) => return Err(fault),
-    };
-    write_lines(writer, &out)
-}
-
-/// The same as [`run_over`], and meanwhile a line on `err`, which is to be a terminal, says how many frames were forwarded and how
-/// many messages are published, or with `after` that they are being published and then how many frames were forwarded. It is
-/// written anew about twice a second, and is gone before the lines are written. A write to `err` that fails is passed over.
-pub fn run_over_shown<
-    R: Threads + Wait + Clock + Alloc<A = Global> + Sync,
-    W: Write,
-    E: Write + Send,
->(
-    rt: &R,
-    trace: &[u8],
-    frames: &[u8],
-    settings: &RunSettings,
-    writer: &mut W,
     err: &mut E,
-) -> Result<(), RunFault>
-    ensures { Runs trace.now frames.now settings.now result (W.contents writer.old)
-        (W.contents writer.new) }
+) -> Result<Vec<u8>, RunFault>
+    ensures fits { IfOk result (λ out. held_fault (InPieces pieces.entry) settings.now ≡ None) }
+    ensures output { IfOk result (λ out.
+        IsOutputOf (accepted requests.now) (InPieces pieces.entry) settings.now out.items) }
+    ensures fault { IfErr result (IsWhyNone (held_fault (InPieces pieces.entry) settings.now)
+        (SumsPass (accepted requests.now) (InPieces pieces.entry) settings.now)) }
 {
-    let made = make_shown(
+    make_shown(
         rt,
         settings,
         err,
         |progress: &Progress| -> Result<Vec<u8>, RunFault>
             ensures fits { IfOk result (λ out.
-                input_fault trace.entry.now frames.entry.now settings.entry.now ≡ None) }
-            ensures output { IfOk result (λ out.
-                IsOutput trace.entry.now frames.entry.now settings.entry.now out.items) }
+                held_fault (InPieces pieces.entry) settings.entry.now ≡ None) }
+            ensures output { IfOk result (λ out. IsOutputOf (accepted requests.entry.now)
+                (InPieces pieces.entry) settings.entry.now out.items) }
             ensures fault { IfErr result (IsWhyNone
-                (input_fault trace.entry.now frames.entry.now settings.entry.now)
-                (CountsPass trace.entry.now frames.entry.now settings.entry.now)) }
+                (held_fault (InPieces pieces.entry) settings.entry.now)
+                (SumsPass (accepted requests.entry.now) (InPieces pieces.entry) settings.entry.now)) }
         {
-            output_of(
-                rt,
-                rt.alloc(),
-                trace,
-                Source::Whole(frames),
-                settings,
-                progress,
-            )
+            let frames = FrameSource::InPieces(pieces);
+            output_held(rt, rt.alloc(), requests, frames, settings, progress)
         },
-    );
-    let out = match made {
-        Ok(out) => out,
-        Err(fault) => return Err(fault),
-    };
-    write_lines(writer, &out)
+    )
 }
 
-/// The same as [`run_pieces`], and meanwhile a line on `err`, as by [`run_over_shown`].
-pub fn run_pieces_shown<
-    R: Threads + Wait + Clock + Alloc<A = Global> + Sync,
-    W: Write,
-    E: Write + Send,
->(
+/// The same of frames that are listed.
+fn list_shown<R: Threads + Wait + Clock + Alloc<A = Global> + Sync, E: Write + Send>(
     rt: &R,
-    trace: &[u8],
-    pieces: &Pieces,
+    requests: &[Request],
+    list: &[&[u8]],
     settings: &RunSettings,
-    writer: &mut W,
     err: &mut E,
-) -> Result<(), RunFault>
-    ensures { Runs trace.now pieces.now settings.now result (W.contents writer.old)
-        (W.contents writer.new) }
+) -> Result<Vec<u8>, RunFault>
+    ensures fits { IfOk result (λ out. held_fault (Listed list.entry) settings.now ≡ None) }
+    ensures output { IfOk result (λ out.
+        IsOutputOf (accepted requests.now) (Listed list.entry) settings.now out.items) }
+    ensures fault { IfErr result (IsWhyNone (held_fault (Listed list.entry) settings.now)
+        (SumsPass (accepted requests.now) (Listed list.entry) settings.now)) }
 {
-    let made = make_shown(
+    make_shown(
         rt,
         settings,
         err,
         |progress: &Progress| -> Result<Vec<u8>, RunFault>
             ensures fits { IfOk result (λ out.
-                input_fault trace.entry.now pieces.entry.now settings.entry.now ≡ None) }
-            ensures output { IfOk result (λ out.
-                IsOutput trace.entry.now pieces.entry.now settings.entry.now out.items) }
+                held_fault (Listed list.entry) settings.entry.now ≡ None) }
+            ensures output { IfOk result (λ out. IsOutputOf (accepted requests.entry.now)
+                (Listed list.entry) settings.entry.now out.items) }
             ensures fault { IfErr result (IsWhyNone
-                (input_fault trace.entry.now pieces.entry.now settings.entry.now)
-                (CountsPass trace.entry.now pieces.entry.now settings.entry.now)) }
+                (held_fault (Listed list.entry) settings.entry.now)
+                (SumsPass (accepted requests.entry.now) (Listed list.entry) settings.entry.now)) }
         {
-            output_of(
-                rt,
-                rt.alloc(),
-                trace,
-                Source::InPieces(pieces),
-                settings,
-                progress,
-            )
+            let frames = FrameSource::Listed(list);
+            output_held(rt, rt.alloc(), requests, frames, settings, progress)
         },
-    );
-    let out = match made {
-        Ok(out) => out,
-        Err(fault) => return Err(fault),
-    };
-    write_lines(writer, &out)
+    )
 }
 
-/// Runs over frames that are already listed, in place of a capture file, and writes the same lines as [`run_over`]. The faults are the
-/// same but for [`RunFault::Capture`], which doesn't occur. A list of 2^32 frames or more is [`RunFault::Refused`].
-pub fn run_frames<R: Threads + Wait + Sync, W: Write>(
+/// The same of frames as they are held.
+fn output_shown<R: Threads + Wait + Clock + Alloc<A = Global> + Sync, E: Write + Send>(
     rt: &R,
-    alloc: Global,
-    trace: &[u8],
-    frames: &[&[u8]],
+    requests: &[Request],
+    frames: FrameSource<'_>,
+    settings: &RunSettings,
+    err: &mut E,
+) -> Result<Vec<u8>, RunFault>
+    ensures fits { IfOk result (λ out. held_fault frames.entry settings.now ≡ None) }
+    ensures output { IfOk result (λ out.
+        IsOutputOf (accepted requests.now) frames.entry settings.now out.items) }
+    ensures fault { IfErr result (IsWhyNone (held_fault frames.entry settings.now)
+        (SumsPass (accepted requests.now) frames.entry settings.now)) }
+{
+    match frames {
+        FrameSource::Whole(file) => whole_shown(rt, requests, file, settings, err),
+        FrameSource::InPieces(pieces) => pieces_shown(rt, requests, pieces, settings, err),
+        FrameSource::Listed(list) => list_shown(rt, requests, list, settings, err),
+    }
+}
+
+/// Forwards frames, as they are held, while requests are applied, and writes the lines that [`run_over`] writes. With the requests of
+/// a trace and the file of a capture it does the same as [`run_over`].
+///
+/// The faults come in the order in which [`RunFault`] lists them. [`RunFault::BadTrace`] doesn't come, since the requests were read,
+/// and [`RunFault::Capture`] comes of no list. A list of 2^32 frames or more is [`RunFault::Refused`].
+///
+/// Where `progress` is given, which is to be a terminal, a line on it says meanwhile how many frames were forwarded and how many
+/// messages are published, or with `after` that they are being published and then how many frames were forwarded. It is written anew
+/// about twice a second, and is gone before the lines are written. A write to it that fails is passed over.
+pub fn run_frames<R: Threads + Wait + Clock + Alloc<A = Global> + Sync, W: Write, E: Write + Send>(
+    rt: &R,
+    requests: &[Request],
+    frames: FrameSource<'_>,
     settings: &RunSettings,
     writer: &mut W,
+    progress: Option<&mut E>,
 ) -> Result<(), RunFault>
-    ensures { RunsFrames trace.now (map (λ frame. frame.now) frames.now) settings.now result
+    ensures { RunsFrames requests.now frames.entry settings.now result
         (W.contents writer.old) (W.contents writer.new) }
 {
-    let out = match output_of_frames(rt, alloc, trace, frames, settings, &Progress::new()) {
-        Ok(out) => out,
-        Err(fault) => return Err(fault),
+    let made = match progress {
+        Some(err) => output_shown(rt, requests, frames, settings, err),
+        None => output_held(rt, rt.alloc(), requests, frames, settings, &Progress::new()),
     };
-    write_lines(writer, &out)
-}
-
-/// The same as [`run_frames`], and meanwhile a line on `err`, as by [`run_over_shown`].
-pub fn run_frames_shown<
-    R: Threads + Wait + Clock + Alloc<A = Global> + Sync,
-    W: Write,
-    E: Write + Send,
->(
-    rt: &R,
-    trace: &[u8],
-    frames: &[&[u8]],
-    settings: &RunSettings,
-    writer: &mut W,
-    err: &mut E,
-) -> Result<(), RunFault>
-    ensures { RunsFrames trace.now (map (λ frame. frame.now) frames.now) settings.now result
-        (W.contents writer.old) (W.contents writer.new) }
-{
-    let made = make_shown(
-        rt,
-        settings,
-        err,
-        |progress: &Progress| -> Result<Vec<u8>, RunFault>
-            ensures fits { IfOk result (λ out.
-                listed_fault trace.entry.now settings.entry.now ≡ None) }
-            ensures output { IfOk result (λ out. IsOutputOver
-                (accepted (requests_of trace.entry.now))
-                (map (λ frame. frame.now) frames.entry.now) settings.entry.now out.items) }
-            ensures fault { IfErr result (IsWhyNone
-                (listed_fault trace.entry.now settings.entry.now)
-                (SomeRunPasses (accepted (requests_of trace.entry.now)) settings.entry.now
-                (map (λ frame. frame.now) frames.entry.now))) }
-        { output_of_frames(rt, rt.alloc(), trace, frames, settings, progress) },
-    );
-    let out = match made {
-        Ok(out) => out,
-        Err(fault) => return Err(fault),
-    };
-    write_lines(writer, &out)
+    match made {
+        Ok(out) => write_lines(writer, &out),
+        Err(fault) => Err(fault),
+    }
 }

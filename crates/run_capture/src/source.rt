@@ -1,36 +1,20 @@
-//! A capture file as it is held.
+//! The frames of a run as they are held.
 ghost use Rattle.std.specs.Prelude.{◌≡◌};
-ghost use Rattle.std.specs.Result.{result_err};
-ghost use Rattle.capture.specs.Records.{capture_of};
-ghost use Rattle.run_capture.specs.Source.{fault_of_list, file_in};
+ghost use Rattle.run_capture.specs.Source.{fault_of_list};
 
 use crate::fault::RunFault;
-use capture::{CaptureFault, ListFault, Pcap};
+use capture::ListFault;
 use capture_pieces::Pieces;
-use std::alloc::Global;
 
-/// A capture file, as one slice or in pieces.
+/// The frames of a run, as they are held.
 #[derive(Clone, Copy)]
-pub(crate) enum Source<'a> {
-    /// As one slice.
+pub enum FrameSource<'a> {
+    /// Those of a capture file in the classic format, which is one slice.
     Whole(&'a [u8]),
-    /// In pieces.
+    /// Those of such a file that is held in pieces.
     InPieces(&'a Pieces),
-}
-
-impl Source<'_> {
-    /// The fault of the file, whether or not there is memory.
-    pub(crate) fn fault(self, alloc: Global) -> Option<CaptureFault>
-        ensures { result ≡ result_err (capture_of (file_in self.entry)) }
-    {
-        match self {
-            Source::Whole(file) => Pcap::open(file).err(),
-            Source::InPieces(pieces) => match pieces.cut(alloc, u32::MAX) {
-                Ok(_) | Err(ListFault::NoMemory) => None,
-                Err(ListFault::Capture(fault)) => Some(fault),
-            },
-        }
-    }
+    /// Frames that the caller listed, as those of a capture in another format.
+    Listed(&'a [&'a [u8]]),
 }
 
 /// Why a run without frames writes nothing.

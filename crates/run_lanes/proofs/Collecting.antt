@@ -6,7 +6,7 @@ use Rattle.std.specs.declared.vec.Vec.{Vec}
 use Rattle.std.specs.declared.alloc.Global.{Global}
 use Rattle.std.proofs.lemmas.List.Elements.{Contains-append_cases}
 use Rattle.omci_msg.specs.declared.Request.{Request}
-use Rattle.plan_publish.specs.Lane.{HeldBeginnings}
+use Rattle.plan_publish.specs.Lane.{HeldPrefixes}
 use Rattle.batch_reports.specs.declared.batch.Tally.{Tally}
 use Rattle.run_lanes.specs.declared.settling.Done.{Done}
 use Rattle.run_lanes.specs.Settling.{Collected}
@@ -24,12 +24,12 @@ get_last (z ∷ zs) x = get_last zs x
 pub collected_none : (accepted : List Request) → Collected accepted [] []
 collected_none accepted = record { began = λ n d h. absurd (let e : ⊥ = cc in e); from = λ t h. absurd (let lt = h.1 in omega arith) }
 
-pub collected_push : (accepted : List Request) (ds : List Done) (all : List Tally) (d : Done) (v : Vec Tally Global) → Collected accepted ds all → d.tallies ≡ Ok v → HeldBeginnings accepted d.lane
+pub collected_push : (accepted : List Request) (ds : List Done) (all : List Tally) (d : Done) (v : Vec Tally Global) → Collected accepted ds all → d.tallies ≡ Ok v → HeldPrefixes accepted d.lane
     → Collected accepted (ds ++ d ∷ []) (all ++ v.items)
 collected_push accepted ds all d v c is began = record {
   began = λ n e h. ⊎_elim
       (λ (old : slice_get ds n ≡ Some e). c.began n e old)
-      (λ (new : (n ≡ length ds) × (d ≡ e)). subst (λ (x : Done). HeldBeginnings accepted x.lane) new.1 began)
+      (λ (new : (n ≡ length ds) × (d ≡ e)). subst (λ (x : Done). HeldPrefixes accepted x.lane) new.1 began)
       (last_or_before ds d n e h);
   from = λ t h. ⊎_elim
       (λ (old : Contains all t). let f = c.from t old in

@@ -14,7 +14,7 @@ use Rattle.plan_publish.specs.Requests.{StartsWith, StartsWithEach, version_of}
 use Rattle.plan_publish.specs.History.{Home}
 use Rattle.plan_publish.specs.declared.lane.Lane.{Lane}
 use Rattle.plan_publish.specs.Lane.{number_of, learnt_by, home_of, IsNew}
-use Rattle.frame_stats.specs.Figures.{Figure, figure, counted, AreCountsOf, HasNoZeros}
+use Rattle.frame_stats.specs.Figures.{Figure, figure, counted, AreCountsOf}
 use Rattle.batch_reports.specs.declared.batch.Tally.{Tally}
 use Rattle.batch_reports.specs.Gathering.{SumPasses}
 use Rattle.batch_reports.proofs.Lent.{mapped_at}
@@ -175,10 +175,10 @@ module _ (accepted : List Request) (s : RunSettings) (frames : List (List ℕ)) 
       subst (λ (n : ℕ). AreCountsOf (verdicts_on (after (take t.version accepted)) s.port (batch_of s.batch n frames)) t.counts) p.0 p.4)
 
   pub of_ordered : (settled : Settled) → settled.versions.items ≡ versions_of out → ((f : Figure) → counted settled.counts f ≡ sum_by (λ (t : Tally). counted t.counts f) out)
-      → HasNoZeros settled.counts.ports → (s.after ≡ true → learnt ≡ length accepted) → IsRun accepted s frames settled.versions.items settled.counts
-  of_ordered settled versions sums_of no_zeros first =
+      → (s.after ≡ true → learnt ≡ length accepted) → IsRun accepted s frames settled.versions.items settled.counts
+  of_ordered settled versions sums_of first =
       let R : List ℕ → Type 0 = λ v. IsRun accepted s frames v settled.counts in
-      subst R (sym versions) (record { many = many; admissible = admissible first; counts_are = record { figures = λ f. sums_of f ∙ sums f; no_zeros = no_zeros } })
+      subst R (sym versions) (record { many = many; admissible = admissible first; counts_are = record { figures = λ f. sums_of f ∙ sums f } })
 
   pub ordered_passes : (s.after ≡ true → learnt ≡ length accepted) → SumPasses (λ (t : Tally). t.counts) out → SomeRunPasses accepted s frames
   ordered_passes first p = record { versions = versions_of out; many = many; admissible = admissible first; passes = (p.0, subst (λ (n : ℕ). 2 ^ 64 ≤ n) (sums p.0) p.1) }
@@ -233,7 +233,7 @@ module _ (accepted : List Request) (s : RunSettings) (frames : List (List ℕ)) 
   passes_of full = ⊎_elim lane_passes (λ (a : AllAreFull accepted ds (batches_in s.batch (length frames))). ordered_passes accepted s frames learnt ls ds numbers did a.out a.ordered first a.passes) full
 
   pub run_of : (settled : Settled) → IsSettled accepted ds (batches_in s.batch (length frames)) settled → IsRun accepted s frames settled.versions.items settled.counts
-  run_of settled i = of_ordered accepted s frames learnt ls ds numbers did i.out i.ordered settled i.versions i.sums i.no_zeros first
+  run_of settled i = of_ordered accepted s frames learnt ls ds numbers did i.out i.ordered settled i.versions i.sums first
 
 -- ---- lanes that were new
 

@@ -7,10 +7,10 @@ use Rattle.omci_msg.specs.declared.Request.{Request}
 use Rattle.plan_publish.specs.Requests.{StartsWith}
 use Rattle.plan_publish.specs.History.{Home}
 use Rattle.plan_publish.specs.declared.lane.Lane.{Lane}
-use Rattle.plan_publish.specs.Lane.{number_of, held_by, learnt_by, home_of, HeldBeginnings, IsNew}
+use Rattle.plan_publish.specs.Lane.{number_of, held_by, learnt_by, home_of, HeldPrefixes, IsNew}
 use Rattle.batch_reports.specs.declared.batch.Tally.{Tally}
 use Rattle.batch_reports.specs.Gathering.{AreInOrder, SumPasses}
-use Rattle.frame_stats.specs.Figures.{Figure, counted, HasNoZeros}
+use Rattle.frame_stats.specs.Figures.{Figure, counted}
 use Rattle.run_lanes.specs.declared.fault.LaneFault.TheVariants.{CountFull}
 use Rattle.run_lanes.specs.declared.settling.Done.{Done}
 use Rattle.run_lanes.specs.declared.settling.Settled.{Settled}
@@ -30,7 +30,7 @@ pub record IsFrom (all_done : List Done) (t : Tally) : Type 0 where
 
 -- these are the tallies of the lanes, each of which held beginnings of these requests
 pub record Collected (accepted : List Request) (all_done : List Done) (all : List Tally) : Type 0 where
-  pub began : (n : ℕ) (d : Done) → slice_get all_done n ≡ Some d → HeldBeginnings accepted d.lane
+  pub began : (n : ℕ) (d : Done) → slice_get all_done n ≡ Some d → HeldPrefixes accepted d.lane
   pub from : (t : Tally) → Contains all t → IsFrom all_done t
 
 -- the same lane, which has learnt these requests
@@ -53,7 +53,6 @@ pub record IsSettled (accepted : List Request) (all_done : List Done) (count : �
   pub ordered : AreOrdered accepted all_done count out
   pub versions : settled.versions.items ≡ map (λ (t : Tally). t.version) out
   pub sums : (f : Figure) → counted settled.counts f ≡ sum_by (λ t. counted t.counts f) out
-  pub no_zeros : HasNoZeros settled.counts.ports
   pub accepted_is : settled.accepted ≡ length accepted
 
 -- a lane that held beginnings of these requests was stopped by a full count
@@ -62,7 +61,7 @@ pub record SomeLaneIsFull (accepted : List Request) (all_done : List Done) : Typ
   pub done : Done
   pub at_place : slice_get all_done place ≡ Some done
   pub is_full : IsErrOf done.tallies CountFull
-  pub began : HeldBeginnings accepted done.lane
+  pub began : HeldPrefixes accepted done.lane
 
 -- a sum of the counts of all batches passes 64 bits
 pub record AllAreFull (accepted : List Request) (all_done : List Done) (count : ℕ) : Type 0 where

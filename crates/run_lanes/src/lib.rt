@@ -14,16 +14,16 @@
 //! is locked for a frame.
 //!
 //! **What is known afterwards.** While it runs, nobody can say which version a batch will have. Yet whatever the order of steps,
-//! each version is a beginning of what the trace's messages leave accepted, it never falls along a lane, and the batch's counts
-//! are those of what its frames mean after just so many accepted messages: `IsRun` in `specs/Run.antt`. With `after` all versions
-//! are the last one.
+//! each version is that of a prefix of the messages that the trace leaves accepted, and it never falls along a lane. The batch's
+//! counts are those of what its frames mean after that prefix: `IsRun` in `specs/Run.antt`. With `after` all versions are the last
+//! one.
 //!
-//! **Why it is known.** A lane knows the lists of requests that it held, each of which begins the next. Back from its thread it
-//! still knows them, but not yet how they stand to the control's. So the control publishes once more and tells all lanes, and each
-//! enters again: it then holds what begins with what was told, and where the two have the same number it is just that. All that
-//! it held before is then a beginning of the accepted list, and how long it was is the version that its tally has. A lane whose
-//! number differs makes the run `Refused`. With `after` a lane has learnt the whole list before its first batch, so nothing that
-//! it held is shorter.
+//! **Why it is known.** A lane knows the lists of requests that it held, each of which is a prefix of the next. Back from its thread
+//! it doesn't know yet how they relate to the control's. So the control publishes once more, and each lane learns the token and
+//! enters again. It then holds a list of which the published one is a prefix; where both have one number, they are the same. So
+//! all that the lane held before are prefixes of the accepted list, and the length of each is the version in its tally. A lane
+//! whose number differs makes the run `Refused`. With `after` a lane has learnt the whole list before its first batch, so it held
+//! nothing shorter.
 //!
 //! The book is behind a lock, so no contract says what is in it but that its total is the sum of its parts; the counts of a run
 //! are summed from the tallies.

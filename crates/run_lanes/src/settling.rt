@@ -1,6 +1,6 @@
 //! What is known once the lanes are back.
 ghost use Rattle.std.specs.Prelude.{◌≡◌, ◌++◌, ◌⊎◌, Ok, IfOk, IsErrOf, All};
-ghost use Rattle.plan_publish.specs.Lane.{home_of, HeldBeginnings};
+ghost use Rattle.plan_publish.specs.Lane.{home_of, HeldPrefixes};
 ghost use Rattle.plan_publish.specs.Told.{told_home, told_list};
 ghost use Rattle.run_lanes.specs.Settling.{AllAreFull, Collected, IsSettled, SomeLaneIsFull};
 
@@ -59,10 +59,10 @@ pub(crate) fn settle(
 fn confirmed(done: Done, told: &Told) -> Result<Vec<Tally>, LaneFault>
     requires { told_home told.now ≡ home_of done.lane }
     ensures confirmed { IfOk result (λ tallies. (done.tallies ≡ Ok tallies)
-        × HeldBeginnings (told_list told.now) done.lane) }
+        × HeldPrefixes (told_list told.now) done.lane) }
     ensures full { IsErrOf result LaneFault.CountFull
         → IsErrOf done.tallies LaneFault.CountFull
-        × HeldBeginnings (told_list told.now) done.lane }
+        × HeldPrefixes (told_list told.now) done.lane }
 {
     let Done { lane, tallies } = done;
     let mut lane = lane;

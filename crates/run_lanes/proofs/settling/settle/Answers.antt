@@ -27,6 +27,5 @@ returns-in-Ok-clause-settled c =
       ordered = record { all = tallies; collected = c.in_ok-tallies.ensures.collected; in_order = in_order; small = small };
       versions = g.versions_are;
       sums = g.sums;
-      no_zeros = g.no_zeros;
       accepted_is = search rules;
     }
