@@ -1,7 +1,7 @@
 //! What is found of the messages of a trace.
 use omci_msg::MsgFault;
 use std::fmt;
-use text_messages::{message_fault_words, result_name};
+use text_messages::result_name;
 
 /// What is wrong with a message.
 #[derive(Clone, Copy, Debug, PartialEq, Eq)]

@@ -3,7 +3,6 @@
 //! What is said here is counted by the crate `bench_forward`, whose contracts tie it to the meaning of frames; this crate writes it.
 #![tactic(auto)]
 
-mod reasons;
 mod totals_json;
 mod totals_text;
 

@@ -1,5 +1,4 @@
 //! Totals as JSON.
-use crate::reasons::REASONS;
 use bench_forward::{Dropped, Totals};
 use frame_meaning::Reason;
 use json::Writer;
@@ -52,7 +51,7 @@ fn write_drops<W: Write>(
     totals: &Totals,
     writer: &mut W,
 ) -> Result<(), TextFault> {
-    for reason in &REASONS {
+    for reason in &Reason::ALL {
         let dropped = totals.dropped(*reason);
         if dropped.frames() != 0 {
             let mut object = text.object()?;

@@ -1,5 +1,4 @@
 //! Totals as text.
-use crate::reasons::REASONS;
 use bench_forward::{Dropped, Totals};
 use frame_meaning::Reason;
 use std::alloc::{AllocError, Global};
@@ -25,7 +24,7 @@ pub fn write_totals<W: Write>(
 
 /// Writes the lines of the frames that are dropped.
 fn write_drops<W: Write>(alloc: Global, totals: &Totals, writer: &mut W) -> Result<(), TextFault> {
-    for reason in &REASONS {
+    for reason in &Reason::ALL {
         let dropped = totals.dropped(*reason);
         if dropped.frames() != 0 {
             let line = drop_line(alloc, *reason, dropped)?;

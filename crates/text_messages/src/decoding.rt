@@ -3,7 +3,6 @@ use crate::frame::put_frame;
 use crate::line::{ScriptLine, read_script_line};
 use crate::lines::LineReader;
 use crate::mistake::find_mistake;
-use crate::names::message_fault_words;
 use crate::reply::put_reply;
 use crate::request::put_request;
 use crate::table_parts::TableParts;
@@ -142,30 +141,9 @@ fn put_fault(
     )
 }
 
-/// The reasons for which frames are dropped.
-const REASONS: [Reason; 9] = [
-    Reason::Runt,
-    Reason::CutTag,
-    Reason::NoRule,
-    Reason::RuleDiscard,
-    Reason::NoMapper,
-    Reason::NullPointer,
-    Reason::NoInterwork,
-    Reason::NoGem,
-    Reason::Direction,
-];
-
-/// The reason of a number.
-pub fn reason_of(number: u8) -> Option<Reason> {
-    REASONS
-        .iter()
-        .find(|reason| reason.code() == number)
-        .copied()
-}
-
 /// Puts why a frame is dropped.
 fn put_drop(text: &mut String, number: u8) -> Result<(), AllocError> {
-    match reason_of(number) {
+    match Reason::of(number) {
         Some(reason) => writeln!(text, "dropped, reason {number}: {reason}"),
         None => writeln!(text, "dropped, reason {number}, which no reason has"),
     }
@@ -173,7 +151,7 @@ fn put_drop(text: &mut String, number: u8) -> Result<(), AllocError> {
 
 /// Puts what fault a message had.
 fn put_fault_number(text: &mut String, number: u8) -> Result<(), AllocError> {
-    match message_fault_words(number) {
+    match MsgFault::words_of(number) {
         Some(words) => writeln!(text, "message with fault {number}: {words}"),
         None => writeln!(text, "message with fault {number}, which no fault has"),
     }

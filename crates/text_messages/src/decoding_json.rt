@@ -1,11 +1,10 @@
 //! A script or a dialogue as lines of JSON.
-use crate::decoding::{read_fault, reason_of};
+use crate::decoding::read_fault;
 use crate::frame_json::put_view_json;
 use crate::line::{ScriptLine, read_script_line};
 use crate::lines::LineReader;
 use crate::messages_json::{put_reply_json, put_request_json};
 use crate::mistake::find_mistake;
-use crate::names::message_fault_words;
 use frame_meaning::Reason;
 use json::Writer;
 use omci_msg::{MsgFault, read, read_reply};
@@ -79,7 +78,7 @@ fn put_line(alloc: Global, object: &mut Writer, line: &ScriptLine<'_>) -> Result
             put_text(
                 object,
                 "words",
-                message_fault_words(*number).unwrap_or("no fault has it"),
+                MsgFault::words_of(*number).unwrap_or("no fault has it"),
             )
         }
         ScriptLine::NoAnswer => put_text(object, "kind", "no_answer"),
@@ -130,7 +129,7 @@ fn put_frame(alloc: Global, object: &mut Writer, bytes: &[u8]) -> Result<(), All
 fn put_drop(alloc: Global, object: &mut Writer, number: u8) -> Result<(), AllocError> {
     put_text(object, "kind", "dropped")?;
     put_number(object, "reason", u64::from(number))?;
-    match reason_of(number) {
+    match Reason::of(number) {
         Some(reason) => put_words(alloc, object, "words", &reason),
         None => Ok(()),
     }

@@ -23,13 +23,13 @@ mod reply;
 mod request;
 mod table_parts;
 
-pub use decoding::{decode, reason_of};
+pub use decoding::decode;
 pub use decoding_json::decode_json;
 pub use frame::{put_frame, put_view};
 pub use frame_json::{put_tag_json, put_view_json};
 pub use line::{ScriptLine, read_script_line};
 pub use lines::LineReader;
 pub use mistake::find_mistake;
-pub use names::{action_name, message_fault_words, result_name};
+pub use names::{action_name, result_name};
 pub use reply::put_reply;
 pub use request::put_request;

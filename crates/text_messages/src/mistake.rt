@@ -11,7 +11,7 @@ pub fn find_mistake(line: &[u8]) -> Mistake {
         [b'd' | b'm', b' ', ..] => in_number(content),
         [b'o' | b'r' | b'f' | b'g' | b'd' | b'm', ..] => mistake_at(content, 1, Expected::Space),
         [b'-', ..] => mistake_at(content, 1, Expected::End),
-        [b'#', ..] => mistake_at(content, LINE_LIMIT, Expected::Limit),
+        [b'#', ..] => mistake_at(content, LINE_LIMIT, Expected::Limit(LINE_LIMIT)),
         _ => mistake_at(content, 0, Expected::Mark),
     }
 }
@@ -35,7 +35,7 @@ fn in_digits(content: &[u8], from: usize) -> Mistake {
     match behind.iter().position(|byte| !byte.is_ascii_hexdigit()) {
         Some(place) => mistake_at(content, from.saturating_add(place), Expected::HexDigit),
         None if behind.len() % 2 == 1 => mistake_at(content, content.len(), Expected::HexDigit),
-        None => mistake_at(content, LINE_LIMIT, Expected::Limit),
+        None => mistake_at(content, LINE_LIMIT, Expected::Limit(LINE_LIMIT)),
     }
 }
 

@@ -67,14 +67,3 @@ pub fn result_name(code: u8) -> &'static str {
         _ => "not a result",
     }
 }
-
-/// What fault of a message has a number, or None where none has.
-pub fn message_fault_words(number: u8) -> Option<&'static str> {
-    match number {
-        1 => Some("the message has neither 48 bytes nor 44"),
-        2 => Some("the destination bit is 1, expected 0"),
-        3 => Some("the acknowledgement bit is 1, expected 0 of a request"),
-        4 => Some("the device identifier isn't 10"),
-        _ => None,
-    }
-}

@@ -1,4 +1,5 @@
 //! The filter of an entry in words.
+use crate::asked::Asked;
 use crate::ethertype::read_filter;
 use std::alloc::AllocError;
 use text_words::{Mistake, Mistakes, Why, Word, Words, number_at_most};
@@ -26,7 +27,7 @@ const BITS: &[&str] = &["0", "1"];
 
 /// What words ask of one tag.
 #[derive(Clone, Copy)]
-struct TagAsked {
+pub(crate) struct TagAsked {
     priority: Option<PriorityFilter>,
     vid: Option<VidFilter>,
     tpid: Option<TpidFilter>,
@@ -133,66 +134,6 @@ impl FilterAsked {
         ethertype: None,
     };
 
-    /// Takes a word of the filter.
-    pub(crate) fn take(
-        &mut self,
-        word: Word<'_>,
-        mistakes: &mut Mistakes,
-    ) -> Result<(), AllocError> {
-        match word.split_group() {
-            Some((name, inside)) => self.take_group(name, inside, mistakes),
-            None => {
-                let taken = self.take_word(word);
-                mistakes.take(taken)?;
-                Ok(())
-            }
-        }
-    }
-
-    /// Takes `outer(..)` or `inner(..)`.
-    fn take_group<'a>(
-        &mut self,
-        name: Word<'a>,
-        inside: Result<Word<'a>, Mistake<'a>>,
-        mistakes: &mut Mistakes,
-    ) -> Result<(), AllocError> {
-        let Some(inside) = mistakes.take(inside)? else {
-            return Ok(());
-        };
-        let asked = read_tag(inside, mistakes)?;
-        let taken = self.put_group(name, asked);
-        mistakes.take(taken)?;
-        Ok(())
-    }
-
-    /// Puts what is asked of the tag of this name.
-    fn put_group<'a>(&mut self, name: Word<'a>, asked: TagAsked) -> Result<(), Mistake<'a>> {
-        if name.one_of(GROUPS)? == 0 {
-            name.put_into(&mut self.outer, asked)
-        } else {
-            name.put_into(&mut self.inner, asked)
-        }
-    }
-
-    /// Takes a word that is no group.
-    fn take_word<'a>(&mut self, word: Word<'a>) -> Result<(), Mistake<'a>> {
-        if word.is("default") {
-            self.is_default = true;
-            return Ok(());
-        }
-        let Some((name, value)) = word.split_value() else {
-            return Err(word.no_such(WORDS));
-        };
-        if let Some(place) = name.place_in(TAG_WORDS) {
-            return self.only.take(place, name, value);
-        }
-        match name.place_in(OWN_WORDS) {
-            Some(0) => name.put_into(&mut self.tags, read_count(value)?),
-            Some(_) => name.put_into(&mut self.ethertype, read_filter(value)?),
-            None => Err(name.no_such(WORDS)),
-        }
-    }
-
     /// What the type behind the tags must be.
     pub(crate) fn ethertype(&self) -> EthertypeFilter {
         self.ethertype.unwrap_or(EthertypeFilter::Any)
@@ -247,6 +188,45 @@ impl FilterAsked {
     }
 }
 
+impl Asked for FilterAsked {
+    type Tag = TagAsked;
+
+    fn take_word<'a>(&mut self, word: Word<'a>) -> Result<(), Mistake<'a>> {
+        if word.is("default") {
+            self.is_default = true;
+            return Ok(());
+        }
+        let Some((name, value)) = word.split_value() else {
+            return Err(word.no_such(WORDS));
+        };
+        if let Some(place) = name.place_in(TAG_WORDS) {
+            return self.only.take(place, name, value);
+        }
+        match name.place_in(OWN_WORDS) {
+            Some(0) => name.put_into(&mut self.tags, read_count(value)?),
+            Some(_) => name.put_into(&mut self.ethertype, read_filter(value)?),
+            None => Err(name.no_such(WORDS)),
+        }
+    }
+
+    fn read_tag(inside: Word<'_>, mistakes: &mut Mistakes) -> Result<TagAsked, AllocError> {
+        let mut asked = TagAsked::NOTHING;
+        for word in Words::within(inside) {
+            let taken = take_named(&mut asked, word);
+            mistakes.take(taken)?;
+        }
+        Ok(asked)
+    }
+
+    fn put_tag<'a>(&mut self, name: Word<'a>, tag: TagAsked) -> Result<(), Mistake<'a>> {
+        if name.one_of(GROUPS)? == 0 {
+            name.put_into(&mut self.outer, tag)
+        } else {
+            name.put_into(&mut self.inner, tag)
+        }
+    }
+}
+
 /// Why a drop eligible indicator can't be asked for.
 const ELIGIBLE: Why<'static> = Why::Rule {
     words: "dei is filtered by beside tpid=input alone",
@@ -256,16 +236,6 @@ const ELIGIBLE: Why<'static> = Why::Rule {
 pub(crate) fn read_count(word: Word<'_>) -> Result<u8, Mistake<'_>> {
     let count = number_at_most(word, "a number of tags", 2)?;
     Ok(u8::try_from(count).unwrap_or(0))
-}
-
-/// What the words in parentheses ask of a tag.
-fn read_tag(inside: Word<'_>, mistakes: &mut Mistakes) -> Result<TagAsked, AllocError> {
-    let mut asked = TagAsked::NOTHING;
-    for word in Words::within(inside) {
-        let taken = take_named(&mut asked, word);
-        mistakes.take(taken)?;
-    }
-    Ok(asked)
 }
 
 /// Takes a word that asks something of a tag.

@@ -4,6 +4,7 @@
 #![tactic(auto)]
 
 mod added;
+mod asked;
 mod ethertype;
 mod filter;
 mod rule;

@@ -1,4 +1,5 @@
 //! A rule in words.
+use crate::asked::take;
 use crate::filter::FilterAsked;
 use crate::treatment::TreatmentAsked;
 use std::alloc::AllocError;
@@ -29,9 +30,9 @@ impl RuleAsked {
             return Ok(());
         }
         if self.is_behind {
-            self.treatment.take(word, mistakes)
+            take(&mut self.treatment, word, mistakes)
         } else {
-            self.filter.take(word, mistakes)
+            take(&mut self.filter, word, mistakes)
         }
     }
 

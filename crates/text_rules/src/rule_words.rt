@@ -28,16 +28,9 @@ fn put_tag(text: &mut String, filter: &TagFilter, front: &str) -> Result<(), All
     write!(text, "{separator}{tpid}")
 }
 
-/// What any tag is.
-const ANY_TAG: TagFilter = TagFilter {
-    priority: PriorityFilter::Any,
-    vid: VidFilter::Any,
-    tpid: TpidFilter::Any,
-};
-
 /// Puts ` outer(..)` or ` inner(..)`, or nothing where the tag may be any.
 fn put_group(text: &mut String, name: &str, filter: &TagFilter) -> Result<(), AllocError> {
-    if *filter == ANY_TAG {
+    if *filter == TagFilter::ANY {
         return Ok(());
     }
     write!(text, " {name}(")?;

@@ -1,5 +1,6 @@
 //! The treatment of an entry in words.
 use crate::added::{AddedAsked, Side};
+use crate::asked::Asked;
 use crate::filter::{GROUPS, read_count};
 use std::alloc::AllocError;
 use text_words::{Mistake, Mistakes, Why, Word, Words};
@@ -26,61 +27,6 @@ impl TreatmentAsked {
         inner: None,
     };
 
-    /// Takes a word of the treatment.
-    pub(crate) fn take(
-        &mut self,
-        word: Word<'_>,
-        mistakes: &mut Mistakes,
-    ) -> Result<(), AllocError> {
-        match word.split_group() {
-            Some((name, inside)) => self.take_group(name, inside, mistakes),
-            None => {
-                let taken = self.take_word(word);
-                mistakes.take(taken)?;
-                Ok(())
-            }
-        }
-    }
-
-    /// Takes `outer(..)` or `inner(..)`.
-    fn take_group<'a>(
-        &mut self,
-        name: Word<'a>,
-        inside: Result<Word<'a>, Mistake<'a>>,
-        mistakes: &mut Mistakes,
-    ) -> Result<(), AllocError> {
-        let Some(inside) = mistakes.take(inside)? else {
-            return Ok(());
-        };
-        let asked = read_added(inside, mistakes)?;
-        let taken = self.put_group(name, &asked);
-        mistakes.take(taken)?;
-        Ok(())
-    }
-
-    /// Puts the tag that is added on the side of this name.
-    fn put_group<'a>(&mut self, name: Word<'a>, asked: &AddedAsked) -> Result<(), Mistake<'a>> {
-        if name.one_of(GROUPS)? == 0 {
-            name.put_into(&mut self.outer, asked.tag(Side::Outer))
-        } else {
-            name.put_into(&mut self.inner, asked.tag(Side::Inner))
-        }
-    }
-
-    /// Takes a word that is no group.
-    fn take_word<'a>(&mut self, word: Word<'a>) -> Result<(), Mistake<'a>> {
-        if word.is("drop") {
-            self.drops = true;
-            return Ok(());
-        }
-        match word.split_value() {
-            Some((name, value)) if name.is("remove") => {
-                name.put_into(&mut self.remove, read_count(value)?)
-            }
-            _ => Err(word.name().no_such(WORDS)),
-        }
-    }
-
     /// What it asks in all, or why it can't be asked.
     pub(crate) fn treatment(&self) -> Result<Treatment, Why<'static>> {
         if !self.drops {
@@ -99,12 +45,36 @@ impl TreatmentAsked {
     }
 }
 
-/// What the words in parentheses say of a tag that is added.
-fn read_added(inside: Word<'_>, mistakes: &mut Mistakes) -> Result<AddedAsked, AllocError> {
-    let mut asked = AddedAsked::NOTHING;
-    for word in Words::within(inside) {
-        let taken = asked.take(word);
-        mistakes.take(taken)?;
+impl Asked for TreatmentAsked {
+    type Tag = AddedAsked;
+
+    fn take_word<'a>(&mut self, word: Word<'a>) -> Result<(), Mistake<'a>> {
+        if word.is("drop") {
+            self.drops = true;
+            return Ok(());
+        }
+        match word.split_value() {
+            Some((name, value)) if name.is("remove") => {
+                name.put_into(&mut self.remove, read_count(value)?)
+            }
+            _ => Err(word.name().no_such(WORDS)),
+        }
     }
-    Ok(asked)
+
+    fn read_tag(inside: Word<'_>, mistakes: &mut Mistakes) -> Result<AddedAsked, AllocError> {
+        let mut asked = AddedAsked::NOTHING;
+        for word in Words::within(inside) {
+            let taken = asked.take(word);
+            mistakes.take(taken)?;
+        }
+        Ok(asked)
+    }
+
+    fn put_tag<'a>(&mut self, name: Word<'a>, tag: AddedAsked) -> Result<(), Mistake<'a>> {
+        if name.one_of(GROUPS)? == 0 {
+            name.put_into(&mut self.outer, tag.tag(Side::Outer))
+        } else {
+            name.put_into(&mut self.inner, tag.tag(Side::Inner))
+        }
+    }
 }

@@ -1,16 +1,21 @@
 //! The lines of a run as an object.
+use frame_meaning::Reason;
 use json::Writer;
 use std::alloc::{AllocError, Global};
 use std::io::Write;
 use std::str;
 use text_entities::{put_number, put_words};
-use text_messages::reason_of;
 use text_writing::{TextFault, write_whole};
 
 /// The number that stands at a place among the words of a line, from 0.
 fn number_at(line: &str, place: usize) -> u64 {
     let word = line.split(' ').nth(place).unwrap_or("");
     word.parse::<u64>().unwrap_or(0)
+}
+
+/// The reason of a number, if one has it.
+fn reason_of(number: u64) -> Option<Reason> {
+    Reason::of(u8::try_from(number).ok()?)
 }
 
 /// Puts a member for each line that is a name and a number.
@@ -48,7 +53,7 @@ fn put_drops(alloc: Global, object: &mut Writer, lines: &str) -> Result<(), Allo
             let number = number_at(line, 1);
             object.begin_object()?;
             put_number(object, "reason", number)?;
-            if let Some(reason) = reason_of(number.min(255) as u8) {
+            if let Some(reason) = reason_of(number) {
                 put_words(alloc, object, "words", &reason)?;
             }
             put_number(object, "frames", number_at(line, 2))?;

@@ -50,6 +50,12 @@ pub enum Why<'a> {
         unit: &'static str,
         expected: &'static str,
     },
+    /// More than so many.
+    TooMany {
+        found: usize,
+        unit: &'static str,
+        most: usize,
+    },
     /// A parenthesis that isn't closed.
     Unclosed,
     /// What goes against a rule, which these words say.
@@ -103,6 +109,9 @@ impl fmt::Display for Why<'_> {
                 unit,
                 expected,
             } => write!(f, "found {found} {unit}, expected {expected}"),
+            Why::TooMany { found, unit, most } => {
+                write!(f, "found {found} {unit}, expected at most {most}")
+            }
             Why::Unclosed => f.write_str("the parenthesis isn't closed, expected `)`"),
             Why::Rule { words } => f.write_str(words),
         }

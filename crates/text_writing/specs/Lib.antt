@@ -1,3 +1,4 @@
 pub mod FaultWords
 pub mod LookFault
+pub mod Status
 pub mod Written

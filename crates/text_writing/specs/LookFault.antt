@@ -2,6 +2,8 @@
 use Rattle.std.specs.Prelude.{ℕ, List, [], Result, Ok, Err}
 use Rattle.text_writing.specs.declared.look_fault.LookFault.{LookFault}
 use Rattle.text_writing.specs.declared.look_fault.LookFault.TheVariants.{BadLine, BadTrace, Read, Write, NoMemory}
+use Rattle.text_writing.specs.declared.status.Status.{Status}
+use Rattle.text_writing.specs.declared.status.Status.TheVariants.{Bad, Done, Failed}
 use Rattle.text_writing.specs.FaultWords.{bad_line_words, bad_trace_words, no_memory_words, read_failed_words, write_failed_words}
 
 abbrev pub number_of : LookFault → ℕ
@@ -23,15 +25,15 @@ abbrev pub words_at : Result (Unit {0}) LookFault → List ℕ
 words_at (Ok done) = []
 words_at (Err fault) = words_of fault
 
--- 2 for a bad line, else 1
-abbrev pub status_of : LookFault → ℕ
-status_of (BadLine n) = 2
-status_of (BadTrace n) = 2
-status_of Read = 1
-status_of Write = 1
-status_of NoMemory = 1
+-- bad for a bad line, else failed
+abbrev pub status_of : LookFault → Status
+status_of (BadLine n) = Bad
+status_of (BadTrace n) = Bad
+status_of Read = Failed
+status_of Write = Failed
+status_of NoMemory = Failed
 
--- 0 where there was no fault
-abbrev pub status_at : Result (Unit {0}) LookFault → ℕ
-status_at (Ok done) = 0
+-- done where there was no fault
+abbrev pub status_at : Result (Unit {0}) LookFault → Status
+status_at (Ok done) = Done
 status_at (Err fault) = status_of fault

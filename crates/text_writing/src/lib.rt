@@ -2,13 +2,14 @@
 //!
 //! **Words that several commands tell alike** stand once, as [`no_memory_words`], each ended by a line feed.
 //!
-//! **A command that looks inside** ends with a [`LookFault`] or without: [`report_look`] writes its words and gives the status.
+//! **A command that looks inside** ends with a [`LookFault`] or without: [`report_look`] writes its words and gives the [`Status`].
 #![tactic(auto)]
 
 mod fault;
 mod fault_words;
 mod look_fault;
 mod mistake;
+mod status;
 mod whole;
 
 pub use fault::{DecodeFault, TextFault};
@@ -17,4 +18,5 @@ pub use fault_words::{
 };
 pub use look_fault::{LookFault, report_look};
 pub use mistake::{Expected, Found, Mistake};
+pub use status::Status;
 pub use whole::{WriteFault, write_whole};

@@ -7,6 +7,7 @@ use crate::fault::{DecodeFault, TextFault};
 use crate::fault_words::{
     Words, bad_line_words, bad_trace_words, no_memory_words, read_failed_words, write_failed_words,
 };
+use crate::status::Status;
 use crate::whole::write_whole;
 use std::io::Write;
 use thiserror::Error;
@@ -17,10 +18,10 @@ pub enum LookFault {
     /// A line of the script is bad: its number, from 1. The texts of the lines before it are written.
     #[error("line {0} is bad")]
     BadLine(u64),
-    /// The trace's line of this number, from 1, is the first that is bad or a frame. Nothing is written.
+    /// The trace's line of this number, from 1, is the first that is bad; frames of a trace are passed over. Nothing is written.
     #[error("trace line {0} is bad")]
     BadTrace(u64),
-    /// A read failed. Nothing is written.
+    /// A read failed. `decode` has written the texts of the lines that end in what was read, every other command nothing.
     #[error("read failed")]
     Read,
     /// A write failed, or took no byte. A front of the text is written.
@@ -45,13 +46,13 @@ impl LookFault {
         }
     }
 
-    /// The status with which the program ends: 2 for a bad line, else 1.
-    pub fn status(self) -> u8
+    /// The status with which the program ends.
+    pub fn status(self) -> Status
         ensures { result ≡ status_of self }
     {
         match self {
-            LookFault::BadLine(_) | LookFault::BadTrace(_) => 2,
-            LookFault::Read | LookFault::Write | LookFault::NoMemory => 1,
+            LookFault::BadLine(_) | LookFault::BadTrace(_) => Status::Bad,
+            LookFault::Read | LookFault::Write | LookFault::NoMemory => Status::Failed,
         }
     }
 }
@@ -89,15 +90,15 @@ fn words(fault: LookFault) -> Words
     }
 }
 
-/// Writes the words for how a command that looks inside ended, if it didn't end well, and gives the status: 0, 2 for a bad line,
-/// else 1. A write that fails is passed over.
-pub fn report_look<W: Write>(outcome: &Result<(), LookFault>, writer: &mut W) -> u8
+/// Writes the words for how a command that looks inside ended, if it didn't end well, and gives the status. A write that fails is
+/// passed over.
+pub fn report_look<W: Write>(outcome: &Result<(), LookFault>, writer: &mut W) -> Status
     ensures status { result ≡ status_at outcome.now }
     ensures words { AppendsPart (W.contents writer.old) (W.contents writer.new)
         (words_at outcome.now) }
 {
     let Err(fault) = outcome else {
-        return 0;
+        return Status::Done;
     };
     let _ = write_whole(writer, &words(*fault));
     fault.status()

@@ -25,8 +25,8 @@ pub enum Expected {
     Port,
     /// Nothing more.
     End,
-    /// Nothing more, since a line has no more bytes.
-    Limit,
+    /// Nothing more, since a line has at most so many bytes.
+    Limit(usize),
 }
 
 /// The first place where a line isn't as it should be.
@@ -51,15 +51,18 @@ impl fmt::Display for Found {
 
 impl fmt::Display for Expected {
     fn fmt<W: fmt::Write>(&self, f: &mut fmt::Formatter<W>) -> fmt::Result {
-        f.write_str(match self {
+        let words = match self {
             Expected::Mark => "'o', 'f', 'r', 'g', 'd', 'm', '-' or '#'",
             Expected::Space => "a space",
             Expected::Digit => "a decimal digit",
             Expected::HexDigit => "a hexadecimal digit",
             Expected::Port => "a number of at most 65535",
             Expected::End => "the line's end",
-            Expected::Limit => "the line's end, behind at most 20000 bytes",
-        })
+            Expected::Limit(most) => {
+                return write!(f, "the line's end, behind at most {most} bytes");
+            }
+        };
+        f.write_str(words)
     }
 }
 

@@ -1,0 +1,50 @@
+//! How a filter and a treatment take their words, one by one.
+use std::alloc::AllocError;
+use text_words::{Mistake, Mistakes, Word};
+
+/// What words ask, of which some stand in the parentheses of `outer(..)` or `inner(..)`.
+pub(crate) trait Asked {
+    /// What the words in parentheses ask of a tag.
+    type Tag: Copy;
+
+    /// Takes a word that is no group.
+    fn take_word<'a>(&mut self, word: Word<'a>) -> Result<(), Mistake<'a>>;
+
+    /// What the words in parentheses ask.
+    fn read_tag(inside: Word<'_>, mistakes: &mut Mistakes) -> Result<Self::Tag, AllocError>;
+
+    /// Puts what is asked of the tag of this name.
+    fn put_tag<'a>(&mut self, name: Word<'a>, tag: Self::Tag) -> Result<(), Mistake<'a>>;
+}
+
+/// Takes a word.
+pub(crate) fn take<A: Asked>(
+    asked: &mut A,
+    word: Word<'_>,
+    mistakes: &mut Mistakes,
+) -> Result<(), AllocError> {
+    match word.split_group() {
+        Some((name, inside)) => take_group(asked, name, inside, mistakes),
+        None => {
+            let taken = asked.take_word(word);
+            mistakes.take(taken)?;
+            Ok(())
+        }
+    }
+}
+
+/// Takes `outer(..)` or `inner(..)`, or the mistake in its parentheses.
+fn take_group<'a, A: Asked>(
+    asked: &mut A,
+    name: Word<'a>,
+    inside: Result<Word<'a>, Mistake<'a>>,
+    mistakes: &mut Mistakes,
+) -> Result<(), AllocError> {
+    let Some(inside) = mistakes.take(inside)? else {
+        return Ok(());
+    };
+    let tag = A::read_tag(inside, mistakes)?;
+    let taken = asked.put_tag(name, tag);
+    mistakes.take(taken)?;
+    Ok(())
+}

@@ -1,0 +1,73 @@
+//! The status with which the program ends.
+
+/// With which status the program ends.
+#[derive(Clone, Copy, Debug, PartialEq, Eq)]
+pub enum Status {
+    /// All that was asked for is written, and nothing is found.
+    Done,
+    /// The words are wrong, a read or a write failed, or there is no memory, no place for a lane or no room for a count.
+    Failed,
+    /// A line, a text or a capture is bad, or `--strict` met a message that wasn't carried out.
+    Bad,
+    /// `judge` found a deviation, or `lint` something. All is written.
+    Found,
+    /// Nobody reads standard output any more. A shell reports a program that SIGPIPE, signal 13, ended by the same number.
+    Unread,
+}
+
+impl Status {
+    ghost use Rattle.std.specs.Prelude.{◌≡◌};
+    ghost use Rattle.text_writing.specs.Status.{code_of, status_numbered};
+    ghost use Rattle.text_writing.specs.declared.status.Status.{Status};
+
+    /// Each status, in the order of their numbers.
+    pub const ALL: [Status; 5] = [
+        Status::Done,
+        Status::Failed,
+        Status::Bad,
+        Status::Found,
+        Status::Unread,
+    ];
+
+    /// Its number, which the caller of the program sees.
+    pub fn code(self) -> u8
+        ensures { result ≡ code_of self }
+    {
+        match self {
+            Status::Done => 0,
+            Status::Failed => 1,
+            Status::Bad => 2,
+            Status::Found => 3,
+            Status::Unread => 128 + 13,
+        }
+    }
+
+    /// The status of a number, as `report_replay` and `report_run` give it. A number that none has is a failure.
+    pub fn of(code: u8) -> Status
+        ensures value { result ≡ status_numbered code }
+        ensures back { (status : Status) → code_of status ≡ code → result ≡ status }
+    {
+        match code {
+            0 => Status::Done,
+            2 => Status::Bad,
+            3 => Status::Found,
+            141 => Status::Unread,
+            _ => Status::Failed,
+        }
+    }
+
+    /// When the program ends so, in words.
+    pub fn words(self) -> &'static str {
+        match self {
+            Status::Done => "all is written, and judge and lint found nothing",
+            Status::Failed => {
+                "the words are wrong, a read or a write failed, or there is no memory or no room"
+            }
+            Status::Bad => {
+                "a line, a text or a capture is bad, or --strict met a message that wasn't carried out"
+            }
+            Status::Found => "judge found a deviation, or lint something; all is written",
+            Status::Unread => "nobody reads standard output any more",
+        }
+    }
+}
