@@ -3,6 +3,7 @@
 
 mod grammar;
 mod parsing;
+mod version;
 
 pub use command_words::{
     DecodeWords, EncodeWords, ExplainWords, ForwardWords, FrameWords, GraphWords, JudgeWords,

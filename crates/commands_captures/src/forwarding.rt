@@ -3,41 +3,23 @@ use bench_capture::{FrameReader, ReadFault};
 use bench_forward::{ForwardFault, Forwarded, Outputs, Totals, forward_frames};
 use command_words::ForwardWords;
 use commands_files::{
-    Naming, apply_trace, report_capture, report_cut, report_file, report_unread, without_memory,
+    Naming, Output, apply_trace, create_output, open_named, refuse_twice, report_capture,
+    report_cut, report_file, report_unread, without_memory,
 };
 use mib_state::Mib;
 use std::alloc::Global;
-use std::fs;
-use std::fs::File;
-use std::io::{BufWriter, ErrorKind, Read, Write};
+use std::io::{Read, Write};
 use std::rt::Files;
 use text_forwarding::{write_totals, write_totals_json};
-use text_writing::{LookFault, TextFault, report_look};
-
-/// How many bytes are gathered before a file gets them.
-const GATHERED: usize = 1 << 18;
-
-/// A file that is written, if one is named, or the status where it can't be.
-fn create<R: Files + Alloc<A = Global>, E: Write>(
-    rt: &R,
-    path: Option<&str>,
-    err: &mut E,
-) -> Result<Option<BufWriter<R::File>>, u8> {
-    let Some(path) = path else {
-        return Ok(None);
-    };
-    let file = match fs::create(rt, path) {
-        Ok(file) => file,
-        Err(error) => return Err(report_file(error.kind(), "write", path, err)),
-    };
-    match BufWriter::with_capacity(rt.alloc(), GATHERED, file) {
-        Ok(writer) => Ok(Some(writer)),
-        Err(_) => Err(without_memory(err)),
-    }
-}
+use text_writing::{LookFault, Status, TextFault, report_look};
 
 /// Says why not all frames of a capture were forwarded, and how many were, and gives the status.
-fn report_forward<E: Write>(fault: ForwardFault, totals: &Totals, path: &str, err: &mut E) -> u8 {
+fn report_forward<E: Write>(
+    fault: ForwardFault,
+    totals: &Totals,
+    path: &str,
+    err: &mut E,
+) -> Status {
     let status = match fault {
         ForwardFault::Read(ReadFault::Capture(fault)) => {
             report_capture(fault, path, Naming::Behind, err)
@@ -49,55 +31,69 @@ fn report_forward<E: Write>(fault: ForwardFault, totals: &Totals, path: &str, er
         ForwardFault::Read(ReadFault::NoMemory) => without_memory(err),
         ForwardFault::CountFull => {
             let _ = err.write_all(b"counters are full\n");
-            1
+            Status::Failed
         }
-        ForwardFault::Write => report_look(&Err(LookFault::Write), err),
+        // Each output says itself why a write of it failed.
+        ForwardFault::Write => return Status::Failed,
     };
     let _ = writeln!(err, "{path}: it came after {} frames", totals.frames());
     status
 }
 
-/// Sends on what is gathered for a file, if there is one.
-fn flush<W: Write>(writer: &mut Option<W>) -> Result<(), ForwardFault> {
-    let Some(writer) = writer else {
-        return Ok(());
+/// The first of two statuses that isn't [`Done`](Status::Done).
+fn first_of(one: Status, other: Status) -> Status {
+    if one == Status::Done { other } else { one }
+}
+
+/// Sends on what is gathered for an output, if there is one. It gives the status.
+fn flush<W: Write + Drop>(output: &mut Option<Output<'_, W>>) -> Status {
+    let Some(output) = output else {
+        return Status::Done;
     };
-    match writer.flush() {
-        Ok(()) => Ok(()),
-        Err(_) => Err(ForwardFault::Write),
+    match output.flush() {
+        Ok(()) => Status::Done,
+        Err(_) => Status::Failed,
     }
 }
 
-/// Forwards the frames of a file, and gives what came of them, or the status where there is no memory or the file can't be opened.
-fn forward_file<R: Files + Alloc<A = Global>, W: Write, V: Write, E: Write>(
+/// Gives a file its name, if there is one, and gives the status.
+fn finish<R: Files, W: Write + Drop, E: Write>(
     rt: &R,
-    words: &ForwardWords<'_>,
-    mib: &Mib,
-    outputs: &mut Outputs<W, V>,
+    output: &Option<Output<'_, W>>,
     err: &mut E,
-) -> Result<Totals, u8> {
-    let path = words.frames;
-    let file = match File::open(rt, path) {
+) -> Status {
+    match output {
+        Some(output) => output.finish(rt, err),
+        None => Status::Done,
+    }
+}
+
+/// Says why an output isn't whole, if there is one, and where what was written stands.
+fn report_unfinished<W: Write + Drop, E: Write>(output: &Option<Output<'_, W>>, err: &mut E) {
+    if let Some(output) = output {
+        output.report_failed(err);
+        output.report_partial(err);
+    }
+}
+
+/// The frames of a file, or the status where it can't be opened or isn't a capture from its first bytes on.
+fn open_frames<R: Files + Alloc<A = Global>, E: Write>(
+    rt: &R,
+    path: &str,
+    err: &mut E,
+) -> Result<FrameReader<R::File>, Status> {
+    let file = match open_named(rt, path) {
         Ok(file) => file,
         Err(error) => return Err(report_unread(&error, b"cannot read frames\n", path, err)),
     };
-    let mut frames = match FrameReader::open(rt.alloc(), file) {
-        Ok(frames) => frames,
-        Err(fault) => return Err(report_begun(fault, path, err)),
-    };
-    let Ok(forwarded) = forward_frames(rt.alloc(), mib, words.port, &mut frames, outputs) else {
-        return Err(without_memory(err));
-    };
-    let Forwarded { totals, ended } = forwarded;
-    let written = flush(&mut outputs.packets).and(flush(&mut outputs.verdicts));
-    match ended.and(written) {
-        Ok(()) => Ok(totals),
-        Err(fault) => Err(report_forward(fault, &totals, path, err)),
+    match FrameReader::open(rt.alloc(), file) {
+        Ok(frames) => Ok(frames),
+        Err(fault) => Err(report_begun(fault, path, err)),
     }
 }
 
 /// Says why a capture can't be begun with, and gives the status.
-fn report_begun<E: Write>(fault: ReadFault, path: &str, err: &mut E) -> u8 {
+fn report_begun<E: Write>(fault: ReadFault, path: &str, err: &mut E) -> Status {
     match fault {
         ReadFault::Capture(fault) => report_capture(fault, path, Naming::Behind, err),
         ReadFault::Unreadable(kind) => {
@@ -115,7 +111,7 @@ fn report_totals<O: Write, E: Write>(
     json: bool,
     out: &mut O,
     err: &mut E,
-) -> u8 {
+) -> Status {
     let outcome = if json {
         write_totals_json(alloc, totals, out)
     } else {
@@ -126,7 +122,7 @@ fn report_totals<O: Write, E: Write>(
 }
 
 /// Writes totals to `err`, where the frames go to the output. It gives the status; a write that fails is passed over.
-fn report_beside<E: Write>(alloc: Global, totals: &Totals, json: bool, err: &mut E) -> u8 {
+fn report_beside<E: Write>(alloc: Global, totals: &Totals, json: bool, err: &mut E) -> Status {
     let outcome = if json {
         write_totals_json(alloc, totals, err)
     } else {
@@ -135,48 +131,113 @@ fn report_beside<E: Write>(alloc: Global, totals: &Totals, json: bool, err: &mut
     report_cut(totals.cut(), err);
     match outcome {
         Err(TextFault::NoMemory) => without_memory(err),
-        _ => 0,
+        _ => Status::Done,
     }
 }
 
-/// Forwards frames, which are written where `packets` says, and gives the totals, or the status where not all are forwarded.
+/// Forwards frames, and gives the totals, or the status where not all are forwarded and written. Files get their names where all are.
+fn forward_open<
+    R: Files + Alloc<A = Global>,
+    F: Read + Drop,
+    W: Write + Drop,
+    V: Write + Drop,
+    E: Write,
+>(
+    rt: &R,
+    job: &Job<'_, '_>,
+    frames: &mut FrameReader<F>,
+    outputs: &mut Outputs<Output<'_, W>, Output<'_, V>>,
+    err: &mut E,
+) -> Result<Totals, Status> {
+    let path = job.words.frames;
+    let Ok(forwarded) = forward_frames(rt.alloc(), job.mib, job.words.port, frames, outputs) else {
+        return Err(without_memory(err));
+    };
+    let Forwarded { totals, ended } = forwarded;
+    let ended = match ended {
+        Ok(()) => Status::Done,
+        Err(fault) => report_forward(fault, &totals, path, err),
+    };
+    let packets = flush(&mut outputs.packets);
+    let verdicts = flush(&mut outputs.verdicts);
+    let status = first_of(ended, first_of(packets, verdicts));
+    if status != Status::Done {
+        report_unfinished(&outputs.packets, err);
+        report_unfinished(&outputs.verdicts, err);
+        return Err(status);
+    }
+    let packets = finish(rt, &outputs.packets, err);
+    let verdicts = finish(rt, &outputs.verdicts, err);
+    match first_of(packets, verdicts) {
+        Status::Done => Ok(totals),
+        status => Err(status),
+    }
+}
+
+/// What is forwarded, and by what.
+#[derive(Drop)]
+struct Job<'w, 'm> {
+    words: &'w ForwardWords<'w>,
+    mib: &'m Mib,
+}
+
+/// Forwards frames to an output, if there is one, and to the file of verdicts, if one is named.
 fn forward_into<R: Files + Alloc<A = Global>, W: Write + Drop, E: Write>(
     rt: &R,
-    words: &ForwardWords<'_>,
-    mib: &Mib,
-    packets: Option<W>,
+    job: &Job<'_, '_>,
+    frames: &mut FrameReader<R::File>,
+    packets: Option<Output<'_, W>>,
     err: &mut E,
-) -> Result<Totals, u8> {
-    let verdicts = create(rt, words.verdicts, err)?;
+) -> Result<Totals, Status> {
+    let words = job.words;
+    let inputs = [words.trace.file, words.frames];
+    let other = packets.as_ref().and_then(|packets| packets.taken());
+    let verdicts = match words.verdicts {
+        Some(name) => match create_output(rt, name, &inputs, other, err) {
+            Ok(verdicts) => Some(verdicts),
+            Err(status) => {
+                if let Some(packets) = &packets {
+                    packets.discard(rt);
+                }
+                return Err(status);
+            }
+        },
+        None => None,
+    };
     let mut outputs = Outputs { packets, verdicts };
-    forward_file(rt, words, mib, &mut outputs, err)
+    forward_open(rt, job, frames, &mut outputs, err)
 }
 
 /// Forwards frames that are written to `out`, and writes the totals to `err`.
 fn forward_to_output<R: Files + Alloc<A = Global>, O: Write, E: Write>(
     rt: &R,
-    words: &ForwardWords<'_>,
-    mib: &Mib,
+    job: &Job<'_, '_>,
+    frames: &mut FrameReader<R::File>,
     out: &mut O,
     err: &mut E,
-) -> Result<u8, u8> {
-    let Ok(writer) = BufWriter::with_capacity(rt.alloc(), GATHERED, &mut *out) else {
+) -> Result<Status, Status> {
+    let Ok(packets) = Output::direct(rt.alloc(), "standard output", &mut *out) else {
         return Err(without_memory(err));
     };
-    let totals = forward_into(rt, words, mib, Some(writer), err)?;
-    Ok(report_beside(rt.alloc(), &totals, words.json, err))
+    let totals = forward_into(rt, job, frames, Some(packets), err)?;
+    Ok(report_beside(rt.alloc(), &totals, job.words.json, err))
 }
 
 /// Forwards frames that are written to files, if at all, and writes the totals to `out`.
 fn forward_to_files<R: Files + Alloc<A = Global>, O: Write, E: Write>(
     rt: &R,
-    words: &ForwardWords<'_>,
-    mib: &Mib,
+    job: &Job<'_, '_>,
+    frames: &mut FrameReader<R::File>,
     out: &mut O,
     err: &mut E,
-) -> Result<u8, u8> {
-    let packets = create(rt, words.out, err)?;
-    let totals = forward_into(rt, words, mib, packets, err)?;
+) -> Result<Status, Status> {
+    let words = job.words;
+    let inputs = [words.trace.file, words.frames];
+    let packets = match words.out {
+        Some(name) => Some(create_output(rt, name, &inputs, None, err)?),
+        None => None,
+    };
+    let totals = forward_into(rt, job, frames, packets, err)?;
     Ok(report_totals(rt.alloc(), &totals, words.json, out, err))
 }
 
@@ -187,14 +248,24 @@ pub fn forward<R: Files + Alloc<A = Global>, O: Write, E: Write>(
     words: &ForwardWords<'_>,
     out: &mut O,
     err: &mut E,
-) -> u8 {
+) -> Status {
+    if let Err(status) = refuse_twice(&[words.trace.file, words.frames], err) {
+        return status;
+    }
     let applied = match apply_trace(rt, &words.trace, err) {
         Ok(applied) => applied,
         Err(status) => return status,
     };
+    // The capture's first bytes are read before an output is made.
+    let mut frames = match open_frames(rt, words.frames, err) {
+        Ok(frames) => frames,
+        Err(status) => return status,
+    };
+    let mib = &applied.mib;
+    let job = Job { words, mib };
     let status = match words.out {
-        Some("-") => forward_to_output(rt, words, &applied.mib, out, err),
-        _ => forward_to_files(rt, words, &applied.mib, out, err),
+        Some("-") => forward_to_output(rt, &job, &mut frames, out, err),
+        _ => forward_to_files(rt, &job, &mut frames, out, err),
     };
     match status {
         Ok(status) => status,

@@ -1,12 +1,12 @@
 //! The history that captures show.
-use bench_capture::{FrameFault, Frames};
+use bench_capture::{CaptureFrames, NextFrameFault};
 use bench_record::{CapturedFrame, Passed, RecordSettings, Tap, record_history, write_history};
 use command_words::{RecordWords, read_numbered, read_tpid};
 use commands_files::{Naming, read_whole, report_capture, report_cut, report_file, without_memory};
 use std::alloc::Global;
 use std::io::{BufWriter, Write};
 use std::rt::Files;
-use text_writing::{LookFault, report_look};
+use text_writing::{LookFault, Status, report_look};
 
 /// A capture, and where it was taken.
 #[derive(Drop)]
@@ -24,12 +24,12 @@ struct Seen<'a> {
 }
 
 /// Says that the value of an option is none, and gives the status.
-fn report_value<E: Write>(value: &str, option: &str, expected: &str, err: &mut E) -> u8 {
+fn report_value<E: Write>(value: &str, option: &str, expected: &str, err: &mut E) -> Status {
     let _ = write!(
         err,
         "error: invalid value '{value}' for '{option}': expected {expected}\n\nFor more information, try '--help'.\n",
     );
-    1
+    Status::Failed
 }
 
 /// Reads a capture whole, and puts it behind others; or gives the status where it can't be had.
@@ -39,7 +39,7 @@ fn add_capture<'a, R: Files + Alloc<A = Global>, E: Write>(
     tap: Tap,
     path: &'a str,
     err: &mut E,
-) -> Result<(), u8> {
+) -> Result<(), Status> {
     let file = match read_whole(rt, path) {
         Ok(file) => file,
         Err(error) => return Err(report_file(error.kind(), "read", path, err)),
@@ -82,7 +82,7 @@ fn add_numbered<'a, R: Files + Alloc<A = Global>, E: Write>(
     side: Side,
     texts: &[&'a str],
     err: &mut E,
-) -> Result<(), u8> {
+) -> Result<(), Status> {
     for text in texts {
         let Some(numbered) = read_numbered(text) else {
             let expected = "a number of 0 to 65535, = and the name of a file";
@@ -98,7 +98,7 @@ fn read_captures<'a, R: Files + Alloc<A = Global>, E: Write>(
     rt: &R,
     words: &RecordWords<'a>,
     err: &mut E,
-) -> Result<Vec<Capture<'a>>, u8> {
+) -> Result<Vec<Capture<'a>>, Status> {
     let mut captures = Vec::new(rt.alloc());
     for path in &words.omci {
         add_capture(rt, &mut captures, Tap::Omci, path, err)?;
@@ -109,7 +109,7 @@ fn read_captures<'a, R: Files + Alloc<A = Global>, E: Write>(
 }
 
 /// The types of tags that the words name, or the status where one is none.
-fn read_tpids<E: Write>(alloc: Global, texts: &[&str], err: &mut E) -> Result<Vec<u16>, u8> {
+fn read_tpids<E: Write>(alloc: Global, texts: &[&str], err: &mut E) -> Result<Vec<u16>, Status> {
     let mut tpids = Vec::new(alloc);
     for text in texts {
         let Some(tpid) = read_tpid(text) else {
@@ -129,16 +129,16 @@ fn see<'f, E: Write>(
     seen: &mut Seen<'f>,
     capture: &'f Capture<'_>,
     err: &mut E,
-) -> Result<(), u8> {
+) -> Result<(), Status> {
     let fault = match see_all(alloc, seen, capture) {
         Ok(()) => return Ok(()),
         Err(fault) => fault,
     };
     match fault {
-        FrameFault::Capture(fault) => {
+        NextFrameFault::Capture(fault) => {
             Err(report_capture(fault, capture.path, Naming::Within, err))
         }
-        FrameFault::NoMemory => Err(without_memory(err)),
+        NextFrameFault::NoMemory => Err(without_memory(err)),
     }
 }
 
@@ -147,10 +147,10 @@ fn see_all<'f>(
     alloc: Global,
     seen: &mut Seen<'f>,
     capture: &'f Capture<'_>,
-) -> Result<(), FrameFault> {
-    let mut frames = match Frames::open(alloc, &capture.file) {
+) -> Result<(), NextFrameFault> {
+    let mut frames = match CaptureFrames::open(alloc, &capture.file) {
         Ok(frames) => frames,
-        Err(fault) => return Err(FrameFault::Capture(fault)),
+        Err(fault) => return Err(NextFrameFault::Capture(fault)),
     };
     // No frame is without bytes of the file.
     for _ in 0..capture.file.len() {
@@ -166,7 +166,7 @@ fn see_all<'f>(
             bytes: frame.bytes(),
         };
         if seen.frames.push(captured).is_err() {
-            return Err(FrameFault::NoMemory);
+            return Err(NextFrameFault::NoMemory);
         }
     }
     Ok(())
@@ -177,7 +177,7 @@ fn see_captures<'f, E: Write>(
     alloc: Global,
     captures: &'f [Capture<'_>],
     err: &mut E,
-) -> Result<Seen<'f>, u8> {
+) -> Result<Seen<'f>, Status> {
     let mut seen = Seen {
         frames: Vec::new(alloc),
         cut: 0,
@@ -239,7 +239,7 @@ fn record_captures<O: Write, E: Write>(
     captures: &[Capture<'_>],
     out: &mut O,
     err: &mut E,
-) -> Result<(), u8> {
+) -> Result<(), Status> {
     let tpids = read_tpids(alloc, &words.tpids, err)?;
     let settings = RecordSettings {
         tpids: &tpids,
@@ -264,13 +264,13 @@ pub fn record<R: Files + Alloc<A = Global>, O: Write, E: Write>(
     words: &RecordWords<'_>,
     out: &mut O,
     err: &mut E,
-) -> u8 {
+) -> Status {
     let captures = match read_captures(rt, words, err) {
         Ok(captures) => captures,
         Err(status) => return status,
     };
     match record_captures(rt.alloc(), words, &captures, out, err) {
-        Ok(()) => 0,
+        Ok(()) => Status::Done,
         Err(status) => status,
     }
 }

@@ -1,67 +1,11 @@
 //! Captures as the program names them: what is said of a fault of one, and how many of its frames were cut.
 use crate::files::report_file;
-use bench_capture::{CaptureFault, FrameFault, FrameReader, Frames, RecordedFrame};
+use bench_capture::{CaptureFileFault, CaptureFrames, FrameReader, NextFrameFault, RecordedFrame};
 use std::alloc::Global;
-use std::fmt;
 use std::fs::File;
 use std::io::{ErrorKind, Write};
 use std::rt::Files;
-
-/// The status where a capture has a fault.
-const FAULTY: u8 = 2;
-
-/// What is wrong with a capture and what is expected, in words that stand behind the file's name.
-#[derive(Clone, Copy)]
-struct Reason(CaptureFault);
-
-/// The name of a link type that captures often have, with a space in front.
-fn link_name(link: u16) -> &'static str {
-    match link {
-        0 => " (BSD loopback)",
-        101 => " (raw IP)",
-        105 => " (IEEE 802.11)",
-        113 => " (Linux cooked)",
-        127 => " (IEEE 802.11 with radiotap)",
-        276 => " (Linux cooked v2)",
-        _ => "",
-    }
-}
-
-impl fmt::Display for Reason {
-    fn fmt<W: fmt::Write>(&self, f: &mut fmt::Formatter<W>) -> fmt::Result {
-        match self.0 {
-            CaptureFault::Magic => write!(
-                f,
-                "no capture in libpcap's classic format or in pcapng, expected one of these"
-            ),
-            CaptureFault::Header => write!(
-                f,
-                "the header is cut short, or of another version, expected a whole one"
-            ),
-            CaptureFault::Link(link) => {
-                let name = link_name(link);
-                write!(f, "link type {link}{name}, expected Ethernet")
-            }
-            CaptureFault::Torn(number) => write!(
-                f,
-                "record or block {number}, from 0, is cut short or broken, expected a whole one"
-            ),
-            CaptureFault::TooLong(number) => write!(
-                f,
-                "record or block {number}, from 0, stores over 262144 bytes of a frame"
-            ),
-        }
-    }
-}
-
-/// The number behind ` at ` in what is said of a fault.
-fn place_of(fault: CaptureFault) -> Option<u64> {
-    match fault {
-        CaptureFault::Magic | CaptureFault::Header => None,
-        CaptureFault::Link(link) => Some(u64::from(link)),
-        CaptureFault::Torn(number) | CaptureFault::TooLong(number) => Some(number),
-    }
-}
+use text_writing::Status;
 
 /// Where the name of a file stands in what is said of a fault.
 #[derive(Clone, Copy)]
@@ -74,14 +18,14 @@ pub enum Naming {
 
 /// Says that a capture has a fault, first in the words that are fixed, and gives the status.
 pub fn report_capture<E: Write>(
-    fault: CaptureFault,
+    fault: CaptureFileFault,
     file: &str,
     naming: Naming,
     err: &mut E,
-) -> u8 {
+) -> Status {
     let code = fault.code();
     let _ = write!(err, "capture fault {code}");
-    if let Some(place) = place_of(fault) {
+    if let Some(place) = fault.place() {
         let _ = write!(err, " at {place}");
     }
     if matches!(naming, Naming::Within) {
@@ -89,12 +33,12 @@ pub fn report_capture<E: Write>(
     }
     let _ = err.write_all(b"\n");
     explain_fault(fault, file, err);
-    FAULTY
+    Status::Bad
 }
 
 /// Says what is wrong with a capture, and what is expected, behind the name of its file.
-pub fn explain_fault<E: Write>(fault: CaptureFault, file: &str, err: &mut E) {
-    let _ = writeln!(err, "{file}: {}", Reason(fault));
+pub fn explain_fault<E: Write>(fault: CaptureFileFault, file: &str, err: &mut E) {
+    let _ = writeln!(err, "{file}: {fault}");
 }
 
 /// Says how many frames were cut, if some were.
@@ -110,8 +54,8 @@ pub fn open_frames<'a, E: Write>(
     file: &'a [u8],
     path: &str,
     err: &mut E,
-) -> Result<Frames<'a>, u8> {
-    match Frames::open(alloc, file) {
+) -> Result<CaptureFrames<'a>, Status> {
+    match CaptureFrames::open(alloc, file) {
         Ok(frames) => Ok(frames),
         Err(fault) => Err(report_capture(fault, path, Naming::Behind, err)),
     }
@@ -119,22 +63,32 @@ pub fn open_frames<'a, E: Write>(
 
 /// The next frame of a capture, or the status where there is a fault in front of it; which is written to `err`.
 pub fn next_frame<'a, E: Write>(
-    frames: &mut Frames<'a>,
+    frames: &mut CaptureFrames<'a>,
     path: &str,
     err: &mut E,
-) -> Result<Option<RecordedFrame<'a>>, u8> {
+) -> Result<Option<RecordedFrame<'a>>, Status> {
     match frames.next_frame() {
         Ok(frame) => Ok(frame),
-        Err(FrameFault::Capture(fault)) => Err(report_capture(fault, path, Naming::Behind, err)),
-        Err(FrameFault::NoMemory) => Err(report_file(ErrorKind::OutOfMemory, "read", path, err)),
+        Err(NextFrameFault::Capture(fault)) => Err(report_capture(
+            fault,
+            path,
+            Naming::Behind,
+            err,
+        )),
+        Err(NextFrameFault::NoMemory) => Err(report_file(
+            ErrorKind::OutOfMemory,
+            "read",
+            path,
+            err,
+        )),
     }
 }
 
 /// The frames of a capture, each as a slice of it.
-pub fn packets_of<'a>(alloc: Global, file: &'a [u8]) -> Result<Vec<&'a [u8]>, FrameFault> {
-    let mut frames = match Frames::open(alloc, file) {
+pub fn packets_of<'a>(alloc: Global, file: &'a [u8]) -> Result<Vec<&'a [u8]>, NextFrameFault> {
+    let mut frames = match CaptureFrames::open(alloc, file) {
         Ok(frames) => frames,
-        Err(fault) => return Err(FrameFault::Capture(fault)),
+        Err(fault) => return Err(NextFrameFault::Capture(fault)),
     };
     let mut list = Vec::new(alloc);
     // No frame is without bytes of the file.
@@ -143,7 +97,7 @@ pub fn packets_of<'a>(alloc: Global, file: &'a [u8]) -> Result<Vec<&'a [u8]>, Fr
             break;
         };
         if list.push(frame.bytes()).is_err() {
-            return Err(FrameFault::NoMemory);
+            return Err(NextFrameFault::NoMemory);
         }
     }
     Ok(list)
@@ -151,7 +105,7 @@ pub fn packets_of<'a>(alloc: Global, file: &'a [u8]) -> Result<Vec<&'a [u8]>, Fr
 
 /// How many frames of a capture were cut, up to its first fault.
 pub fn cut_frames(alloc: Global, file: &[u8]) -> u64 {
-    let Ok(mut frames) = Frames::open(alloc, file) else {
+    let Ok(mut frames) = CaptureFrames::open(alloc, file) else {
         return 0;
     };
     let mut cut = 0u64;

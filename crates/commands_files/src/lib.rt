@@ -5,6 +5,7 @@
 
 mod captures;
 mod files;
+mod outputs;
 mod pieces;
 mod reports;
 mod traces;
@@ -14,8 +15,9 @@ pub use captures::{
     Naming, cut_frames, cut_in_file, explain_fault, next_frame, open_frames, packets_of,
     report_capture, report_cut,
 };
-pub use files::{read_whole, report_file, report_unread};
+pub use files::{open_named, read_whole, refuse_twice, report_file, report_unread};
+pub use outputs::{Output, Taken, create_output};
 pub use pieces::{Capture, History, read_capture, read_history};
 pub use reports::{report_decoding, report_text, without_memory};
-pub use traces::apply_trace;
+pub use traces::{apply_linted, apply_trace};
 pub use unread::{Silenced, Unread, Watched};

@@ -1,5 +1,5 @@
 //! A large file read by several threads, each into memory of its own.
-use crate::files::read_open;
+use crate::files::{open_named, read_open};
 use bench_pcapng::is_pcapng;
 use capture_pieces::{OVERLAP, Pieces};
 use std::alloc::Global;
@@ -102,7 +102,7 @@ pub fn read_capture<R: Files<File = File> + Alloc<A = Global> + Threads + Sync>(
     rt: &R,
     path: &str,
 ) -> io::Result<Capture> {
-    let mut file = File::open(rt, path)?;
+    let mut file = open_named(rt, path)?;
     if is_large(&file)? && !begins_pcapng(&file)? {
         let parts = read_parts(rt, &file)?;
         return Ok(Capture::InPieces(Pieces::join(rt.alloc(), parts)?));
@@ -124,7 +124,7 @@ pub fn read_history<R: Files<File = File> + Alloc<A = Global> + Threads + Sync>(
     rt: &R,
     path: &str,
 ) -> io::Result<History> {
-    let mut file = File::open(rt, path)?;
+    let mut file = open_named(rt, path)?;
     if is_large(&file)? {
         let parts = read_parts(rt, &file)?;
         let pieces = bench_history::Pieces::join(rt.alloc(), parts)?;

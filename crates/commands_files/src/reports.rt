@@ -1,19 +1,19 @@
 //! What is said where a command writes no text, or not all of it.
 use std::io::Write;
-use text_writing::{DecodeFault, LookFault, TextFault, report_look};
+use text_writing::{DecodeFault, LookFault, Status, TextFault, report_look};
 
 /// Says that there is no memory, and gives the status.
-pub fn without_memory<E: Write>(err: &mut E) -> u8 {
+pub fn without_memory<E: Write>(err: &mut E) -> Status {
     report_look(&Err(LookFault::NoMemory), err)
 }
 
 /// Says how a text ended, and gives the status.
-pub fn report_text<E: Write>(outcome: Result<(), TextFault>, err: &mut E) -> u8 {
+pub fn report_text<E: Write>(outcome: Result<(), TextFault>, err: &mut E) -> Status {
     report_look(&outcome.map_err(LookFault::from), err)
 }
 
 /// Says how the lines of a script ended, and what is wrong in a bad one, and gives the status.
-pub fn report_decoding<E: Write>(outcome: Result<(), DecodeFault>, err: &mut E) -> u8 {
+pub fn report_decoding<E: Write>(outcome: Result<(), DecodeFault>, err: &mut E) -> Status {
     let status = report_look(&outcome.map_err(LookFault::from), err);
     if let Err(DecodeFault::BadLine(_, mistake)) = outcome {
         let _ = writeln!(err, "{mistake}");

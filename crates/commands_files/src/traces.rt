@@ -6,10 +6,7 @@ use script_trace::{Applied, Faulty, Refused, ScriptFault, apply_script};
 use std::alloc::{AllocError, Global};
 use std::io::Write;
 use std::rt::Files;
-use text_writing::{LookFault, report_look};
-
-/// The status where messages of a trace aren't carried out that have to be.
-const REFUSED: u8 = 2;
+use text_writing::{LookFault, Status, report_look};
 
 /// How many lines are named at most.
 const NAMED: usize = 10;
@@ -33,7 +30,7 @@ fn refused_lines(alloc: Global, refused: &[Refused]) -> Result<Vec<u64>, AllocEr
 }
 
 /// Says how many messages weren't carried out, in which lines they stand, and what says why; nothing where each was.
-fn report_lines<E: Write>(lines: &[u64], one: &str, many: &str, err: &mut E) {
+fn report_lines<E: Write>(lines: &[u64], one: &str, many: &str, why: &str, err: &mut E) {
     if lines.is_empty() {
         return;
     }
@@ -46,25 +43,57 @@ fn report_lines<E: Write>(lines: &[u64], one: &str, many: &str, err: &mut E) {
         let _ = write!(err, "{comma} {line}");
     }
     let more = if lines.len() > NAMED { ", .." } else { "" };
-    let _ = writeln!(err, "{more}; onuctl lint says why");
+    let _ = writeln!(err, "{more}{why}");
 }
 
 /// Says which messages have a fault and which were refused. It gives how many.
 fn report_applied<E: Write>(
     alloc: Global,
     applied: &Applied,
+    why: &str,
     err: &mut E,
 ) -> Result<usize, AllocError> {
     let faulty = faulty_lines(alloc, &applied.faulty)?;
     let refused = refused_lines(alloc, &applied.refused)?;
-    report_lines(&faulty, "message has a fault", "messages have a fault", err);
+    report_lines(
+        &faulty,
+        "message has a fault",
+        "messages have a fault",
+        why,
+        err,
+    );
     report_lines(
         &refused,
         "message was refused",
         "messages were refused",
+        why,
         err,
     );
     Ok(faulty.len().saturating_add(refused.len()))
+}
+
+/// How many lines a script has: a last one needs no line feed.
+fn lines_in(script: &[u8]) -> usize {
+    let ended = script.iter().filter(|byte| **byte == b'\n').count();
+    match script.last() {
+        None | Some(b'\n') => ended,
+        Some(_) => ended.saturating_add(1),
+    }
+}
+
+/// Says that a trace ends before the last line that is asked for, if it does.
+fn report_until<E: Write>(script: &[u8], words: &TraceWords<'_>, err: &mut E) {
+    let Some(until) = words.until else {
+        return;
+    };
+    let lines = lines_in(script);
+    if (lines as u64) < u64::from(until) {
+        let _ = writeln!(
+            err,
+            "{} has {lines} lines, and --until asks for {until}",
+            words.file
+        );
+    }
 }
 
 /// Carries out the messages of a trace, and gives what they leave, or the status where a line is bad.
@@ -72,11 +101,12 @@ fn apply_file<R: Files + Alloc<A = Global>, E: Write>(
     rt: &R,
     words: &TraceWords<'_>,
     err: &mut E,
-) -> Result<Applied, u8> {
+) -> Result<Applied, Status> {
     let script = match read_whole(rt, words.file) {
         Ok(script) => script,
         Err(error) => return Err(report_unread(&error, b"cannot read trace\n", words.file, err)),
     };
+    report_until(&script, words, err);
     match apply_script(rt.alloc(), &script, words.until.map(u64::from)) {
         Ok(applied) => Ok(applied),
         Err(ScriptFault::BadLine(line)) => Err(report_look(&Err(LookFault::BadTrace(line)), err)),
@@ -90,11 +120,30 @@ pub fn apply_trace<R: Files + Alloc<A = Global>, E: Write>(
     rt: &R,
     words: &TraceWords<'_>,
     err: &mut E,
-) -> Result<Applied, u8> {
+) -> Result<Applied, Status> {
+    apply_saying(rt, words, "; onuctl lint says why", err)
+}
+
+/// The same for a command that says itself why a message wasn't carried out.
+pub fn apply_linted<R: Files + Alloc<A = Global>, E: Write>(
+    rt: &R,
+    words: &TraceWords<'_>,
+    err: &mut E,
+) -> Result<Applied, Status> {
+    apply_saying(rt, words, "", err)
+}
+
+/// The same, with these words on what says why a message wasn't carried out.
+fn apply_saying<R: Files + Alloc<A = Global>, E: Write>(
+    rt: &R,
+    words: &TraceWords<'_>,
+    why: &str,
+    err: &mut E,
+) -> Result<Applied, Status> {
     let applied = apply_file(rt, words, err)?;
-    match report_applied(rt.alloc(), &applied, err) {
+    match report_applied(rt.alloc(), &applied, why, err) {
         Ok(0) => Ok(applied),
-        Ok(_) if words.strict => Err(REFUSED),
+        Ok(_) if words.strict => Err(Status::Bad),
         Ok(_) => Ok(applied),
         Err(AllocError) => Err(without_memory(err)),
     }

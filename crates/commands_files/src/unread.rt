@@ -2,9 +2,7 @@
 use std::io;
 use std::io::{Error, ErrorKind, IsTerminal, Write};
 use std::sync::atomic::{AtomicBool, Ordering};
-
-/// The status where nobody reads the output any more, by which a shell reports a program that SIGPIPE, signal 13, ended.
-const UNREAD: u8 = 128 + 13;
+use text_writing::Status;
 
 /// Whether a write to the output has shown that nobody reads it any more. Of a write that failed, the functions that write texts keep
 /// only that it did: so the output itself notes why.
@@ -28,8 +26,12 @@ impl Unread {
     }
 
     /// The status that the program ends with, where its command gives this one.
-    pub fn status(&self, status: u8) -> u8 {
-        if self.is_known() { UNREAD } else { status }
+    pub fn status(&self, status: Status) -> Status {
+        if self.is_known() {
+            Status::Unread
+        } else {
+            status
+        }
     }
 
     /// Whether a write has shown it.

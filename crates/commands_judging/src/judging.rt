@@ -9,10 +9,7 @@ use std::io::{ErrorKind, IsTerminal, Read, Write};
 use std::rt::Files;
 use std::thread::Threads;
 use text_judgements::{write_judgement, write_judgement_json};
-use text_writing::{LookFault, TextFault, report_look};
-
-/// The status where a history isn't explained.
-const DEVIATES: u8 = 3;
+use text_writing::{LookFault, Status, TextFault, report_look};
 
 /// Why a history isn't judged.
 fn judge_fault(fault: JudgeFault) -> LookFault {
@@ -33,12 +30,14 @@ fn read_input<I: Read>(alloc: Global, input: &mut I) -> Result<Vec<u8>, LookFaul
 }
 
 /// The history that the words name, or the status where it can't be had; why is written to `err`.
-fn history_of<R: Files<File = File> + Alloc<A = Global> + Threads + Sync, I: Read, E: Write>(
-    rt: &R,
-    file: Option<&str>,
-    input: &mut I,
-    err: &mut E,
-) -> Result<History, u8> {
+fn history_of<
+    R: Files<File = File> + Alloc<A = Global> + Threads + Sync,
+    I: Read + IsTerminal,
+    E: Write,
+>(rt: &R, file: Option<&str>, input: &mut I, err: &mut E) -> Result<History, Status> {
+    if file.is_none() && input.is_terminal() {
+        let _ = err.write_all(b"reading a history from this terminal, up to its end (Ctrl-D)\n");
+    }
     match file {
         Some(path) => match read_history(rt, path) {
             Ok(history) => Ok(history),
@@ -95,12 +94,12 @@ fn judge_text<O: Write, E: Write + IsTerminal>(
     history: &History,
     out: &mut O,
     err: &mut E,
-) -> Result<u8, LookFault> {
+) -> Result<Status, LookFault> {
     let found = judge_shown(alloc, words, history, err)?;
     write_found(alloc, words, &found, out)?;
     match found {
-        Judgement::Explained(_) => Ok(0),
-        Judgement::Deviates(_) => Ok(DEVIATES),
+        Judgement::Explained(_) => Ok(Status::Done),
+        Judgement::Deviates(_) => Ok(Status::Found),
     }
 }
 
@@ -108,10 +107,10 @@ fn judge_text<O: Write, E: Write + IsTerminal>(
 /// gives the status.
 pub fn judge_history<
     R: Files<File = File> + Alloc<A = Global> + Threads + Sync,
-    I: Read,
+    I: Read + IsTerminal,
     O: Write,
     E: Write + IsTerminal,
->(rt: &R, words: &JudgeWords, input: &mut I, out: &mut O, err: &mut E) -> u8 {
+>(rt: &R, words: &JudgeWords, input: &mut I, out: &mut O, err: &mut E) -> Status {
     let history = match history_of(rt, words.file, input, err) {
         Ok(history) => history,
         Err(status) => return status,

@@ -1,8 +1,7 @@
 //! The commands that look at a unit after a trace: `mib`, `rules`, `explain`, `lint` and `graph`.
 //!
 //! What they show is found by the crates `mib_state`, `explain` and `explain_findings`, and written by those whose names begin with
-//! `text_`. Each gives its status: 0 where all is written, 2 for a trace or a capture that is bad, and 1 where a file, the output or
-//! memory fails.
+//! `text_`. Each gives its `Status`.
 #![tactic(auto)]
 
 mod linting;

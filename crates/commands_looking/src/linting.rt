@@ -1,6 +1,6 @@
 //! What is wrong with a configuration, and its picture.
 use command_words::{GraphWords, LintWords};
-use commands_files::{apply_trace, report_text};
+use commands_files::{apply_linted, apply_trace, report_text};
 use explain_findings::findings;
 use script_trace::{Applied, Refused};
 use std::alloc::{AllocError, Global};
@@ -8,10 +8,7 @@ use std::io::Write;
 use std::rt::Files;
 use text_findings::{TraceFault, TraceFinding, write_findings, write_findings_json};
 use text_graph::write_graph;
-use text_writing::TextFault;
-
-/// The status where something is found.
-const FOUND: u8 = 3;
+use text_writing::{Status, TextFault};
 
 /// What is found of the messages of a trace, by their lines.
 fn trace_findings(alloc: Global, applied: &Applied) -> Result<Vec<TraceFinding>, AllocError> {
@@ -63,14 +60,14 @@ pub fn lint<R: Files + Alloc<A = Global>, O: Write, E: Write>(
     words: &LintWords,
     out: &mut O,
     err: &mut E,
-) -> u8 {
-    let applied = match apply_trace(rt, &words.trace, err) {
+) -> Status {
+    let applied = match apply_linted(rt, &words.trace, err) {
         Ok(applied) => applied,
         Err(status) => return status,
     };
     match write_lint(rt.alloc(), words.json, &applied, out) {
-        Ok(0) => 0,
-        Ok(_) => FOUND,
+        Ok(0) => Status::Done,
+        Ok(_) => Status::Found,
         Err(fault) => report_text(Err(fault), err),
     }
 }
@@ -81,7 +78,7 @@ pub fn draw_graph<R: Files + Alloc<A = Global>, O: Write, E: Write>(
     words: &GraphWords,
     out: &mut O,
     err: &mut E,
-) -> u8 {
+) -> Status {
     match apply_trace(rt, &words.trace, err) {
         Ok(applied) => {
             let outcome = write_graph(rt.alloc(), &applied.mib, words.port, out);

@@ -1,7 +1,8 @@
 //! What looks inside: the managed entities after a trace, a table, and what becomes of one frame.
 use command_words::{ExplainWords, FrameWords, MibWords, RulesWords};
 use commands_files::{
-    apply_trace, next_frame, open_frames, read_whole, report_cut, report_text, report_unread,
+    apply_trace, next_frame, open_frames, read_whole, refuse_twice, report_cut, report_text,
+    report_unread,
 };
 use mib_state::Mib;
 use script_trace::Applied;
@@ -12,7 +13,7 @@ use text_entities::{write_mib, write_mib_json};
 use text_explanations::{
     Incoming, Traced, write_explanation, write_explanation_json, write_rules, write_rules_json,
 };
-use text_writing::{LookFault, TextFault, report_look};
+use text_writing::{LookFault, Status, TextFault, report_look};
 
 /// Writes managed entities, as text or as JSON.
 fn write_entities<O: Write>(
@@ -34,7 +35,7 @@ pub fn show_mib<R: Files + Alloc<A = Global>, O: Write, E: Write>(
     words: &MibWords,
     out: &mut O,
     err: &mut E,
-) -> u8 {
+) -> Status {
     match apply_trace(rt, &words.trace, err) {
         Ok(applied) => report_text(write_entities(rt.alloc(), words, &applied.mib, out), err),
         Err(status) => status,
@@ -69,7 +70,7 @@ pub fn show_rules<R: Files + Alloc<A = Global>, O: Write, E: Write>(
     words: &RulesWords,
     out: &mut O,
     err: &mut E,
-) -> u8 {
+) -> Status {
     match apply_trace(rt, &words.trace, err) {
         Ok(applied) => report_text(write_table(rt.alloc(), words, &applied, out), err),
         Err(status) => status,
@@ -77,7 +78,7 @@ pub fn show_rules<R: Files + Alloc<A = Global>, O: Write, E: Write>(
 }
 
 /// The bytes that hexadecimal digits spell, or the status where they spell none; why is written to `err`.
-fn frame_of<E: Write>(alloc: Global, digits: &str, err: &mut E) -> Result<Vec<u8>, u8> {
+fn frame_of<E: Write>(alloc: Global, digits: &str, err: &mut E) -> Result<Vec<u8>, Status> {
     let Ok(mut bytes) = vec![in alloc; 0u8; digits.len() / 2] else {
         return Err(report_look(&Err(LookFault::NoMemory), err));
     };
@@ -87,7 +88,7 @@ fn frame_of<E: Write>(alloc: Global, digits: &str, err: &mut E) -> Result<Vec<u8
             let _ = err.write_all(
                 b"error: the frame is not an even number of hexadecimal digits\n",
             );
-            Err(1)
+            Err(Status::Failed)
         }
     }
 }
@@ -98,19 +99,27 @@ fn captured_frame<R: Files + Alloc<A = Global>, E: Write>(
     path: &str,
     number: u32,
     err: &mut E,
-) -> Result<Vec<u8>, u8> {
+) -> Result<Vec<u8>, Status> {
     let file = match read_whole(rt, path) {
         Ok(file) => file,
         Err(error) => return Err(report_unread(&error, b"cannot read frames\n", path, err)),
     };
     let mut frames = open_frames(rt.alloc(), &file, path, err)?;
     let mut found = None;
+    let mut count = 0u32;
     for _ in 0..number {
         found = next_frame(&mut frames, path, err)?;
+        if found.is_none() {
+            break;
+        }
+        count = count.saturating_add(1);
     }
     let Some(frame) = found else {
-        let _ = writeln!(err, "error: {path} has fewer than {number} frames");
-        return Err(1);
+        let _ = writeln!(
+            err,
+            "error: {path} has {count} frames, so there is no frame {number}"
+        );
+        return Err(Status::Failed);
     };
     if frame.is_cut() {
         report_cut(1, err);
@@ -126,7 +135,7 @@ fn frame_asked<R: Files + Alloc<A = Global>, E: Write>(
     rt: &R,
     words: &FrameWords,
     err: &mut E,
-) -> Result<Vec<u8>, u8> {
+) -> Result<Vec<u8>, Status> {
     match *words {
         FrameWords::Bytes(digits) => frame_of(rt.alloc(), digits, err),
         FrameWords::Captured { file, number } => captured_frame(rt, file, number, err),
@@ -158,8 +167,13 @@ pub fn explain_frame<R: Files + Alloc<A = Global>, O: Write, E: Write>(
     words: &ExplainWords,
     out: &mut O,
     err: &mut E,
-) -> u8 {
+) -> Status {
     let alloc = rt.alloc();
+    if let FrameWords::Captured { file, .. } = words.frame
+        && let Err(status) = refuse_twice(&[words.trace.file, file], err)
+    {
+        return status;
+    }
     let frame = match frame_asked(rt, &words.frame, err) {
         Ok(frame) => frame,
         Err(status) => return status,

@@ -1,17 +1,14 @@
 //! A run over two files.
-use bench_capture::{CaptureFault, FrameFault};
+use bench_capture::{CaptureFileFault, NextFrameFault};
 use bench_pcapng::is_pcapng;
-use capture_pieces::Pieces;
 use command_words::RunWords;
 use commands_files::{
     Capture, Naming, cut_frames, cut_in_file, explain_fault, packets_of, read_capture, read_whole,
-    report_capture, report_cut, report_text, report_unread,
+    refuse_twice, report_capture, report_cut, report_text, report_unread,
 };
-use run_capture::{
-    RunFault, report_run, run_frames, run_frames_shown, run_over, run_over_shown, run_pieces,
-    run_pieces_shown,
-};
-use run_trace::{TraceFault, read_requests};
+use omci_msg::Request;
+use run_capture::{FrameSource, RunFault, report_run, run_frames};
+use script_trace::{ScriptFault, read_requests};
 use std::alloc::Global;
 use std::fs::File;
 use std::io::{IsTerminal, Write};
@@ -19,134 +16,125 @@ use std::rt::{Clock, Files};
 use std::sync::Wait;
 use std::thread::Threads;
 use text_runs::write_run_json;
-
-/// A fault of a capture in the classic format, as one of either format.
-fn fault_of(fault: capture::CaptureFault) -> CaptureFault {
-    match fault {
-        capture::CaptureFault::Magic => CaptureFault::Magic,
-        capture::CaptureFault::Header => CaptureFault::Header,
-        capture::CaptureFault::Link(link) => CaptureFault::Link(link),
-        capture::CaptureFault::Torn(record) => CaptureFault::Torn(u64::from(record)),
-        capture::CaptureFault::TooLong(record) => CaptureFault::TooLong(u64::from(record)),
-    }
-}
+use text_writing::Status;
 
 /// Says how a run ended, if it didn't end well, and gives the status.
-fn report<E: Write>(outcome: &Result<(), RunFault>, path: &str, err: &mut E) -> u8 {
-    let status = report_run(outcome, err);
+fn report_end<E: Write>(outcome: &Result<(), RunFault>, err: &mut E) -> Status {
+    Status::of(report_run(outcome, err))
+}
+
+/// The same, with what is wrong with the capture, if that is why.
+fn report<E: Write>(outcome: &Result<(), RunFault>, path: &str, err: &mut E) -> Status {
+    let status = report_end(outcome, err);
     if let Err(RunFault::Capture(fault)) = outcome {
-        explain_fault(fault_of(*fault), path, err);
+        explain_fault(CaptureFileFault::from(*fault), path, err);
     }
     status
 }
 
-/// Says why the packets of a capture aren't run over: a bad line of the trace comes first. It gives the status.
-fn report_packets<E: Write>(
-    alloc: Global,
-    trace: &[u8],
-    fault: FrameFault,
-    path: &str,
-    err: &mut E,
-) -> u8 {
-    if let Err(TraceFault::BadLine(line)) = read_requests(alloc, trace) {
-        return report_run(&Err(RunFault::BadTrace(line)), err);
-    }
+/// Says why a trace isn't run, and gives the status.
+fn report_trace<E: Write>(fault: ScriptFault, err: &mut E) -> Status {
+    let why = match fault {
+        ScriptFault::BadLine(line) => RunFault::BadTrace(line),
+        ScriptFault::NoMemory => RunFault::NoMemory,
+    };
+    report_end(&Err(why), err)
+}
+
+/// Says why the packets of a capture aren't run over, and gives the status.
+fn report_packets<E: Write>(fault: NextFrameFault, path: &str, err: &mut E) -> Status {
     match fault {
-        FrameFault::Capture(fault) => report_capture(fault, path, Naming::Behind, err),
-        FrameFault::NoMemory => report_run(&Err(RunFault::NoMemory), err),
+        NextFrameFault::Capture(fault) => report_capture(fault, path, Naming::Behind, err),
+        NextFrameFault::NoMemory => report_end(&Err(RunFault::NoMemory), err),
     }
 }
 
-/// Forwards the frames of a capture in the pcapng format.
-fn run_packets<
+/// Forwards frames as they are held, and shows how far it is where `err` is a terminal.
+fn run_held<
     R: Files + Alloc<A = Global> + Threads + Wait + Clock + Sync,
     O: Write,
     E: Write + IsTerminal + Send,
->(rt: &R, words: &RunWords, trace: &[u8], file: &[u8], out: &mut O, err: &mut E) -> u8 {
-    let packets = match packets_of(rt.alloc(), file) {
-        Ok(packets) => packets,
-        Err(fault) => return report_packets(rt.alloc(), trace, fault, words.frames, err),
-    };
-    let outcome = if err.is_terminal() {
-        run_frames_shown(rt, trace, &packets, &words.settings, out, err)
-    } else {
-        run_frames(rt, rt.alloc(), trace, &packets, &words.settings, out)
-    };
+>(
+    rt: &R,
+    words: &RunWords,
+    requests: &[Request],
+    frames: FrameSource<'_>,
+    out: &mut O,
+    err: &mut E,
+) -> Status {
+    let is_shown = err.is_terminal();
+    let progress = if is_shown { Some(&mut *err) } else { None };
+    let outcome = run_frames(rt, requests, frames, &words.settings, out, progress);
     report(&outcome, words.frames, err)
 }
 
-/// Forwards the frames of a capture in the classic format.
-fn run_classic<
+/// Forwards the frames of a capture.
+fn run_over_capture<
     R: Files + Alloc<A = Global> + Threads + Wait + Clock + Sync,
     O: Write,
     E: Write + IsTerminal + Send,
->(rt: &R, words: &RunWords, trace: &[u8], file: &[u8], out: &mut O, err: &mut E) -> u8 {
-    let outcome = if err.is_terminal() {
-        run_over_shown(rt, trace, file, &words.settings, out, err)
-    } else {
-        run_over(rt, rt.alloc(), trace, file, &words.settings, out)
-    };
-    report(&outcome, words.frames, err)
+>(
+    rt: &R,
+    words: &RunWords,
+    requests: &[Request],
+    capture: &Capture,
+    out: &mut O,
+    err: &mut E,
+) -> Status {
+    match capture {
+        Capture::InPieces(pieces) => {
+            let frames = FrameSource::InPieces(pieces);
+            run_held(rt, words, requests, frames, out, err)
+        }
+        Capture::Whole(file) if is_pcapng(file) => match packets_of(rt.alloc(), file) {
+            Ok(packets) => {
+                let frames = FrameSource::Listed(&packets);
+                run_held(rt, words, requests, frames, out, err)
+            }
+            Err(fault) => report_packets(fault, words.frames, err),
+        },
+        Capture::Whole(file) => {
+            let frames = FrameSource::Whole(file);
+            run_held(rt, words, requests, frames, out, err)
+        }
+    }
 }
 
-/// Forwards the frames of a capture that is held in pieces.
-fn run_parts<
-    R: Files + Alloc<A = Global> + Threads + Wait + Clock + Sync,
-    O: Write,
-    E: Write + IsTerminal + Send,
->(rt: &R, words: &RunWords, trace: &[u8], pieces: &Pieces, out: &mut O, err: &mut E) -> u8 {
-    let outcome = if err.is_terminal() {
-        run_pieces_shown(rt, trace, pieces, &words.settings, out, err)
-    } else {
-        run_pieces(rt, rt.alloc(), trace, pieces, &words.settings, out)
-    };
-    let status = report(&outcome, words.frames, err);
-    if status == 0 && err.is_terminal() {
-        report_cut(cut_in_file(rt, words.frames), err);
+/// How many frames of a capture were cut. One that is held in pieces is read again, in order.
+fn count_cut<R: Files + Alloc<A = Global>>(rt: &R, words: &RunWords, capture: &Capture) -> u64 {
+    match capture {
+        Capture::InPieces(_) => cut_in_file(rt, words.frames),
+        Capture::Whole(file) => cut_frames(rt.alloc(), file),
     }
-    status
-}
-
-/// Forwards the frames of a capture that is held whole.
-fn run_whole<
-    R: Files + Alloc<A = Global> + Threads + Wait + Clock + Sync,
-    O: Write,
-    E: Write + IsTerminal + Send,
->(rt: &R, words: &RunWords, trace: &[u8], file: &[u8], out: &mut O, err: &mut E) -> u8 {
-    let status = if is_pcapng(file) {
-        run_packets(rt, words, trace, file, out, err)
-    } else {
-        run_classic(rt, words, trace, file, out, err)
-    };
-    if status == 0 && err.is_terminal() {
-        report_cut(cut_frames(rt.alloc(), file), err);
-    }
-    status
 }
 
 /// Reads the trace and then the capture, and forwards the frames of the capture while the trace is applied. The lines of the run are
-/// written to `out`.
+/// written to `out`. A bad line of the trace comes before a fault of the capture.
 fn run_lines<
     R: Files<File = File> + Alloc<A = Global> + Threads + Wait + Clock + Sync,
     O: Write,
     E: Write + IsTerminal + Send,
->(rt: &R, words: &RunWords, out: &mut O, err: &mut E) -> u8 {
+>(rt: &R, words: &RunWords, out: &mut O, err: &mut E) -> Status {
+    if let Err(status) = refuse_twice(&[words.trace, words.frames], err) {
+        return status;
+    }
     let trace = match read_whole(rt, words.trace) {
         Ok(trace) => trace,
-        Err(error) => {
-            return report_unread(&error, b"cannot read trace\n", words.trace, err);
-        }
+        Err(error) => return report_unread(&error, b"cannot read trace\n", words.trace, err),
     };
     let capture = match read_capture(rt, words.frames) {
         Ok(capture) => capture,
-        Err(error) => {
-            return report_unread(&error, b"cannot read frames\n", words.frames, err);
-        }
+        Err(error) => return report_unread(&error, b"cannot read frames\n", words.frames, err),
     };
-    match capture {
-        Capture::InPieces(pieces) => run_parts(rt, words, &trace, &pieces, out, err),
-        Capture::Whole(file) => run_whole(rt, words, &trace, &file, out, err),
+    let requests = match read_requests(rt.alloc(), &trace) {
+        Ok(requests) => requests,
+        Err(fault) => return report_trace(fault, err),
+    };
+    let status = run_over_capture(rt, words, &requests, &capture, out, err);
+    if status == Status::Done && err.is_terminal() {
+        report_cut(count_cut(rt, words, &capture), err);
     }
+    status
 }
 
 /// The same, with an object in place of the lines.
@@ -154,10 +142,10 @@ fn run_as_json<
     R: Files<File = File> + Alloc<A = Global> + Threads + Wait + Clock + Sync,
     O: Write,
     E: Write + IsTerminal + Send,
->(rt: &R, words: &RunWords, out: &mut O, err: &mut E) -> u8 {
+>(rt: &R, words: &RunWords, out: &mut O, err: &mut E) -> Status {
     let mut lines = Vec::new(rt.alloc());
     let status = run_lines(rt, words, &mut lines, err);
-    if status != 0 {
+    if status != Status::Done {
         return status;
     }
     report_text(write_run_json(rt.alloc(), &lines, out), err)
@@ -165,13 +153,12 @@ fn run_as_json<
 
 /// Reads the trace and then the capture, and forwards the frames of the capture while the trace is applied. What comes of it is written
 /// to `out`, as lines or as an object, and why nothing does to `err`, which shows how far the run is where it is a terminal, and how
-/// many frames were cut. It gives the status: 0 where all is written, 2 for a trace or a capture that is bad, and the status of
-/// [`report_run`] for another fault.
+/// many frames were cut. It gives the status.
 pub fn run<
     R: Files<File = File> + Alloc<A = Global> + Threads + Wait + Clock + Sync,
     O: Write,
     E: Write + IsTerminal + Send,
->(rt: &R, words: &RunWords, out: &mut O, err: &mut E) -> u8 {
+>(rt: &R, words: &RunWords, out: &mut O, err: &mut E) -> Status {
     if words.json {
         run_as_json(rt, words, out, err)
     } else {

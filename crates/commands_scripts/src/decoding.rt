@@ -3,18 +3,19 @@ use command_words::DecodeWords;
 use commands_files::report_decoding;
 use std::alloc::Global;
 use std::io::{Read, Write};
+use text_encode::decode_source;
 use text_messages::{decode, decode_json};
-use text_source::decode_source;
+use text_writing::Status;
 
 /// Writes what each line of the script on the input means to `out`, as text, as JSON or in the words that `encode` reads, and why not
-/// all of them to `err`. It gives the status: 0 where all is written, 2 at a bad line, 1 where the input, the output or memory fails.
+/// all of them to `err`. It gives the status.
 pub fn decode_script<I: Read, O: Write, E: Write>(
     alloc: Global,
     words: &DecodeWords,
     input: &mut I,
     out: &mut O,
     err: &mut E,
-) -> u8 {
+) -> Status {
     let outcome = if words.source {
         decode_source(alloc, input, out)
     } else if words.json {

@@ -1,7 +1,7 @@
 //! The commands that read a script, or words for one: `replay`, `decode` and `encode`; and the numbers that `help` says in words.
 //!
-//! Scripts are read and answered by the crates `script_replay`, `text_messages` and `text_source`. Each command gives its status: 0
-//! where all is written, 2 for a bad line, and 1 where a file, the input, the output or memory fails.
+//! Scripts are read and answered by the crates `script_replay`, `text_messages` and `text_encode`. Each command gives its
+//! `Status`.
 #![tactic(auto)]
 
 mod decoding;

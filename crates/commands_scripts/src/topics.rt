@@ -1,8 +1,11 @@
 //! The numbers that the program writes, in words.
+use bench_capture::CaptureFileFault;
+use frame_meaning::Reason;
+use omci_msg::MsgFault;
 use std::alloc::{AllocError, Global};
 use std::io::Write;
-use text_messages::{message_fault_words, reason_of, result_name};
-use text_writing::{LookFault, report_look, write_whole};
+use text_messages::result_name;
+use text_writing::{LookFault, Status, report_look, write_whole};
 
 /// Which numbers are said in words.
 #[derive(Clone, Copy)]
@@ -13,16 +16,9 @@ pub enum Topic {
     Results,
     /// The faults of messages and of captures.
     Faults,
+    /// The statuses with which the program ends.
+    Statuses,
 }
-
-/// The faults of a capture, from 1.
-const CAPTURE_FAULTS: [&str; 5] = [
-    "it has no magic number of a capture",
-    "its header is cut, or of another version",
-    "its link type isn't Ethernet",
-    "a record or a block is cut",
-    "a frame has over 262144 bytes",
-];
 
 /// The numbers that words ask for behind `help`, or None where they ask for something else.
 pub fn topic_of(words: &[&str]) -> Option<Topic> {
@@ -31,6 +27,7 @@ pub fn topic_of(words: &[&str]) -> Option<Topic> {
             "reasons" => Some(Topic::Reasons),
             "results" => Some(Topic::Results),
             "faults" => Some(Topic::Faults),
+            "statuses" => Some(Topic::Statuses),
             _ => None,
         },
         _ => None,
@@ -39,11 +36,12 @@ pub fn topic_of(words: &[&str]) -> Option<Topic> {
 
 /// Puts the reasons.
 fn put_reasons(text: &mut String) -> Result<(), AllocError> {
-    text.push_str("Why a frame is dropped: `d N` of replay, `drop N` of run and forward\n")?;
-    for number in 1..=9 {
-        if let Some(reason) = reason_of(number) {
-            writeln!(text, "  {number}  {reason}")?;
-        }
+    text.push_str(
+        "Why a frame is dropped, with the step that finds it: `d N` of replay, `drop N` of run and forward\n",
+    )?;
+    for reason in &Reason::ALL {
+        let (number, step) = (reason.code(), reason.step());
+        writeln!(text, "  {number}  {step}: {reason}")?;
     }
     Ok(())
 }
@@ -65,16 +63,26 @@ fn put_results(text: &mut String) -> Result<(), AllocError> {
 /// Puts the faults.
 fn put_faults(text: &mut String) -> Result<(), AllocError> {
     text.push_str("Why a message has no effect: `m N` of replay\n")?;
-    for number in 1..=4 {
-        if let Some(words) = message_fault_words(number) {
+    for number in MsgFault::OF_REQUESTS {
+        if let Some(words) = MsgFault::words_of(number) {
             writeln!(text, "  {number}  {words}")?;
         }
     }
     text.push_str(
-        "Why a capture isn't read: `capture fault N` of run, forward, record and explain\n",
+        "Why a capture isn't read: `capture fault K at N` of run, forward, record and explain\n",
     )?;
-    for (place, words) in CAPTURE_FAULTS.iter().enumerate() {
-        let number = place.wrapping_add(1);
+    for fault in &CaptureFileFault::KINDS {
+        let (number, words) = (fault.code(), fault.words());
+        writeln!(text, "  {number}  {words}")?;
+    }
+    Ok(())
+}
+
+/// Puts the statuses.
+fn put_statuses(text: &mut String) -> Result<(), AllocError> {
+    text.push_str("The status with which the program ends\n")?;
+    for status in &Status::ALL {
+        let (number, words) = (status.code(), status.words());
         writeln!(text, "  {number}  {words}")?;
     }
     Ok(())
@@ -87,12 +95,18 @@ fn text_of(alloc: Global, topic: Topic) -> Result<String, AllocError> {
         Topic::Reasons => put_reasons(&mut text)?,
         Topic::Results => put_results(&mut text)?,
         Topic::Faults => put_faults(&mut text)?,
+        Topic::Statuses => put_statuses(&mut text)?,
     }
     Ok(text)
 }
 
 /// Writes the numbers of a topic in words to `out`, and why not, or not all, to `err`. It gives the status.
-pub fn show_topic<O: Write, E: Write>(alloc: Global, topic: Topic, out: &mut O, err: &mut E) -> u8 {
+pub fn show_topic<O: Write, E: Write>(
+    alloc: Global,
+    topic: Topic,
+    out: &mut O,
+    err: &mut E,
+) -> Status {
     let outcome = match text_of(alloc, topic) {
         Ok(text) => write_whole(out, text.as_bytes()).map_err(|_| LookFault::Write),
         Err(AllocError) => Err(LookFault::NoMemory),

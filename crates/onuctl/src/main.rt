@@ -16,6 +16,7 @@ use std::rt::{Clock, Env, Files};
 use std::sync::Wait;
 use std::thread::Threads;
 use std::{env, io};
+use text_writing::Status;
 
 /// The words of the command line, the program's name first.
 fn words(rt: &(impl Env + Alloc<A = Global>)) -> io::Result<Vec<String>> {
@@ -35,23 +36,23 @@ fn lent(alloc: Global, words: &[String]) -> Result<Vec<&str>, AllocError> {
     Ok(lent)
 }
 
-/// Says why the words can't be taken: there is no memory for them, or one isn't UTF-8.
-fn without_words<E: Write>(error: &io::Error, err: &mut E) -> ExitCode {
+/// Says why the words can't be taken, and gives the status: there is no memory for them, or one isn't UTF-8.
+fn without_words<E: Write>(error: &io::Error, err: &mut E) -> Status {
     let text = match error.kind() {
         ErrorKind::OutOfMemory => "no memory\n",
         _ => "error: a word is not UTF-8\n",
     };
     let _ = err.write_all(text.as_bytes());
-    ExitCode::from(1)
+    Status::Failed
 }
 
 /// Does what the words ask for, and gives the status.
 fn obey<
     R: Files<File = File> + Alloc<A = Global> + Threads + Wait + Clock + Sync,
-    I: Read,
+    I: Read + IsTerminal,
     O: Write,
     E: Write + IsTerminal + Send,
->(rt: &R, words: &Words<'_>, input: &mut I, out: &mut O, err: &mut E) -> u8 {
+>(rt: &R, words: &Words<'_>, input: &mut I, out: &mut O, err: &mut E) -> Status {
     let alloc = rt.alloc();
     match words {
         Words::Replay(words) => replay_script(alloc, words.json, input, out, err),
@@ -72,10 +73,10 @@ fn obey<
 /// Does what the words of the command line ask for, and gives the status.
 fn answer<
     R: Files<File = File> + Alloc<A = Global> + Threads + Wait + Clock + Sync,
-    I: Read,
+    I: Read + IsTerminal,
     O: Write,
     E: Write + IsTerminal + Send,
->(rt: &R, words: &[&str], input: &mut I, out: &mut O, err: &mut E) -> u8 {
+>(rt: &R, words: &[&str], input: &mut I, out: &mut O, err: &mut E) -> Status {
     let alloc = rt.alloc();
     if let Some(topic) = topic_of(words) {
         return show_topic(alloc, topic, out, err);
@@ -89,14 +90,12 @@ fn answer<
 fn main(rt: HostRuntime) -> ExitCode {
     let unread = Unread::new();
     let (mut out, mut err) = (unread.watch(rt.stdout()), unread.silence(rt.stderr()));
-    let words = match words(&rt) {
-        Ok(words) => words,
-        Err(error) => return without_words(&error, &mut err),
+    let status = match words(&rt) {
+        Ok(words) => match lent(rt.alloc(), &words) {
+            Ok(lent) => answer(&rt, &lent, &mut rt.stdin(), &mut out, &mut err),
+            Err(error) => without_words(&error.into(), &mut err),
+        },
+        Err(error) => without_words(&error, &mut err),
     };
-    let lent = match lent(rt.alloc(), &words) {
-        Ok(lent) => lent,
-        Err(error) => return without_words(&error.into(), &mut err),
-    };
-    let status = answer(&rt, &lent, &mut rt.stdin(), &mut out, &mut err);
-    ExitCode::from(unread.status(status))
+    ExitCode::from(unread.status(status).code())
 }

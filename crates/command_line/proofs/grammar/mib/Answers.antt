@@ -1,5 +1,0 @@
-use Rattle.std.proofs.Common.{rules, codes}
-use Rattle.command_line.proofs.grammar.mib.Goals as goal
-
-pub returns : goal.returns
-returns c = c.shown_after.ensures (codes "mib") (search rules, search rules)

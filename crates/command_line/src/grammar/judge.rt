@@ -1,0 +1,61 @@
+//! The words of `judge`.
+ghost use Rattle.std.specs.Prelude.{◌≡◌, false};
+ghost use Rattle.clap.specs.Words.{rule_of};
+ghost use Rattle.command_line.specs.Grammar.{IsCommand, history, judge, modelled, unordered};
+
+use crate::grammar::common::{json, with_arg};
+use clap::builder::ValueParser;
+use clap::{Arg, ArgAction, Command};
+use std::alloc::{AllocError, Global};
+
+/// Whether the contents of replies are looked at only where the model has the class.
+fn modelled<'a>(alloc: Global) -> Arg<'a>
+    ensures rule { rule_of result ≡ modelled }
+    ensures local { result.global ≡ false }
+{
+    Arg::new(alloc, "modelled")
+        .long("modelled")
+        .action(ArgAction::SetTrue)
+        .help(
+            "Compare contents of replies only for a MIB reset and on classes 130, 171, 266 and 268; has no value [example: --modelled]",
+        )
+}
+
+/// Whether each frame is judged by itself.
+fn unordered<'a>(alloc: Global) -> Arg<'a>
+    ensures rule { rule_of result ≡ unordered }
+    ensures local { result.global ≡ false }
+{
+    Arg::new(alloc, "unordered")
+        .long("unordered")
+        .action(ArgAction::SetTrue)
+        .help(
+            "Judge each frame by itself, for ports that several lanes serve; has no value [example: --unordered]",
+        )
+}
+
+/// The file with a history.
+fn history<'a>(alloc: Global) -> Arg<'a>
+    ensures rule { rule_of result ≡ history }
+    ensures local { result.global ≡ false }
+{
+    Arg::new(alloc, "history")
+        .value_name("FILE")
+        .action(ArgAction::Set)
+        .value_parser(ValueParser::NonEmptyString)
+        .help("History, a file; standard input without it [example: bench.history]")
+}
+
+pub(super) fn judge<'a>(alloc: Global) -> Result<Command<'a>, AllocError>
+    ensures { IsCommand result judge }
+{
+    let alone = Command::new(alloc, "judge")
+        .about("Say whether a right unit may have done what a history says")
+        .after_help(
+            "Status: 0 if it may, 3 if not, 2 for a bad line; onuctl help statuses says the others\nExample: onuctl judge bench.history",
+        );
+    let of_model = with_arg(Ok(alone), modelled(alloc));
+    let of_order = with_arg(of_model, unordered(alloc));
+    let shown = with_arg(of_order, json(alloc));
+    with_arg(shown, history(alloc))
+}

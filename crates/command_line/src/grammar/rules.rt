@@ -1,0 +1,15 @@
+//! The words of `rules`.
+ghost use Rattle.command_line.specs.Grammar.{IsCommand, rules};
+
+use crate::grammar::common::at_port;
+use clap::Command;
+use std::alloc::{AllocError, Global};
+
+pub(super) fn rules<'a>(alloc: Global) -> Result<Command<'a>, AllocError>
+    ensures { IsCommand result rules }
+{
+    let alone = Command::new(alloc, "rules")
+        .about("Show the VLAN tagging table in force at a port after a trace")
+        .after_help("Example: onuctl rules --trace up.script --port 257");
+    at_port(alloc, alone)
+}
