@@ -1,7 +1,8 @@
 -- What the judgement of a history says by its number and its line.
-use Rattle.std.specs.Prelude.{◌≡◌, ℕ, ◌+◌, ℤ, pos, Bool, true, false, ◌==◌, if◌then◌else◌, List, Option, Some, None, Ok}
+use Rattle.std.specs.Prelude.{◌≡◌, ◌<◌, ◌⊎◌, ℕ, ◌+◌, ℤ, pos, Bool, true, false, ◌==◌, if◌then◌else◌, List, Option, Some, None, Ok, length}
 use Rattle.bench_history.specs.History.{history_of}
 use Rattle.bench_history.specs.declared.event.Event.{Event}
+use Rattle.onu_cell.specs.Numbers.{bad_flags, bad_line, no_memory, small}
 use Rattle.bench_judge.specs.Explained.{IsExplained}
 use Rattle.bench_judge.specs.Judged.{IsFirstUnexplained}
 use Rattle.bench_judge.specs.declared.judgement.Judgement.{Judgement}
@@ -46,3 +47,22 @@ DeviatesAt (Some settings) history line = DeviatesFirst settings history line
 abbrev pub said_of : Judgement → ℤ × ℕ
 said_of (Explained explanation) = (pos 1, 0)
 said_of (Deviates deviation) = (pos 0, deviation.line)
+
+-- the number of a judgement: of its finding; or the room is too small, a request for memory was refused, a line is bad, or the flags
+-- have no meaning
+abbrev pub IsJudgeNumber : ℤ → Type 0
+IsJudgeNumber number =
+    (number ≡ pos 1) ⊎ (number ≡ pos 0) ⊎ (number ≡ small) ⊎ (number ≡ no_memory) ⊎ (number ≡ bad_line) ⊎ (number ≡ bad_flags)
+
+-- the line that a judgement names where no number tells it: none where the history is explained or a request for memory was refused; that
+-- of the finding where the room is too small; without settings nothing is said
+pub record NamesLine (settings : Option JudgeSettings) (history : List ℕ) (number : ℤ) (before line : ℕ) : Type 0 where
+  pub yes : number ≡ pos 1 → line ≡ 0
+  pub found : number ≡ small → ((line ≡ 0) × IsExplainedBy settings history) ⊎ DeviatesAt settings history line
+  pub none : number ≡ no_memory → line ≡ 0
+  pub flags : number ≡ bad_flags → line ≡ before
+
+-- how many bytes a judgement is said to have, by the number
+abbrev pub SaysJudged : ℤ → List ℕ → ℕ → ℕ → Type 0
+SaysJudged number room before written =
+    (number ≡ bad_flags → written ≡ before) × (number ≡ no_memory → written ≡ 0) × (number ≡ bad_line → written ≡ 0) × (number ≡ small → length room < written)

@@ -1,6 +1,6 @@
 -- A text in a room for it.
-use Rattle.std.specs.Prelude.{◌≡◌, ◌≤◌, ℕ, ℤ, negsuc, Bool, if◌then◌else◌, nat_le, List, ◌++◌, length, drop}
-use Rattle.onu_cell.specs.Numbers.{small}
+use Rattle.std.specs.Prelude.{◌≡◌, ◌≤◌, ◌<◌, ◌⊎◌, ℕ, ℤ, pos, negsuc, Bool, if◌then◌else◌, nat_le, List, ◌++◌, length, drop}
+use Rattle.onu_cell.specs.Numbers.{closed, no_memory, small}
 
 abbrev pub fits : List ℕ → List ℕ → Bool
 fits text room = nat_le (length text) (length room)
@@ -17,6 +17,15 @@ fitting number text room = if fits text room then number else small
 pub record IsWrittenUpTo (written : ℕ) (room after : List ℕ) : Type 0 where
   pub within : written ≤ length room
   pub behind : drop written after ≡ drop written room
+
+-- the number of an explanation: it stands in the room; or there is no unit, the room is too small, or a request for memory was refused
+abbrev pub IsExplainNumber : ℤ → Type 0
+IsExplainNumber number = (number ≡ pos 0) ⊎ (number ≡ closed) ⊎ (number ≡ small) ⊎ (number ≡ no_memory)
+
+-- how many bytes an explanation is said to have, by the number: without a unit nothing is said
+abbrev pub SaysExplained : ℤ → List ℕ → ℕ → ℕ → Type 0
+SaysExplained number room before written =
+    (number ≡ closed → written ≡ before) × (number ≡ no_memory → written ≡ 0) × (number ≡ small → length room < written)
 
 -- the numbers of calls that leave the room as it was: the negative ones
 abbrev pub Refuses : ℤ → Type 0

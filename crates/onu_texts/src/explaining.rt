@@ -1,7 +1,7 @@
 //! Why a frame goes where it goes.
-ghost use Rattle.std.specs.Prelude.{◌≡◌, ◌<◌, None, pos, length};
-ghost use Rattle.onu_cell.specs.Numbers.{closed, small};
-ghost use Rattle.onu_texts.specs.Room.{IsWrittenUpTo, Refuses};
+ghost use Rattle.std.specs.Prelude.{◌≡◌, None, pos};
+ghost use Rattle.onu_cell.specs.Numbers.{closed};
+ghost use Rattle.onu_texts.specs.Room.{IsExplainNumber, IsWrittenUpTo, Refuses, SaysExplained};
 
 use crate::room::put;
 use onu_cell::{CLOSED, Cell, NO_MEMORY, SMALL};
@@ -21,7 +21,8 @@ pub fn explain_into(
     ensures same { cell.new.handle.held ≡ cell.old.handle.held }
     ensures closed { cell.old.handle.held ≡ None → result ≡ closed }
     ensures ok { result ≡ pos 0 → IsWrittenUpTo written.new room.old room.new }
-    ensures small { result ≡ small → length room.old < written.new }
+    ensures number { IsExplainNumber result }
+    ensures written { SaysExplained result room.old written.old written.new }
     ensures kept { Refuses result → room.new ≡ room.old }
 {
     let Some(unit) = cell.take(alloc) else {

@@ -1,8 +1,8 @@
 //! The judgement of a history.
-ghost use Rattle.std.specs.Prelude.{◌≡◌, ◌<◌, None, Err, pos, length};
+ghost use Rattle.std.specs.Prelude.{◌≡◌, None, Err, pos};
 ghost use Rattle.bench_history.specs.History.{history_of};
-ghost use Rattle.onu_cell.specs.Numbers.{bad_flags, bad_line, small};
-ghost use Rattle.onu_texts.specs.Judging.{DeviatesAt, IsExplainedBy, said_of, settings_in};
+ghost use Rattle.onu_cell.specs.Numbers.{bad_flags, bad_line};
+ghost use Rattle.onu_texts.specs.Judging.{DeviatesAt, IsExplainedBy, IsJudgeNumber, NamesLine, SaysJudged, said_of, settings_in};
 ghost use Rattle.onu_texts.specs.Room.{IsWrittenUpTo, Refuses};
 
 use crate::room::put;
@@ -42,7 +42,7 @@ fn said_of(found: &Judgement<'_>) -> (i32, u64)
 /// Judges a history, and puts what is found to the front of a room, as JSON: 1, a right unit may have behaved so; 0, it can't have.
 /// `written` is how many bytes the finding has, also where the room is too small for it, [`SMALL`]. `line` is the line of the first
 /// deviation, or of the first bad line, [`BAD_LINE`], or 0.
-#[tactic(auto, using(crate::proofs::Found::explained_by, crate::proofs::Found::deviates_at))]
+#[tactic(auto, using(crate::proofs::Found::explained_by, crate::proofs::Found::deviates_at, crate::proofs::Found::number_is, crate::proofs::Found::names_found, crate::proofs::Found::names_small))]
 pub fn judge_into(
     alloc: Global,
     history: &[u8],
@@ -57,7 +57,9 @@ pub fn judge_into(
     ensures flags { settings_in flags ≡ None → result ≡ bad_flags }
     ensures yes { result ≡ pos 1 → IsWrittenUpTo written.new room.old room.new }
     ensures no { result ≡ pos 0 → IsWrittenUpTo written.new room.old room.new }
-    ensures small { result ≡ small → length room.old < written.new }
+    ensures number { IsJudgeNumber result }
+    ensures line { NamesLine (settings_in flags) history.now result line.old line.new }
+    ensures written { SaysJudged result room.old written.old written.new }
     ensures kept { Refuses result → room.new ≡ room.old }
 {
     let Some(settings) = settings_in(flags) else {

@@ -4,7 +4,7 @@ use mib_state::{Mib, Touch, law_of_accepted, law_of_order};
 use mib_upload::{Desk, Shelf, law_of_rows};
 use omci_msg::{Action, Reply};
 use pmapper::{GemPort, Interwork};
-use run_trace::{TraceFault, apply_requests, read_requests};
+use script_trace::{ScriptFault, read_requests};
 use std::alloc::{AllocError, Global};
 use std::process::Abort;
 use test_draws::{
@@ -346,7 +346,9 @@ fn trace(alloc: Global) -> Result<String, AllocError> {
 fn apply_trace(rt: &impl Abort, alloc: Global, mib: &mut Mib) {
     let text = trace(alloc).expect(rt, "room for a trace");
     let requests = read_requests(alloc, text.as_bytes()).expect(rt, "the requests of a trace");
-    apply_requests(mib, &requests);
+    for request in &requests {
+        let _ = mib.step(request);
+    }
     let port_id = mib.gem_port(0x0401).map(|port| port.port_id);
     same!(rt; (requests.len(), mib.sync(), port_id), (4, 2, Some(1025)));
     holds!(rt; mib.gem_port(0x0402).is_none());
@@ -355,7 +357,7 @@ fn apply_trace(rt: &impl Abort, alloc: Global, mib: &mut Mib) {
 /// The line by which a trace is refused.
 fn bad_line(alloc: Global, trace: &[u8]) -> Option<u64> {
     match read_requests(alloc, trace) {
-        Err(TraceFault::BadLine(line)) => Some(line),
+        Err(ScriptFault::BadLine(line)) => Some(line),
         _ => None,
     }
 }

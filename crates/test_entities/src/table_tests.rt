@@ -111,18 +111,11 @@ fn a_table_takes_what_may_be_put(rt: HostRuntime) -> Result<(), Fail> {
     Ok(())
 }
 
-/// A filter of any tag.
-const ANY: TagFilter = TagFilter {
-    priority: PriorityFilter::Any,
-    vid: VidFilter::Any,
-    tpid: TpidFilter::Any,
-};
-
 /// A filter of one tag by its VID.
 fn by_vid(vid: u16) -> Filter {
     Filter::OneTag(TagFilter {
         vid: VidFilter::Exactly(vid),
-        ..ANY
+        ..TagFilter::ANY
     })
 }
 
@@ -154,7 +147,7 @@ const BOTH: Filter = Filter::TwoTag {
     },
     inner: TagFilter {
         tpid: TpidFilter::InputEligible,
-        ..ANY
+        ..TagFilter::ANY
     },
 };
 
@@ -215,8 +208,8 @@ fn spelled() -> [(Filter, EthertypeFilter, Treatment, u64, u64); 7] {
         ),
         (
             Filter::TwoTag {
-                outer: ANY,
-                inner: ANY,
+                outer: TagFilter::ANY,
+                inner: TagFilter::ANY,
             },
             EthertypeFilter::Any,
             retag(2, None),
@@ -281,7 +274,7 @@ fn unspelled() -> [(Filter, Treatment); 6] {
         (
             Filter::OneTag(TagFilter {
                 priority: PriorityFilter::Exactly(8),
-                ..ANY
+                ..TagFilter::ANY
             }),
             retag(0, None),
         ),

@@ -6,7 +6,7 @@ use frame_batch::Gate;
 use frame_stats::Counts;
 use run_lanes::{LaneFault, Ran, RunInput, run_lanes};
 use run_settings::RunSettings;
-use run_trace::read_requests;
+use script_trace::read_requests;
 use std::alloc::Global;
 use std::sync::Wait;
 use std::sync::atomic::{AtomicU64, Ordering};

@@ -1,15 +1,15 @@
-//! Tests of digits, captures, replays and traces, of devices that fail, of counts, of runs on lanes, and of the words for one. They stand apart
-//! so that no library is proved a second time with its tests.
+//! Tests of digits, replays, traces and scripts in words, of devices that fail, of counts, of runs on lanes, and of the words for one. They
+//! stand apart so that no library is proved a second time with its tests.
 #![tactic(auto)]
 
-#[cfg(test)]
-mod capture_tests;
 #[cfg(test)]
 mod count_tests;
 #[cfg(test)]
 mod device_tests;
 #[cfg(test)]
 mod devices;
+#[cfg(test)]
+mod encode_tests;
 #[cfg(test)]
 mod gate_tests;
 #[cfg(test)]
@@ -22,8 +22,6 @@ mod script_digits_tests;
 mod script_trace_tests;
 #[cfg(test)]
 mod text_tests;
-#[cfg(test)]
-mod wild_captures;
 #[cfg(test)]
 mod word_tests;
 #[cfg(test)]

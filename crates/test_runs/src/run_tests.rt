@@ -1,12 +1,11 @@
 //! What a run writes and refuses, and how it is reported. Larger runs are asked of the program (`tests/drawn`).
 use capture::CaptureFault;
 use capture_pieces::Pieces;
-use run_capture::{
-    RunFault, RunSettings, report_run, run_frames, run_frames_shown, run_over, run_over_shown,
-    run_pieces, run_pieces_shown,
-};
+use run_capture::{FrameSource, RunFault, RunSettings, report_run, run_frames, run_over};
+use script_trace::read_requests;
 use std::alloc::{AllocError, Global};
 use std::process::Abort;
+use std::rt::Clock;
 use std::sync::Wait;
 use std::test::Fail;
 use std::thread::Threads;
@@ -69,16 +68,13 @@ fn applied_first(lanes: u16, batch: u32) -> RunSettings {
     }
 }
 
-/// Runs over a capture, whole and a byte a write, and over listed frames.
+/// Runs over a capture, whole and a byte a write.
 fn run_on<R: Threads + Wait + Abort + Sync>(rt: &R, alloc: Global, trace: &[u8], lanes: u16) {
     let file = file(alloc).expect(rt, "a capture");
     let settings = applied_first(lanes, 2);
     let mut dribble = Sink::new(alloc, 1, 1000, true);
     let over = run_over(rt, alloc, trace, &file, &settings, &mut dribble);
     same!(rt; (over, dribble.bytes.as_slice()), (Ok(()), LINES.as_bytes()), "{lanes} lanes");
-    let mut written = Vec::new(alloc);
-    let listed = run_frames(rt, alloc, trace, &FRAMES, &settings, &mut written);
-    same!(rt; (listed, written.as_slice()), (Ok(()), LINES.as_bytes()), "{lanes} lanes");
 }
 
 #[test]
@@ -100,30 +96,44 @@ fn in_parts(alloc: Global) -> Result<Pieces, AllocError> {
     Pieces::join(alloc, parts)
 }
 
-#[test]
-fn a_capture_in_pieces_has_the_same_lines(rt: HostRuntime) -> Result<(), Fail> {
-    let trace = tagging(rt.alloc())?;
-    let pieces = in_parts(rt.alloc())?;
-    let settings = applied_first(1, 2);
+/// Runs over frames as they are held, once with nothing shown and once with a line that shows how far it is.
+fn run_held<R: Threads + Wait + Clock + Alloc<A = Global> + Abort + Sync>(
+    rt: &R,
+    trace: &[u8],
+    frames: FrameSource<'_>,
+) {
+    let requests = read_requests(rt.alloc(), trace).expect(rt, "the requests of a trace");
+    let settings = applied_first(3, 2);
     let mut written = Vec::new(rt.alloc());
-    let text = trace.as_bytes();
-    run_pieces(&rt, rt.alloc(), text, &pieces, &settings, &mut written)?;
-    same!(rt; written.as_slice(), LINES.as_bytes());
-    Ok(())
+    let alone = run_frames(
+        rt,
+        &requests,
+        frames,
+        &settings,
+        &mut written,
+        None::<&mut Vec<u8>>,
+    );
+    let mut err = Vec::new(rt.alloc());
+    let shown = run_frames(
+        rt,
+        &requests,
+        frames,
+        &settings,
+        &mut written,
+        Some(&mut err),
+    );
+    let wanted = format!(in rt.alloc(); "{LINES}{LINES}").expect(rt, "the lines twice");
+    same!(rt; (alone, shown, written.as_slice()), (Ok(()), Ok(()), wanted.as_bytes()));
 }
 
 #[test]
-fn what_is_shown_has_the_same_lines(rt: HostRuntime) -> Result<(), Fail> {
+fn frames_have_the_same_lines_however_they_are_held(rt: HostRuntime) -> Result<(), Fail> {
     let trace = tagging(rt.alloc())?;
     let (file, pieces) = (file(rt.alloc())?, in_parts(rt.alloc())?);
-    let settings = applied_first(3, 2);
-    let (mut shown, mut err) = (Vec::new(rt.alloc()), Vec::new(rt.alloc()));
     let text = trace.as_bytes();
-    run_over_shown(&rt, text, &file, &settings, &mut shown, &mut err)?;
-    run_frames_shown(&rt, text, &FRAMES, &settings, &mut shown, &mut err)?;
-    run_pieces_shown(&rt, text, &pieces, &settings, &mut shown, &mut err)?;
-    let wanted = format!(in rt.alloc(); "{LINES}{LINES}{LINES}")?;
-    same!(rt; shown.as_slice(), wanted.as_bytes());
+    run_held(&rt, text, FrameSource::Whole(&file));
+    run_held(&rt, text, FrameSource::InPieces(&pieces));
+    run_held(&rt, text, FrameSource::Listed(&FRAMES));
     Ok(())
 }
 
@@ -169,15 +179,34 @@ fn the_first_fault_is_told_and_nothing_written(rt: HostRuntime) {
         let done = run_over(&rt, rt.alloc(), trace, file, &settings, &mut written);
         same!(rt; (done, written.len()), (Err(fault), 0), "{lanes} lanes, batches of {batch}");
     }
-    for (lanes, trace, fault) in [
-        (17, &b"f 1 00\n"[..], RunFault::Settings),
-        (1, b"# a\nf 1 00\n", RunFault::BadTrace(2)),
-    ] {
-        let mut written = Vec::new(rt.alloc());
-        let settings = applied_first(lanes, 2);
-        let done = run_frames(&rt, rt.alloc(), trace, &FRAMES, &settings, &mut written);
-        same!(rt; (done, written.len()), (Err(fault), 0), "{lanes} lanes");
-    }
+}
+
+/// Why a run of frames, as they are held, writes nothing.
+fn refuse_held<R: Threads + Wait + Clock + Alloc<A = Global> + Abort + Sync>(
+    rt: &R,
+    lanes: u16,
+    frames: FrameSource<'_>,
+    fault: RunFault,
+) {
+    let settings = applied_first(lanes, 2);
+    let mut written = Vec::new(rt.alloc());
+    let done = run_frames(
+        rt,
+        &[],
+        frames,
+        &settings,
+        &mut written,
+        None::<&mut Vec<u8>>,
+    );
+    same!(rt; (done, written.len()), (Err(fault), 0), "{lanes} lanes");
+}
+
+#[test]
+fn the_first_fault_of_held_frames_is_told(rt: HostRuntime) {
+    refuse_held(&rt, 17, FrameSource::Listed(&FRAMES), RunFault::Settings);
+    refuse_held(&rt, 17, FrameSource::Whole(&[]), RunFault::Settings);
+    let magic = RunFault::Capture(CaptureFault::Magic);
+    refuse_held(&rt, 1, FrameSource::Whole(&[]), magic);
 }
 
 /// Faults, with what is said of each, its number and its status.

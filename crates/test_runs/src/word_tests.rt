@@ -6,6 +6,7 @@ use run_settings::RunSettings;
 use std::alloc::AllocError;
 use std::test::Fail;
 use test_fixtures::{holds, same};
+use text_writing::Status;
 
 /// A run's words, the trace first, with three values that a case gives.
 fn run_words<'w>(port: &'w str, lanes: &'w str, batch: &'w str) -> [&'w str; 12] {
@@ -91,7 +92,7 @@ fn a_value_out_of_its_range_is_refused_and_a_want_of_memory_told_apart(rt: HostR
     ] {
         let (mut out, mut err) = (Vec::new(rt.alloc()), Vec::new(rt.alloc()));
         let error = error.expect(&rt, "an error");
-        same!(rt; report_words(&error, &mut out, &mut err), 1);
+        same!(rt; report_words(&error, &mut out, &mut err), Status::Failed);
         holds!(rt; out.is_empty());
         same!(rt; err.as_slice(), words.as_bytes());
     }

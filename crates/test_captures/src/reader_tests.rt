@@ -1,6 +1,8 @@
 //! Readers that fail or are interrupted: nothing is lost, and a later call goes on. Captures by hand are rows of `tests/made_captures`.
 use crate::drip::{Drip, Failing};
-use bench_capture::{CaptureFault, FrameFault, FrameReader, Frames, ReadFault, RecordedFrame};
+use bench_capture::{
+    CaptureFileFault, CaptureFrames, FrameReader, NextFrameFault, ReadFault, RecordedFrame,
+};
 use std::alloc::{AllocError, Global};
 use std::io::ErrorKind;
 use std::process::Abort;
@@ -70,11 +72,11 @@ fn compare_frame(rt: &impl Abort, what: &str, frame: &RecordedFrame<'_>, wanted:
 }
 
 /// Files by their parts, with their frames and their fault.
-const FILES: [(&[&[u8]], &[Wanted], CaptureFault); 2] = [
+const FILES: [(&[&[u8]], &[Wanted], CaptureFileFault); 2] = [
     (
         &[&LOW_MICRO, &LOW_RECORD, &LOW_CUT, &[0; 15]],
         &[(1_500_000_000, 3, &[7, 8, 9]), (2_000_001_000, 60, &[4, 5])],
-        CaptureFault::Torn(2),
+        CaptureFileFault::Torn(2),
     ),
     (
         &[
@@ -91,7 +93,7 @@ const FILES: [(&[&[u8]], &[Wanted], CaptureFault); 2] = [
             (4_294_967_298, 4, &[9, 8, 7, 6]),
             (4_294_967_298, 3, &[1, 2, 3]),
         ],
-        CaptureFault::Torn(6),
+        CaptureFileFault::Torn(6),
     ),
 ];
 
@@ -101,9 +103,9 @@ fn compare_file(
     alloc: Global,
     file: &[u8],
     wanted: &[Wanted],
-    fault: CaptureFault,
+    fault: CaptureFileFault,
 ) {
-    let mut frames = Frames::open(alloc, file).expect(rt, "a file");
+    let mut frames = CaptureFrames::open(alloc, file).expect(rt, "a file");
     let mut reader = FrameReader::open(alloc, Drip::of(file)).expect(rt, "a reader");
     same!(rt; reader.frame().is_none(), true);
     for want in wanted {
@@ -116,7 +118,7 @@ fn compare_file(
         compare_frame(rt, "read", &reader.frame().expect(rt, "a frame"), want);
     }
     for _again in 0..2 {
-        same!(rt; frames.next_frame().err(), Some(FrameFault::Capture(fault)));
+        same!(rt; frames.next_frame().err(), Some(NextFrameFault::Capture(fault)));
         same!(rt; reader.advance(), Err(ReadFault::Capture(fault)));
         same!(rt; reader.frame().is_none(), true);
     }

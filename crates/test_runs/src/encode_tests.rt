@@ -3,7 +3,7 @@ use std::io;
 use std::io::{ErrorKind, Read};
 use std::test::Fail;
 use test_fixtures::{Sink, same};
-use text_source::{EncodeFault, decode_source, encode};
+use text_encode::{EncodeFault, decode_source, encode};
 use text_writing::DecodeFault;
 
 /// A reader whose first read fails.
