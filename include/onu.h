@@ -10,6 +10,12 @@
  * Every call but onu_version() answers by a number: 0 or more where it did what was asked, and less where it didn't. -1 to -4 are the
  * faults of a message; the others are named here. A call that answers one of these leaves the unit as it was.
  *
+ * @par What is proved
+ * What each call leaves in a cell; the replies of onu_message() and the verdicts of onu_forward(); the answers of onu_replay(), with
+ * its number, size and line; the number of onu_judge() and the line that it names; and that no byte behind a text changes. Tested only
+ * are what the texts of onu_explain() and onu_judge() say, the answers to null pointers, and onu_version(). docs/PROOFS.md has the
+ * whole.
+ *
  * @par Threads
  * A cell is used by one thread at a time: two calls with one cell must not run at once, and what orders them must be a lock, a join or the
  * like. Calls with different cells, and calls without one, may run at once.
@@ -127,7 +133,8 @@ int32_t onu_message(onu *cell, const uint8_t *bytes, size_t n, uint8_t reply[48]
 int32_t onu_forward(onu *cell, uint16_t port, const uint8_t *frame, size_t n, onu_verdict *verdict);
 
 /**
- * @brief Explains what becomes of a frame, step by step, as `onuctl explain --json` does (docs/FORMATS.md).
+ * @brief Explains what becomes of a frame, step by step, as `onuctl explain --json` does (docs/FORMATS.md). The text is tested, not
+ *        proved.
  *
  * @param[in,out] cell     an open cell. Its managed entities stay as they are.
  * @param[in]     port     the port.
@@ -135,7 +142,7 @@ int32_t onu_forward(onu *cell, uint16_t port, const uint8_t *frame, size_t n, on
  * @param[in]     n        how many bytes it has.
  * @param[out]    room     room for the text: JSON in UTF-8, no zero byte at its end. It may be null where `size` is 0.
  * @param[in]     size     how many bytes the room has.
- * @param[out]    written  how many bytes the text has, also with #ONU_SMALL.
+ * @param[out]    written  how many bytes the text has, also with #ONU_SMALL. It isn't written with #ONU_CLOSED or #ONU_NULL.
  * @return 0, and the text is in the room; #ONU_SMALL, #ONU_NO_MEMORY (`*written` is 0), #ONU_CLOSED or #ONU_NULL.
  */
 int32_t onu_explain(onu *cell, uint16_t port, const uint8_t *frame, size_t n, uint8_t *room, size_t size, size_t *written);
@@ -156,7 +163,7 @@ int32_t onu_replay(const uint8_t *script, size_t n, uint8_t *room, size_t size, 
 
 /**
  * @brief Judges a history: whether a right unit may have behaved so. What is found is written as `onuctl judge --json` writes it
- *        (docs/FORMATS.md).
+ *        (docs/FORMATS.md). The number and the line are proved; the text is tested.
  *
  * @param[in]  history  the history. It may be null where `n` is 0.
  * @param[in]  n        how many bytes it has.
@@ -166,7 +173,8 @@ int32_t onu_replay(const uint8_t *script, size_t n, uint8_t *room, size_t size, 
  * @param[out] written  how many bytes the text has, also with #ONU_SMALL; 0 where there is none.
  * @param[out] line     the number, from 1, of the first line that no right unit explains, also with #ONU_SMALL, or of the first bad
  *                      line; else 0.
- * @return 1, explained; 0, not; #ONU_BAD_LINE, #ONU_SMALL, #ONU_NO_MEMORY, #ONU_FLAGS or #ONU_NULL.
+ * @return 1, explained; 0, not; #ONU_BAD_LINE, #ONU_SMALL, #ONU_NO_MEMORY; or #ONU_FLAGS or #ONU_NULL, and neither `*written` nor
+ *         `*line` is written.
  */
 int32_t onu_judge(const uint8_t *history, size_t n, uint32_t flags, uint8_t *room, size_t size, size_t *written, uint64_t *line);
 

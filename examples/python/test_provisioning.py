@@ -4,7 +4,7 @@ from typing import Iterator, Union
 
 import pytest
 
-from onuctl import Dropped, Forwarded, Reason, Unit
+from onuctl import Dropped, Forwarded, Reason, Unit, steps
 
 PORT = 257
 
@@ -60,8 +60,8 @@ def shown(what: Union[Forwarded, Dropped]) -> str:
 def explained(unit: Unit, sent: bytes) -> str:
     """Which entry of the port's table is used for a frame."""
     for step in unit.explain(PORT, sent):
-        if step["step"] == "used":
-            return "entry %d is used: %s -> %s" % (step["number"], step["filter_words"], step["treatment_words"])
+        if isinstance(step, steps.Used):
+            return "entry %d is used: %s -> %s" % (step.number, step.filter_words, step.treatment_words)
     return "no entry is used"
 
 

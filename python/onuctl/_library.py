@@ -69,7 +69,8 @@ _free.onu_version.restype = ctypes.c_char_p
 
 def version() -> str:
     """The program's version, and what it was proved with."""
-    return _free.onu_version().decode()
+    said: bytes = _free.onu_version()
+    return said.decode()
 
 
 def in_room(call: Any, size: int) -> bytes:

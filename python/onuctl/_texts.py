@@ -2,9 +2,10 @@
 
 import ctypes
 import json
-from typing import Any, Dict, NamedTuple, Optional, Union
+from typing import Any, Dict, List, NamedTuple, Optional, Union
 
 from . import _library
+from ._given import Bytes, text_of
 from ._library import BAD_LINE, NO_MEMORY
 
 
@@ -12,9 +13,12 @@ class BadLine(Exception):
     """A line of a text is bad. ``line`` is its number, from 1; of a script, ``answers`` are those to the lines before it."""
 
     def __init__(self, line: int, answers: bytes = b"") -> None:
-        super().__init__("line %d is bad" % line)
+        super().__init__(line, answers)
         self.line = line
         self.answers = answers
+
+    def __str__(self) -> str:
+        return "line %d is bad" % self.line
 
 
 class Finding(NamedTuple):
@@ -31,21 +35,17 @@ class Finding(NamedTuple):
         return "deviation at line %s: %s" % (self.line, json.dumps(self.details))
 
 
-def _bytes(text: Union[bytes, str]) -> bytes:
-    return text.encode() if isinstance(text, str) else text
-
-
-def replay(script: Union[bytes, str]) -> bytes:
+def replay(script: Union[Bytes, str]) -> bytes:
     """The answers to a script, line by line, from a unit of its own, as ``onuctl replay`` gives them. Raises :class:`BadLine`."""
-    script = _bytes(script)
+    text = text_of("script", script)
     line = ctypes.c_uint64()
-    numbers = []
+    numbers: List[int] = []
 
     def call(room: Any, size: int, written: ctypes.c_size_t) -> int:
-        numbers.append(_library.replay(script, len(script), room, size, written, line))
+        numbers.append(_library.replay(text, len(text), room, size, written, line))
         return numbers[-1]
 
-    answers = _library.in_room(call, 3 * len(script) + 1)
+    answers = _library.in_room(call, 3 * len(text) + 1)
     if numbers[-1] == NO_MEMORY:
         raise MemoryError("no memory for a replay")
     if numbers[-1] == BAD_LINE:
@@ -53,19 +53,19 @@ def replay(script: Union[bytes, str]) -> bytes:
     return answers
 
 
-def judge(history: Union[bytes, str], *, modelled: bool = False, unordered: bool = False) -> Finding:
+def judge(history: Union[Bytes, str], *, modelled: bool = False, unordered: bool = False) -> Finding:
     """Judges a history (docs/FORMATS.md, "Histories"): whether a right unit may have behaved so.
 
     ``modelled`` compares the contents of replies only where their requests are on classes that the model has; ``unordered`` judges each
     frame by itself. Raises :class:`BadLine`.
     """
-    history = _bytes(history)
+    given = text_of("history", history)
     flags = (1 if modelled else 0) | (2 if unordered else 0)
     line = ctypes.c_uint64()
-    numbers = []
+    numbers: List[int] = []
 
     def call(room: Any, size: int, written: ctypes.c_size_t) -> int:
-        numbers.append(_library.judge(history, len(history), flags, room, size, written, line))
+        numbers.append(_library.judge(given, len(given), flags, room, size, written, line))
         return numbers[-1]
 
     text = _library.in_room(call, 4096)

@@ -4,14 +4,17 @@ import ctypes
 import enum
 import json
 import struct
-from typing import Any, Dict, List, NamedTuple, NoReturn, Optional, Union
+from typing import Any, List, NamedTuple, NoReturn, Optional, Union
 
 from . import _library
+from ._given import Bytes, bytes_of, port_of
 from ._library import CLOSED, Cell
+from .steps import Step, steps_of
 
 
 class Reason(enum.IntEnum):
-    """Why a frame is dropped, in the order in which the reasons are found (docs/RULES.md)."""
+    """Why a frame is dropped, in the order in which the reasons are found (docs/RULES.md). The names and numbers are those of the crate
+    frame_meaning, and ``onuctl help reasons`` says them in words."""
 
     RUNT = 1
     CUT_TAG = 2
@@ -38,18 +41,23 @@ class Dropped(NamedTuple):
 
 
 class MessageFault(Exception):
-    """Bytes that are no request of the baseline message set; nothing was carried out. ``code`` is the number of the fault."""
+    """Bytes that are no request of the baseline message set; nothing was carried out. ``code`` is the number of the fault, and ``words`` are
+    those of ``onuctl help faults``."""
 
     WORDS = {
-        1: "neither 48 bytes nor 44",
-        2: "the destination bit is 1",
-        3: "the bit AK is 1: no request",
-        4: "a device identifier other than 0x0A",
+        1: "the message has neither 48 bytes nor 44",
+        2: "the destination bit is 1, expected 0",
+        3: "the acknowledgement bit is 1, expected 0 of a request",
+        4: "the device identifier isn't 10",
     }
 
     def __init__(self, code: int) -> None:
-        super().__init__("message fault %d: %s" % (code, self.WORDS[code]))
+        super().__init__(code)
         self.code = code
+        self.words = self.WORDS[code]
+
+    def __str__(self) -> str:
+        return "message fault %d: %s" % (self.code, self.words)
 
 
 _DROPPED = [Dropped(reason) for reason in Reason]
@@ -77,9 +85,11 @@ class Unit:
         if _library.open_cell(self._at) != 0:
             raise MemoryError("no memory for a unit")
 
-    def message(self, message: bytes) -> Optional[bytes]:
+    def message(self, message: Bytes) -> Optional[bytes]:
         """Hands the unit an OMCI message of 48 bytes, or 44 without its last four, and returns its reply, 48 bytes, or None where the
         message wants none. The request is carried out then. Raises :class:`MessageFault` where the bytes are no request."""
+        if type(message) is not bytes:
+            message = bytes_of("message", message)
         reply = _Reply()
         number = _message(self._at, message, len(message), reply)
         if number == 1:
@@ -90,11 +100,13 @@ class Unit:
             self._refuse()
         raise MessageFault(-number)
 
-    def forward(self, port: int, frame: bytes) -> Union[Forwarded, Dropped]:
+    def forward(self, port: int, frame: Bytes) -> Union[Forwarded, Dropped]:
         """Sends an Ethernet frame, from its destination address on and without a frame check sequence, into a port, and returns what
         becomes of it."""
-        if not 0 <= port <= 0xFFFF:
-            raise ValueError("a port is a number from 0 to 65535, not %d" % port)
+        if type(port) is not int or not 0 <= port <= 0xFFFF:
+            port = port_of(port)
+        if type(frame) is not bytes:
+            frame = bytes_of("frame", frame)
         said = _Verdict()
         number = _forward(self._at, port, frame, len(frame), said)
         if number == 1:
@@ -102,18 +114,18 @@ class Unit:
             count = numbers[2]
             return Forwarded(numbers[0], frame[:12] + _tags[count](*numbers[3 : 3 + count]) + frame[numbers[7] :])
         if number == 0:
-            return _DROPPED[_numbers(said)[1] - 1]
+            reason: int = _numbers(said)[1]
+            return _DROPPED[reason - 1]
         self._refuse()
 
-    def explain(self, port: int, frame: bytes) -> List[Dict[str, Any]]:
-        """Why a frame that is sent into a port goes where it goes: the ``steps`` that ``onuctl explain --json`` writes (docs/FORMATS.md). The
-        last step is the verdict. Nothing changes."""
-        if not 0 <= port <= 0xFFFF:
-            raise ValueError("a port is a number from 0 to 65535, not %d" % port)
-        numbers = []
+    def explain(self, port: int, frame: Bytes) -> List[Step]:
+        """Why a frame that is sent into a port goes where it goes: the ``steps`` that ``onuctl explain --json`` writes (docs/FORMATS.md), each of
+        its class in :mod:`onuctl.steps`. The last step is the verdict. Nothing changes."""
+        number, sent = port_of(port), bytes_of("frame", frame)
+        numbers: List[int] = []
 
         def call(room: Any, size: int, written: ctypes.c_size_t) -> int:
-            numbers.append(_library.explain(self._at, port, frame, len(frame), room, size, written))
+            numbers.append(_library.explain(self._at, number, sent, len(sent), room, size, written))
             return numbers[-1]
 
         text = _library.in_room(call, 16384)
@@ -121,8 +133,7 @@ class Unit:
             self._refuse()
         if numbers[-1] != 0:
             raise MemoryError("no memory for an explanation")
-        steps: List[Dict[str, Any]] = json.loads(text)["steps"]
-        return steps
+        return steps_of(json.loads(text)["steps"])
 
     def close(self) -> None:
         """Gives the unit's memory back. A closed unit stays closed."""
