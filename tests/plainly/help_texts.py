@@ -1,0 +1,282 @@
+"""The texts of all helps of the program, and of `install` and `release`, word by word."""
+
+PROGRAM = """\
+Answer OMCI messages and forward Ethernet frames, as an optical network unit does
+
+Usage: onuctl <COMMAND>
+
+Commands:
+  replay   Answer the script on standard input, line by line, on standard output
+  run      Forward the frames of a capture on several lanes while a trace is applied
+  decode   Say what each line of the script or of the answers on standard input means
+  mib      Show the managed entities after a trace
+  rules    Show the VLAN tagging table in force at a port after a trace
+  explain  Say step by step what becomes of one frame after a trace
+  judge    Say whether a right unit may have done what a history says
+  forward  Forward the frames of a capture after a trace, and say what becomes of each
+  record   Write the history that captures of one clock show, for judge
+  encode   Make a script of a text in words
+  lint     Say what is suspect in a trace and in the entities after it
+  graph    Draw how the managed entities after a trace point to each other, for Graphviz
+  help     Print this message or the help of the given subcommand(s)
+
+Options:
+  -h, --help     Print help
+  -V, --version  Print version
+
+Numbers in words: onuctl help reasons, onuctl help results, onuctl help faults, onuctl help statuses"""
+
+# Of each command.
+COMMANDS = {
+    "replay": """\
+Answer the script on standard input, line by line, on standard output
+
+Usage: onuctl replay [OPTIONS]
+
+Options:
+      --json  Show it as JSON, for other programs; has no value [example: --json]
+  -h, --help  Print help
+
+Example: onuctl replay < examples/replay/one_frame.script""",
+    "run": """\
+Forward the frames of a capture on several lanes while a trace is applied
+
+Usage: onuctl run [OPTIONS] --trace <FILE> --frames <FILE> --port <PORT> --lanes <COUNT> --batch <FRAMES>
+
+Options:
+      --trace <FILE>    Script whose messages are applied, a file [example: up.script]
+      --frames <FILE>   Capture of the frames, a file in libpcap's classic format or in pcapng [example: up.pcap]
+      --port <PORT>     Port at which frames come in, 0 to 65535 [example: 257]
+      --lanes <COUNT>   Lanes that forward side by side, 1 to 16 [example: 4]
+      --batch <FRAMES>  Frames of each batch but the last, 1 to 65536 [example: 1024]
+      --after           Forward only after the whole trace is applied; has no value [example: --after]
+      --json            Show it as JSON, for other programs; has no value [example: --json]
+  -h, --help            Print help
+
+Example: onuctl run --trace up.script --frames up.pcap --port 257 --lanes 4 --batch 1024""",
+    "decode": """\
+Say what each line of the script or of the answers on standard input means
+
+Usage: onuctl decode [OPTIONS]
+
+Options:
+      --source  Write the lines of a script in the words that encode reads; has no value [example: --source]
+      --json    Show it as JSON, for other programs; has no value [example: --json]
+  -h, --help    Print help
+
+Example: onuctl decode < examples/replay/one_frame.script""",
+    "mib": """\
+Show the managed entities after a trace
+
+Usage: onuctl mib [OPTIONS] --trace <FILE>
+
+Options:
+      --trace <FILE>  Script whose messages are applied, a file [example: up.script]
+      --until <LINE>  Stop behind this line of the trace, from 1 [example: 20]
+      --strict        Stop where a message of the trace has a fault or is refused; has no value [example: --strict]
+      --json          Show it as JSON, for other programs; has no value [example: --json]
+  -h, --help          Print help
+
+Example: onuctl mib --trace up.script""",
+    "rules": """\
+Show the VLAN tagging table in force at a port after a trace
+
+Usage: onuctl rules [OPTIONS] --trace <FILE> --port <PORT>
+
+Options:
+      --trace <FILE>  Script whose messages are applied, a file [example: up.script]
+      --until <LINE>  Stop behind this line of the trace, from 1 [example: 20]
+      --strict        Stop where a message of the trace has a fault or is refused; has no value [example: --strict]
+      --json          Show it as JSON, for other programs; has no value [example: --json]
+      --port <PORT>   Port at which frames come in, 0 to 65535 [example: 257]
+  -h, --help          Print help
+
+Example: onuctl rules --trace up.script --port 257""",
+    "explain": """\
+Say step by step what becomes of one frame after a trace
+
+Usage: onuctl explain [OPTIONS] --trace <FILE> --port <PORT> [HEX]
+
+Arguments:
+  [HEX]  Bytes of the frame, from the destination address on, in hexadecimal digits
+
+Options:
+      --trace <FILE>    Script whose messages are applied, a file [example: up.script]
+      --until <LINE>    Stop behind this line of the trace, from 1 [example: 20]
+      --strict          Stop where a message of the trace has a fault or is refused; has no value [example: --strict]
+      --json            Show it as JSON, for other programs; has no value [example: --json]
+      --port <PORT>     Port at which frames come in, 0 to 65535 [example: 257]
+      --all             Show each entry that fails, not only how many; has no value [example: --all]
+      --frames <FILE>   Capture with the frame, a file in libpcap's classic format or in pcapng [example: up.pcap]
+      --frame <NUMBER>  Number of the frame in the capture, from 1 [example: 7]
+  -h, --help            Print help
+
+The frame is given by its bytes, or by a capture and its number there.
+Example: onuctl explain --trace up.script --port 257 0200000000010200000000028100a0640800
+Example: onuctl explain --trace up.script --port 257 --frames up.pcap --frame 7""",
+    "lint": """\
+Say what is suspect in a trace and in the entities after it
+
+Usage: onuctl lint [OPTIONS] --trace <FILE>
+
+Options:
+      --trace <FILE>  Script whose messages are applied, a file [example: up.script]
+      --until <LINE>  Stop behind this line of the trace, from 1 [example: 20]
+      --strict        Stop where a message of the trace has a fault or is refused; has no value [example: --strict]
+      --json          Show it as JSON, for other programs; has no value [example: --json]
+  -h, --help          Print help
+
+Example: onuctl lint --trace up.script""",
+    "graph": """\
+Draw how the managed entities after a trace point to each other, for Graphviz
+
+Usage: onuctl graph [OPTIONS] --trace <FILE>
+
+Options:
+      --trace <FILE>  Script whose messages are applied, a file [example: up.script]
+      --until <LINE>  Stop behind this line of the trace, from 1 [example: 20]
+      --strict        Stop where a message of the trace has a fault or is refused; has no value [example: --strict]
+      --port <PORT>   Port whose entities are shown, 0 to 65535; all without it [example: 257]
+  -h, --help          Print help
+
+Example: onuctl graph --trace up.script | dot -Tsvg""",
+    "judge": """\
+Say whether a right unit may have done what a history says
+
+Usage: onuctl judge [OPTIONS] [FILE]
+
+Arguments:
+  [FILE]  History, a file; standard input without it [example: bench.history]
+
+Options:
+      --modelled   Compare contents of replies only for a MIB reset and on classes 130, 171, 266 and 268; has no value [example: --modelled]
+      --unordered  Judge each frame by itself, for ports that several lanes serve; has no value [example: --unordered]
+      --json       Show it as JSON, for other programs; has no value [example: --json]
+  -h, --help       Print help
+
+Status: 0 if it may, 3 if not, 2 for a bad line; onuctl help statuses says the others
+Example: onuctl judge bench.history""",
+    "forward": """\
+Forward the frames of a capture after a trace, and say what becomes of each
+
+Usage: onuctl forward [OPTIONS] --trace <FILE> --frames <FILE> --port <PORT>
+
+Options:
+      --trace <FILE>     Script whose messages are applied, a file [example: up.script]
+      --frames <FILE>    Capture of the frames, a file in libpcap's classic format or in pcapng [example: up.pcap]
+      --port <PORT>      Port at which frames come in, 0 to 65535 [example: 257]
+      --out <FILE>       Write the frames that leave to this file, as pcapng; - is standard output [example: left.pcapng]
+      --verdicts <FILE>  Write a line for each frame to this file: its GEM port or why it is dropped [example: up.verdicts]
+      --until <LINE>     Stop behind this line of the trace, from 1 [example: 20]
+      --strict           Stop where a message of the trace has a fault or is refused; has no value [example: --strict]
+      --json             Show it as JSON, for other programs; has no value [example: --json]
+  -h, --help             Print help
+
+Example: onuctl forward --trace up.script --frames up.pcap --port 257 --out left.pcapng""",
+    "record": """\
+Write the history that captures of one clock show, for judge
+
+Usage: onuctl record [OPTIONS]
+
+Options:
+      --omci <FILE>        Capture of OMCI frames, in one direction or both [example: omci.pcap]
+      --into <PORT=FILE>   Capture of the frames sent into a port [example: 257=up.pcap]
+      --out-of <GEM=FILE>  Capture of the frames that left by a GEM port [example: 1024=gem.pcap]
+      --tpid <TPID>        Type of tags beside 8100 and 88a8, in hexadecimal digits [example: 9100]
+      --wait <MS>          A reply is in force for frames this long after it, in milliseconds [example: 100]
+      --lost <MS>          A frame that isn't seen to leave in this time was dropped, in milliseconds [example: 1000]
+  -h, --help               Print help
+
+Captures are files in libpcap's classic format or in pcapng. Each of --omci, --into, --out-of and --tpid may be given several times.
+Example: onuctl record --omci omci.pcap --into 257=up.pcap --out-of 1024=gem.pcap | onuctl judge""",
+    "encode": """\
+Make a script of a text in words
+
+Usage: onuctl encode [OPTIONS] [FILE]
+
+Arguments:
+  [FILE]  Text in words, a file; standard input without it [example: up.onu]
+
+Options:
+      --id <NUMBER>  Transaction correlation identifier of the first message, 0 to 65535; 1 without it [example: 100]
+  -h, --help         Print help
+
+A line in words is a line of the script; `#` begins a remark. Numbers are decimal or begin with 0x.
+  create CLASS INSTANCE ATTRIBUTE=VALUE ..      set CLASS INSTANCE ATTRIBUTE=VALUE ..
+  delete CLASS INSTANCE                         get CLASS INSTANCE ATTRIBUTE ..
+  get-next CLASS INSTANCE N                     upload | upload-next N | reset
+  entry vlan INSTANCE FILTER -> TREATMENT       remove-entry vlan INSTANCE FILTER
+  frame PORT dst=MAC src=MAC tag=TPID:PRIORITY:DEI:VID type=TYPE dscp=N length=N payload=HEX
+  o HEX | f PORT HEX | raw HEX
+Classes are gem-port, interwork, mapper, vlan, onu-data. A message takes id=N and quiet.
+FILTER: tags=0|1|2, default, pcp=, vid=, tpid=, dei=, outer(..), inner(..), type=
+TREATMENT: drop, or remove=N outer(pcp= vid= tpid= dei=) inner(..)
+Status: 0, or 2 where the text has mistakes, each said with line and column; then no script is written.
+Example: onuctl encode up.onu | onuctl replay""",
+}
+
+# Of what stands behind `help` beside the commands.
+TOPICS = {
+    "reasons": """\
+Why a frame is dropped, with the step that finds it: `d N` of replay, `drop N` of run and forward
+  1  frame: the frame ends within its addresses or type
+  2  frame: the frame ends within a tag or before the type behind it
+  3  entry: no rule of the port's table matches the frame
+  4  treatment: a rule of the port's table discards the frame
+  5  mapper: the port has no mapper
+  6  pointer: the mapper's pointer for the priority is null
+  7  interworking point: the mapper's pointer leads to no interworking termination point
+  8  GEM port: the interworking termination point's pointer leads to no GEM port
+  9  direction: the GEM port doesn't carry frames upstream""",
+    "results": """\
+The result of a reply, the first byte of its contents (ITU-T G.988, annex A)
+  0  success
+  1  command processing error
+  2  command not supported
+  3  parameter error
+  4  unknown managed entity
+  5  unknown managed entity instance
+  6  device busy
+  7  instance exists
+  9  attributes failed or unknown""",
+    "faults": """\
+Why a message has no effect: `m N` of replay
+  1  the message has neither 48 bytes nor 44
+  2  the destination bit is 1, expected 0
+  3  the acknowledgement bit is 1, expected 0 of a request
+  4  the device identifier isn't 10
+Why a capture isn't read: `capture fault K at N` of run, forward, record and explain
+  1  no capture in libpcap's classic format or in pcapng, expected one of these
+  2  the header is cut short, or of another version, expected a whole one
+  3  link type N, expected Ethernet
+  4  record or block N, from 0, is cut short or broken, expected a whole one
+  5  record or block N, from 0, stores over 262144 bytes of a frame""",
+    "statuses": """\
+The status with which the program ends
+  0  all is written, and judge and lint found nothing
+  1  the words are wrong, a read or a write failed, or there is no memory or no room
+  2  a line, a text or a capture is bad, or --strict met a message that wasn't carried out
+  3  judge found a deviation, or lint something; all is written
+  141  nobody reads standard output any more""",
+}
+
+# Of scripts at the top.
+INSTALL = """\
+Installs the program, its manual page and completions, the library for C with its header, the Python package and the documents. What isn't
+proved and built yet is proved and built first.
+usage: install PREFIX
+       install --help
+  PREFIX/bin/onuctl
+  PREFIX/lib/libonu.a, libonu.so, pkgconfig/onu.pc, and PREFIX/lib/onuctl/python for PYTHONPATH
+  PREFIX/include/onu.h
+  PREFIX/share: man/man1, bash-completion, zsh, fish, and doc/onuctl, where PROVED says with what all was proved and has the sums of the files
+
+PREFIX may be in use. Each file is written beside its place and renamed, so a program that runs keeps the file that it began with. No file is
+renamed before all are written. Where one can't be written, what stands in PREFIX stays as it was."""
+RELEASE = """\
+Makes an archive of all that `install` installs, so that one machine proves and others only unpack: the program needs the GNU C library
+alone. Beside it stands its checksum. Before, it checks what nothing else does: that each program of timings/ is built, of the crates as
+they are, and that each file which names the version or the kit names those of this release.
+usage: release [--check]
+       release --help
+  --check only checks that, and makes no archive."""
