@@ -1,25 +1,20 @@
 //! Why bytes are no request, or no reply.
 
-use thiserror::Error;
+use std::fmt;
 
 /// What is wrong with the bytes of a message. Where several things are, it is the one that stands
 /// first here.
-#[derive(Clone, Copy, Debug, PartialEq, Eq, Error)]
+#[derive(Clone, Copy, Debug, PartialEq, Eq)]
 pub enum MsgFault {
     /// There are neither 48 bytes nor 44, a message without its last four.
-    #[error("message of {0} bytes, expected 48 or 44")]
     Length(usize),
     /// The destination bit is 1 (bit 8 of the message type; ITU-T G.988, clause 11.2).
-    #[error("destination bit 1, expected 0")]
     Destination,
     /// The bit AK is 1, where a request is read: this is an answer.
-    #[error("acknowledgement bit 1, expected 0 of a request")]
     NotRequest,
     /// The bit AR isn't 0 or the bit AK isn't 1, where a reply is read.
-    #[error("acknowledgement request bit 1 or acknowledgement bit 0, expected 0 and 1 of a reply")]
     NotReply,
     /// The device identifier isn't that of the baseline message set (clause 11.2).
-    #[error("device identifier {0}, expected 10")]
     Device(u8),
 }
 
@@ -30,13 +25,26 @@ impl MsgFault {
     /// The numbers of the faults that bytes read as a request can have, ascending.
     pub const OF_REQUESTS: [u8; 4] = [1, 2, 3, 4];
 
+    /// What is wrong, without the number of bytes or the identifier that was found.
+    pub fn words(self) -> &'static str {
+        match self {
+            MsgFault::Length(_) => "the message has neither 48 bytes nor 44",
+            MsgFault::Destination => "the destination bit is 1, expected 0",
+            MsgFault::NotRequest => "the acknowledgement bit is 1, expected 0 of a request",
+            MsgFault::NotReply => {
+                "the acknowledgement request bit is 1 or the acknowledgement bit 0, expected 0 and 1 of a reply"
+            }
+            MsgFault::Device(_) => "the device identifier isn't 10",
+        }
+    }
+
     /// What is wrong with bytes read as a request, by the number of the fault; None where no such fault has the number.
     pub fn words_of(number: u8) -> Option<&'static str> {
         match number {
-            1 => Some("the message has neither 48 bytes nor 44"),
-            2 => Some("the destination bit is 1, expected 0"),
-            3 => Some("the acknowledgement bit is 1, expected 0 of a request"),
-            4 => Some("the device identifier isn't 10"),
+            1 => Some(MsgFault::Length(0).words()),
+            2 => Some(MsgFault::Destination.words()),
+            3 => Some(MsgFault::NotRequest.words()),
+            4 => Some(MsgFault::Device(0).words()),
             _ => None,
         }
     }
@@ -54,3 +62,16 @@ impl MsgFault {
         }
     }
 }
+
+impl fmt::Display for MsgFault {
+    fn fmt<W: fmt::Write>(&self, f: &mut fmt::Formatter<W>) -> fmt::Result {
+        f.write_str(self.words())?;
+        match self {
+            MsgFault::Length(len) => write!(f, ", but {len}"),
+            MsgFault::Device(identifier) => write!(f, ", but {identifier}"),
+            _ => Ok(()),
+        }
+    }
+}
+
+impl std::error::Error for MsgFault {}

@@ -27,7 +27,7 @@ impl fmt::Display for TraceFault {
         match self {
             TraceFault::Faulty(fault) => {
                 let number = fault.code();
-                write!(f, "the message has fault {number}, {fault}")
+                write!(f, "fault {number}, {fault}")
             }
             TraceFault::Refused(result) => {
                 let name = result_name(*result);
