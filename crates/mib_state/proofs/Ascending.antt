@@ -127,7 +127,7 @@ set_ascends layout n mask bytes l up = found_ascends layout n mask bytes l (find
 one_ascends : (i : Instance) → IsAscending (i ∷ [])
 one_ascends i j k lt inside = absurd (omega arith)
 
-of_class : (e : Entities) (class : ℕ) → AreAscending e → IsAscending (instances_of e class)
+pub of_class : (e : Entities) (class : ℕ) → AreAscending e → IsAscending (instances_of e class)
 of_class e class up =
     either IsAscending (class == 2) _ _ (λ is. one_ascends (onu_data e.sync)) (λ no.
     either IsAscending (class == 130) _ _ (λ is. up.mappers) (λ no.

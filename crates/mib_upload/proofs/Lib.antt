@@ -1,5 +1,6 @@
 pub mod Parts
 pub mod Once
+pub mod Rising
 pub mod Bounds
 pub mod Reading
 pub mod Joined

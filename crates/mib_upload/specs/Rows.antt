@@ -1,9 +1,11 @@
 -- The rows of a MIB upload (ITU-T G.988, 9.1.3 and annex A).
-use Rattle.std.specs.Prelude.{ℕ, zero, suc, ◌≡◌, ◌<◌, ◌≤◌, ◌+◌, ◌-◌, ◌^◌, ◌==◌, nat_le, List, [], ◌∷◌, ◌++◌, Option, Some, None, if◌then◌else◌, All, length, map}
+use Rattle.std.specs.Prelude.{ℕ, zero, suc, ◌≡◌, ◌<◌, ◌≤◌, ◌⊎◌, ◌+◌, ◌-◌, ◌^◌, ◌==◌, nat_le, List, [], ◌∷◌, ◌++◌, Option, Some, None, if◌then◌else◌, All, length, map}
 use Rattle.std.specs.List.{flat_map, sum_by}
+use Rattle.omci_msg.specs.declared.Request.{Request}
 use Rattle.managed_entity.specs.declared.attribute.Attribute.{Attribute}
 use Rattle.managed_entity.specs.Class.{attributes_of}
 use Rattle.mib_state.specs.Entities.{Entities, instances_of}
+use Rattle.mib_state.specs.After.{after}
 use Rattle.mib_state.specs.Held.{Entity, of_class}
 use Rattle.managed_entity.specs.Instance.{Instance, attribute_of}
 
@@ -150,3 +152,16 @@ EachFits e = All (λ class. All (AllFit class) (instances_of e class)) classes
 pub record RowsOnce : Type 0 where
   pub are : (e : Entities) → EachFits e → AreRows e (rows_of e)
   pub only : (e : Entities) (rows : List RowFields) → AreRows e rows → rows ≡ rows_of e
+
+-- a row may stand before another: it is of a lower class, or of the class and of no higher an instance
+abbrev pub MayPrecede : RowFields → RowFields → Type 0
+MayPrecede row next = (row.class < next.class) ⊎ ((row.class ≡ next.class) × (row.instance ≤ next.instance))
+
+-- rows rise by class, and in a class by instance
+abbrev pub Rise : List RowFields → Type 0
+Rise [] = Unit {0}
+Rise (row ∷ rest) = All (MayPrecede row) rest × Rise rest
+
+-- so do the rows after every list of requests
+abbrev pub RowsRise : Type 0
+RowsRise = (requests : List Request) → Rise (rows_of (after requests))

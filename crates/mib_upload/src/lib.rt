@@ -16,7 +16,7 @@
 //! the instances that each class has room for. That it suffices is proved, so an answer takes no memory.
 #![tactic(auto)]
 
-ghost use Rattle.mib_upload.specs.Rows.{RowsOnce};
+ghost use Rattle.mib_upload.specs.Rows.{RowsOnce, RowsRise};
 
 mod desk;
 mod row;
@@ -30,4 +30,9 @@ pub use shelf::Shelf;
 /// Entities whose attributes each fit a row have one list of rows, and it is the computed one.
 pub fn law_of_rows()
     ensures { RowsOnce }
+{}
+
+/// The rows of an upload rise by class, and in a class by instance, whatever was requested before.
+pub fn law_of_row_order()
+    ensures { RowsRise }
 {}

@@ -1,7 +1,7 @@
 //! Entities call by call: what they show, what their steps touch, and what a trace leaves. The dialogues (`tests/dialogues/entities.dialogues`
 //! and others) ask the program for replies to messages.
 use mib_state::{Mib, Touch, law_of_accepted, law_of_order};
-use mib_upload::{Desk, Shelf, law_of_rows};
+use mib_upload::{Desk, Shelf, law_of_row_order, law_of_rows};
 use omci_msg::{Action, Reply};
 use pmapper::{GemPort, Interwork};
 use script_trace::{ScriptFault, read_requests};
@@ -320,6 +320,7 @@ fn upload(rt: &impl Abort, alloc: Global, mib: &mut Mib) {
     same!(rt; values, Some(&[4, 1, 5, 6, 1, 0, 0, 0, 0, 0, 0, 0][..]));
     holds!(rt; shelf.row(12).is_none());
     law_of_rows();
+    law_of_row_order();
 }
 
 #[test]
