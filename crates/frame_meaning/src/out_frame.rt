@@ -80,7 +80,8 @@ impl<'a> OutFrame<'a> {
 
     /// The destination's and the source's address.
     pub fn addresses(&self) -> &'a [u8]
-        ensures { result.now ≡ self.now.addresses }
+        ensures value { result.now ≡ self.now.addresses }
+        ensures twelve { length result.now ≡ 12 }
     {
         &self.bytes[..12]
     }

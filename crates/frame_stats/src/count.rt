@@ -141,13 +141,6 @@ fn with_frame(bytes: u64, frame: &OutFrame<'_>) -> Option<u64>
         (2 ^ 64 ≤ bytes + length (frame_bytes frame.now))
         (λ sum. sum ≡ bytes + length (frame_bytes frame.now)) }
 {
-    let (addresses, rest) = (frame.addresses().len(), frame.rest().len());
-    let tags = 4 * frame.tags().len();
-    let len = if addresses <= 12 {
-        addresses + tags + rest
-    } else {
-        // No frame has more, so a compiler leaves this out, and with it a check for each frame.
-        (addresses + tags).checked_add(rest)?
-    };
+    let len = frame.addresses().len() + 4 * frame.tags().len() + frame.rest().len();
     bytes.checked_add(len as u64)
 }

@@ -17,7 +17,7 @@ returns-clause-items c rest is =
       c.put.ensures.items,
       c.as_bytes.ensures.value,
       c.format.ensures.text,
-      c.addresses.ensures,
+      c.addresses.ensures.value,
       c.tags.ensures.value,
       frame_digits c.args.frame.now.addresses c.args.frame.now.tags rest,
     )
