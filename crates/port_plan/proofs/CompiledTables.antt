@@ -116,7 +116,11 @@ treated_within settings old new treats number is are =
 pub treats_set : (settings : TableSettings) (old new : List (List ℕ)) (treats : List (Option Compiled)) (number place : ℕ) (rule : Rule) (treat : Option Compiled)
     → Some place ≡ slice_get (order_of new) number → IsRuleOf (entry_at new place) rule → Treats rule.treatment settings (tags_in rule.filter) treat
     → IsTreated old new number → AreTreats settings old treats → AreTreats settings new (slice_set treats number treat)
-treats_set settings old new treats number place rule treat here is right treated are = record { few = omega (arith, length-set treats number treat, are.few); each = each }
+treats_set settings old new treats number place rule treat here is right treated are = record {
+  few = omega (arith, length-set treats number treat, are.few);
+  no_more = omega (arith, length-set treats number treat, are.no_more, ap (λ (l : List ℕ). length l) treated.order);
+  each = each;
+}
   where
     within : number < length treats
     within = treated_within settings old new treats number treated are
@@ -155,7 +159,7 @@ some_asks_set treats number None within asks = absurd (true≢false (sym asks))
 some_asks_set treats number (Some treat) within asks = (number, treat, set_held treats (Some treat) number within, asks)
 
 -- the order has no more places than there are entries, and each place is that of an entry
-order_few : (entries : List (List ℕ)) → length (order_of entries) ≤ length entries
+pub order_few : (entries : List (List ℕ)) → length (order_of entries) ≤ length entries
 order_few entries = omega (arith, length-map (rows_of entries) (λ (row : Row). row.place), no_more_rows entries)
 
 pub order_within : (entries : List (List ℕ)) (n place : ℕ) → Some place ≡ slice_get (order_of entries) n → place < length entries
@@ -165,11 +169,11 @@ order_within entries n place held =
     omega (arith, (is_order entries).within n within)
 
 -- all of them
-pub treats_all : (settings : TableSettings) (entries : List (List ℕ)) (treats : List (Option Compiled)) (n : ℕ) → length treats ≡ n → n ≤ length entries → length entries ≤ 128
+pub treats_all : (settings : TableSettings) (entries : List (List ℕ)) (treats : List (Option Compiled)) (n : ℕ) → length treats ≡ n → n ≤ length (order_of entries) → length (order_of entries) ≤ 128
     → ((number place : ℕ) → slice_get (order_of entries) number ≡ Some place → number < n)
     → AreFirstTreats settings entries treats n → AreTreats settings entries treats
 treats_all settings entries treats n len most few all first =
-    record { few = omega arith; each = λ number place held. first number place (all number place held) held }
+    record { few = omega arith; no_more = omega arith; each = λ number place held. first number place (all number place held) held }
 
 pub all_to_end : (entries : List (List ℕ)) (n : ℕ) → length entries ≤ n → (number place : ℕ) → slice_get (order_of entries) number ≡ Some place → number < n
 all_to_end entries n most number place held =
@@ -276,7 +280,11 @@ no_places entries none number place held =
 
 pub treats_of_none : (settings : TableSettings) (entries : List (List ℕ)) (treats : List (Option Compiled)) → entries ≡ [] → treats ≡ [] → AreTreats settings entries treats
 treats_of_none settings entries treats none empty =
-    record { few = omega (arith, ap (λ (l : List (Option Compiled)). length l) empty); each = λ number place held. absurd (no_places entries none number place held) }
+    record {
+      few = omega (arith, ap (λ (l : List (Option Compiled)). length l) empty);
+      no_more = omega (arith, ap (λ (l : List (Option Compiled)). length l) empty);
+      each = λ number place held. absurd (no_places entries none number place held);
+    }
 
 pub none_asks : (treats : List (Option Compiled)) → treats ≡ [] → NoneAsks treats
 none_asks treats empty place treat held =

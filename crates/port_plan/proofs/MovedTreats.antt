@@ -63,6 +63,9 @@ ranked-at entries k place held =
     let at : ℕ → List ℕ = λ p. entry_at entries p in
     slice_get-map at (order_of entries) k ∙ ap (λ (o : Option ℕ). option_map at o) held
 
+ranked-length : (entries : List (List ℕ)) → length (ranked entries) ≡ length (order_of entries)
+ranked-length entries = length-map (order_of entries) (λ place. entry_at entries place)
+
 by-number : (settings : TableSettings) (entries : List (List ℕ)) (treats : List (Option Compiled)) → AreTreats settings entries treats
     → (k : ℕ) (e : List ℕ) → slice_get (ranked entries) k ≡ Some e → IsTreatIn settings treats k e
 by-number settings entries treats are k e held = by_case (slice_get (order_of entries) k) refl (sym (slice_get-map at (order_of entries) k) ∙ held)
@@ -99,6 +102,15 @@ pub treats-inserted : (settings : TableSettings) (old new : List (List ℕ)) (tr
     → length treats < 128 → IsOneMore old new place number → AreTreats settings old treats → AreTreats settings new (insert treats number treat)
 treats-inserted settings old new treats place number at rule treat here is_rule right few is are = record {
   few = omega (arith, length-insert treats number treat within, few);
+  no_more = omega (
+    arith,
+    length-insert treats number treat within,
+    are.no_more,
+    ranked-length old,
+    ranked-length new,
+    ap (λ (es : List (List ℕ)). length es) is.others,
+    length-insert (ranked old) number is.entry is.within,
+  );
   each = each;
 }
   where
@@ -182,6 +194,15 @@ pub treats-removed : (settings : TableSettings) (old new : List (List ℕ)) (tre
     → IsOneMore new old place number → AreTreats settings old treats → AreTreats settings new (remove treats number)
 treats-removed settings old new treats place number is are = record {
   few = omega (arith, are.few, length-remove treats number (there-within settings new old treats place number is are));
+  no_more = omega (
+    arith,
+    are.no_more,
+    length-remove treats number (there-within settings new old treats place number is are),
+    ranked-length old,
+    ranked-length new,
+    ap (λ (es : List (List ℕ)). length es) is.others,
+    length-insert (ranked new) number is.entry is.within,
+  );
   each = each;
 }
   where

@@ -19,6 +19,7 @@ pub record IsTreatIn (settings : TableSettings) (treats : List (Option Compiled)
 -- a list has the treatments of entries, in their order of rank and place
 pub record AreTreats (settings : TableSettings) (entries : List (List ℕ)) (treats : List (Option Compiled)) : Type 0 where
   pub few : length treats ≤ table_max_size
+  pub no_more : length treats ≤ length (order_of entries)
   pub each : (number place : ℕ) → slice_get (order_of entries) number ≡ Some place → IsTreatIn settings treats number (entry_at entries place)
 
 -- no tag gets the priority of a DSCP

@@ -168,7 +168,7 @@ impl CompiledTable {
                 );
                 false
             }
-            Followed::Added(number) if self.treats.len() < TABLE_MAX_SIZE as usize => {
+            Followed::Added(number) => {
                 self.uses_dscp = insert_treat(
                     &mut self.treats,
                     self.uses_dscp,
@@ -183,8 +183,7 @@ impl CompiledTable {
                 self.uses_dscp = remove_treat(&mut self.treats, self.uses_dscp, number);
                 false
             }
-            _ => {
-                let _ = self.index.follow(rules);
+            Followed::Rebuilt => {
                 self.uses_dscp = compile_treats(
                     &mut self.treats,
                     &self.index,

@@ -2,6 +2,7 @@
 use Rattle.std.specs.Prelude.{◌≡◌, ◌≢◌, ◌<◌, ◌≤◌, ◌+◌, ℕ, List, Some, length, map, slice_get, slice_set, take}
 use Rattle.std.specs.List.{insert, remove}
 use Rattle.vlan_rule.specs.Choice.{entry_at}
+use Rattle.vlan_rule.specs.Table.{table_max_size}
 use Rattle.rule_index.specs.declared.followed.Followed.{Followed}
 use Rattle.rule_index.specs.declared.followed.Followed.TheVariants.{Unchanged, Treatment, Added, Deleted, Rebuilt}
 use Rattle.rule_index.specs.Order.{order_of}
@@ -49,7 +50,7 @@ pub record IsSet (old new table : List (List ℕ)) (number : ℕ) : Type 0 where
 abbrev pub IsStep : List (List ℕ) → List (List ℕ) → List (List ℕ) → Followed → Type 0
 IsStep old new table Unchanged = new ≡ table
 IsStep old new table (Treatment number) = IsSet old new table number
-IsStep old new table (Added number) = (length old < length table) × (new ≡ take (length old + 1) table)
+IsStep old new table (Added number) = (length old < length table) × (length old < table_max_size) × (new ≡ take (length old + 1) table)
 IsStep old new table (Deleted number) = (place : ℕ) × IsFirstOther old table place × (new ≡ remove old place)
 IsStep old new table Rebuilt = new ≡ table
 

@@ -44,6 +44,7 @@ impl Model for Index {
 impl Index {
     ghost use Rattle.tag_view.specs.Frame.{type_at};
     ghost use Rattle.vlan_rule.specs.Choice.{choice, entry_at, matches, IsChoice};
+    ghost use Rattle.vlan_rule.specs.Table.{table_max_size};
     ghost use Rattle.rule_index.specs.Followed.{IsFirstOther, IsFollowed, IsOneMore, IsStep, IsTreated};
 
     /// An index of no entries, with room for those of any table.
@@ -175,6 +176,7 @@ impl Index {
         requires { (k : ℕ) → k < length self.old → entry_at self.old k ≡ entry_at table.now k }
         ensures { MatchOption result (self.new ≡ self.old)
             (λ number. (length self.old < length table.now)
+            × (length self.old < table_max_size)
             × (self.new ≡ take (length self.old + 1) table.now)
             × IsOneMore self.old self.new (length self.old) number) }
     {

@@ -1,10 +1,11 @@
 use Rattle.std.proofs.Common.{◌≡◌, ◌+◌, ℕ, List, [], ◌∷◌, Option, length, ap, arith, sym, subst, ◌∙◌, length-append, rules}
 use Rattle.std.specs.Prelude.{slice_get}
 use Rattle.std.specs.List.{insert}
+use Rattle.std.proofs.lemmas.Option.{slice_get_within}
 use Rattle.rule_index.specs.Filters.{tags_in}
 use Rattle.rule_index.specs.Order.{order_of}
 use Rattle.treatment.specs.Compiled.{Compiled, Treats}
-use Rattle.port_plan.proofs.CompiledTables.{AreFirstTreats, all_to_end, all_to_none, none_asks, order_within, treats_all, treats_more}
+use Rattle.port_plan.proofs.CompiledTables.{AreFirstTreats, all_to_end, all_to_none, none_asks, order_few, order_within, treats_all, treats_more}
 use Rattle.port_plan.proofs.MovedTreats.{inserted-last, none-asks-inserted, some-asks-inserted}
 use Rattle.port_plan.proofs.treats.compile_treats.Goals as goal
 
@@ -14,7 +15,7 @@ returns-in_default-clause-treats c =
     let n = c.loop-number.number in
     let kept = c.loop-number.invariant in
     let none = c.in_default.ensures ∙ ap (λ (l : List (List ℕ)). slice_get (order_of l) n) c.requires.index in
-    treats_all c.args.settings.now entries c.loop-number.treats.items n kept.count (omega arith) (omega arith) (all_to_none entries n none) kept.treats
+    treats_all c.args.settings.now entries c.loop-number.treats.items n kept.count kept.within (omega (arith, order_few entries)) (all_to_none entries n none) kept.treats
 
 pub returns-in_default-rule-clause-treats : goal.returns-in_default-rule-clause-treats
 returns-in_default-rule-clause-treats c =
@@ -39,6 +40,7 @@ loop-number-preserved c =
     record {
       treats = subst (λ (l : List (Option Compiled)). AreFirstTreats settings entries l (n + 1)) (sym is)
           (treats_more settings entries old n c.in-Some.place rule treat kept.count here c.in-Some-rule.ensures.1 right kept.treats);
+      within = omega (arith, slice_get_within (order_of entries) n c.in-Some.place (sym here));
       count = omega (arith, ap (λ (l : List (Option Compiled)). length l) is, length-append old (treat ∷ []));
       len = omega (arith, c.push_reserved.ensures.len);
       room = c.push_reserved.ensures.capacity ∙ kept.room;
@@ -51,7 +53,7 @@ returns-clause-treats c =
     let entries = c.args.rules.now in
     let n = c.loop-number.number in
     let kept = c.loop-number.invariant in
-    treats_all c.args.settings.now entries c.loop-number.treats.items n kept.count (omega arith) (omega arith) (all_to_end entries n (omega arith)) kept.treats
+    treats_all c.args.settings.now entries c.loop-number.treats.items n kept.count kept.within (omega (arith, order_few entries)) (all_to_end entries n (omega arith)) kept.treats
 
 -- bounded, so that a wrong body is refused at once
 pub loop-number-init : goal.loop-number-init

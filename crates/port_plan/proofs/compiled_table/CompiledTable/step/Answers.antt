@@ -1,8 +1,13 @@
 use Rattle.std.proofs.Common.{arith}
+use Rattle.port_plan.proofs.CompiledTables.{order_few}
 use Rattle.port_plan.proofs.compiled_table.CompiledTable.step.Goals as goal
 
-pub invariant_of-self-in-Deleted-1 : goal.invariant_of-self-in-Deleted-1
-invariant_of-self-in-Deleted-1 c =
+pub insert_treat-self-inside-requires-clause-space : goal.insert_treat-self-inside-requires-clause-space
+insert_treat-self-inside-requires-clause-space c =
+    omega (arith, c.self.invariant.1.no_more, order_few c.self.inside.index, c.in-Added.ensures.step.1)
+
+pub invariant_of-self-in-Deleted : goal.invariant_of-self-in-Deleted
+invariant_of-self-in-Deleted c =
     let before = c.self.invariant in
     let kept = c.remove_treat-self-inside.ensures in
     let less = c.in-Deleted.ensures.followed in (

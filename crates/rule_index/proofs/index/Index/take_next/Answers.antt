@@ -79,6 +79,7 @@ returns c =
     let V : List (List ℕ) → Type 0 = λ es. IsOneMore c.args.self.now es (length c.args.self.now) n in
     let same : length c.args.self.now ≡ c.len-place.result = ap (λ (es : List (List ℕ)). length es) (sym c.self.view_is) ∙ long in (
       omega (arith, same, c.if-len-place.false, c.len.ensures.value),
+      omega (arith, same, c.if-len-place.false, c.len.ensures.value, c.len.ensures.limit),
       grown ∙ sym is.whole ∙ ap (λ (n : ℕ). take (n + 1) table) (sym same),
       subst V (sym grown) (subst S c.self.view_is more),
     )
