@@ -27,7 +27,6 @@ impl<'a> Model for CaptureFrames<'a> {
 }
 
 impl<'a> CaptureFrames<'a> {
-    ghost use Rattle.std.specs.Prelude.{◌≡◌};
     ghost use Rattle.bench_capture.specs.Calls.{IsNext, IsOpened};
     ghost use Rattle.bench_capture.specs.File.{reading_of};
 

@@ -1,12 +1,12 @@
 -- A block without the bytes that are let go of it does what it does with them.
 use Rattle.std.proofs.Common.{◌≡◌, ◌≤◌, ℕ, ◌+◌, ◌-◌, ◌==◌, Bool, true, false, List, ◌++◌, length, take, drop, Option, Some, None, arith, refl, sym, ap, ◌∙◌, append_assoc, eqb-true, length-append, length-drop, length-take, zero-add}
-use Rattle.std.specs.Prelude.{if◌then◌else◌, min, Ok, nat_lt}
+use Rattle.std.specs.Prelude.{IfSome, if◌then◌else◌, min, Ok, nat_lt}
 use Rattle.std.proofs.lemmas.Bool.{le-ltb, ltb-false, eqb-false}
 use Rattle.std.proofs.lemmas.List.{drop-append-le, drop-drop, drop-take, drop_at, length-take-le, take-append-drop, take-append-le, take-take, take_all, take_at}
 use Rattle.bench_pcapng.specs.Effects.{describes}
 use Rattle.bench_pcapng.specs.Interfaces.{behind_option, first_option, option_length, options_of, padded}
 use Rattle.bench_pcapng.specs.Numbers.{number_in}
-use Rattle.bench_pcapng.specs.Passing.{inside_of, kept_of, letting, letting_all, letting_by, letting_of, letting_option, option_outcome, outcome_in, step_within, without}
+use Rattle.bench_pcapng.specs.Passing.{RestDoesAsHeld, inside_of, kept_of, letting, letting_all, letting_by, letting_of, letting_option, option_outcome, outcome_in, step_within, without}
 use Rattle.bench_pcapng.specs.Reading.{Progress}
 use Rattle.bench_pcapng.specs.declared.effect.Effect.TheVariants.{Gives}
 use Rattle.bench_pcapng.specs.declared.fault.BlockFault.TheVariants.{Torn}
@@ -270,3 +270,17 @@ let_within passing bytes past is = by_outcome passing.outcome is
     by_outcome (Keeps packet) same = all_within same
     by_outcome Passes same = all_within same
     by_outcome (Refuses fault) same = all_within same
+
+pub rest_does_as_held : (passing : Passing) (bytes : List ℕ) (found : Option Past) → found ≡ letting_of passing bytes → IfSome found (λ past. RestDoesAsHeld passing bytes past)
+rest_does_as_held passing bytes None is = tt
+rest_does_as_held passing bytes (Some past) is = λ known more. let_go known passing bytes more past (sym is)
+
+-- what is no description of an interface is let go at once
+pub letting_other : (passing : Passing) (outcome : Outcome) (bytes : List ℕ) → ((plain : Interface) → outcome ≡ Describing plain → ⊥)
+    → letting_by passing outcome bytes ≡ letting_all passing bytes
+letting_other passing (Begins own) bytes other = refl
+letting_other passing (Describing plain) bytes other = absurd (other plain refl)
+letting_other passing (Described interface) bytes other = refl
+letting_other passing (Keeps packet) bytes other = refl
+letting_other passing Passes bytes other = refl
+letting_other passing (Refuses fault) bytes other = refl

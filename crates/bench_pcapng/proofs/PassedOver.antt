@@ -1,6 +1,6 @@
 -- A block that is passed over from its front on does what it does where it is held.
 use Rattle.std.proofs.Common.{◌≡◌, ◌≤◌, ◌<◌, ℕ, ◌+◌, ◌-◌, ◌%◌, ◌==◌, Bool, true, false, List, ◌++◌, length, take, drop, Option, Some, None, arith, refl, sym, ap, ◌∙◌, length-append, length-drop, eqb-true, zero-add}
-use Rattle.std.specs.Prelude.{if◌then◌else◌, ◌||◌, not, Result, Ok, Err, nat_lt}
+use Rattle.std.specs.Prelude.{IfSome, if◌then◌else◌, ◌||◌, not, Result, Ok, Err, nat_lt}
 use Rattle.std.proofs.lemmas.Bool.{le-ltb, ltb-false, ltb-true}
 use Rattle.std.proofs.lemmas.List.{drop-append-le, drop-drop, drop-take, length-take-le, take-append-drop, take-append-le, take-take}
 use Rattle.bench_pcapng.specs.Blocks.{body_of, kind_of, length_in, order_of_block, whole_length}
@@ -9,7 +9,7 @@ use Rattle.bench_pcapng.specs.Effects.{describes, effect_of}
 use Rattle.bench_pcapng.specs.Interfaces.{interface_of, options_of, plain_of}
 use Rattle.bench_pcapng.specs.Numbers.{number_in}
 use Rattle.bench_pcapng.specs.Packets.{data_start}
-use Rattle.bench_pcapng.specs.Passing.{begun, body_shown, described_by, ends_with, inside_of, is_shown, kept_of, letting, outcome_in, passed_by, passing_at, passing_in, passing_of, shown_length, step_within, without}
+use Rattle.bench_pcapng.specs.Passing.{DoesAsHeld, begun, body_shown, described_by, ends_with, inside_of, is_shown, kept_of, letting, outcome_in, passed_by, passing_at, passing_in, passing_of, shown_length, step_within, without}
 use Rattle.bench_pcapng.specs.Reading.{Place, Progress, after_step, place_at, reading_at, step_by, step_of, with_effect_or_fault}
 use Rattle.bench_pcapng.specs.declared.effect.Effect.{Effect}
 use Rattle.bench_pcapng.specs.declared.effect.Effect.TheVariants.{Section, Describes, Gives, Nothing}
@@ -258,6 +258,10 @@ passed_over known bytes more past is =
     by_order (Some own) ordered same =
         let tested = if_some (is_shown bytes (number_in 4 own (drop 4 bytes))) _ past same in
         by_kind own (kind_of known.order bytes == 1) ordered (shown_is bytes (number_in 4 own (drop 4 bytes)) tested.0) refl tested.1
+
+pub does_as_held : (known : Progress) (bytes : List ℕ) (found : Option Past) → found ≡ passing_of known bytes → IfSome found (λ past. DoesAsHeld known bytes past)
+does_as_held known bytes None is = tt
+does_as_held known bytes (Some past) is = λ more. passed_over known bytes more past (sym is)
 
 -- so is all that there is to be read, and what is let go is a part of what is held
 pub passed_long : (known : Progress) (bytes : List ℕ) (past : Past) → passing_of known bytes ≡ Some past → shown_length ≤ length bytes

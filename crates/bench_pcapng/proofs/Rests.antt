@@ -226,3 +226,6 @@ first_passed file more past is = by_told (is_pcapng file) refl is
         → reading_of (file ++ more) ≡ passing_at at_first past.left (without past file ++ more)
     by_told false told same = absurd (cc)
     by_told true told same = by_past (passing_of at_first file) told refl same
+
+pub first_passing : (file : List ℕ) (past : Past) → is_pcapng file ≡ true → passing_of at_first file ≡ Some past → first_passing_of file ≡ Some (as_first past)
+first_passing file past told found = rw (told, found) refl

@@ -1,13 +1,13 @@
 -- A block that is passed over: its bytes are let go as they come, but for those of its packet. What it does is known from its front, and
 -- is done once its end was seen.
-use Rattle.std.specs.Prelude.{ℕ, ◌≤◌, ◌<◌, ◌⊎◌, ◌+◌, ◌-◌, ◌%◌, ◌||◌, Bool, true, false, not, List, [], ◌++◌, Option, Some, None, Result, Ok, Err, if◌then◌else◌, ◌==◌, min, nat_lt, length, take, drop, option_map}
+use Rattle.std.specs.Prelude.{ℕ, ◌≡◌, ◌≤◌, ◌<◌, ◌⊎◌, ◌+◌, ◌-◌, ◌%◌, ◌||◌, Bool, true, false, not, List, [], ◌++◌, Option, Some, None, Result, Ok, Err, if◌then◌else◌, ◌==◌, min, nat_lt, length, take, drop, option_map}
 use Rattle.bench_pcapng.specs.Blocks.{kind_of, order_of_block}
 use Rattle.bench_pcapng.specs.Effects.{describes, effect_of}
 use Rattle.bench_pcapng.specs.Fault.{at_block}
 use Rattle.bench_pcapng.specs.Interfaces.{first_option, option_length, options_of, padded, plain_of}
 use Rattle.bench_pcapng.specs.Numbers.{number_in}
 use Rattle.bench_pcapng.specs.Packets.{data_start}
-use Rattle.bench_pcapng.specs.Reading.{Progress, Reading, Step, Fails, after_step, is_pcapng, place_at, reading_at, with_effect}
+use Rattle.bench_pcapng.specs.Reading.{Progress, Reading, Step, Fails, after_step, is_pcapng, place_at, reading_at, reading_of, step_of, with_effect}
 use Rattle.bench_pcapng.specs.declared.effect.Effect.{Effect}
 use Rattle.bench_pcapng.specs.declared.effect.Effect.TheVariants as effects
 use Rattle.bench_pcapng.specs.declared.fault.BlockFault.{BlockFault}
@@ -188,3 +188,19 @@ as_first past = record past { left = record past.left { first = true } }
 -- how the first block is passed over, if it tells the format
 abbrev pub first_passing_of : List ℕ → Option Past
 first_passing_of file = if is_pcapng file then option_map as_first (passing_of at_first file) else None
+
+-- ---- what is passed over does what it does where it is held
+
+-- whatever follows these bytes, the block at their front does what the rest of it does without the bytes that are let go
+abbrev pub DoesAsHeld : Progress → List ℕ → Past → Type 0
+DoesAsHeld known bytes past =
+    (more : List ℕ) → step_of (place_at known (bytes ++ more)) ≡ step_within known past.left (without past bytes ++ more)
+
+-- so does a block within which these bytes stand
+abbrev pub RestDoesAsHeld : Passing → List ℕ → Past → Type 0
+RestDoesAsHeld passing bytes past =
+    (known : Progress) (more : List ℕ) → step_within known passing (bytes ++ more) ≡ step_within known past.left (without past bytes ++ more)
+
+-- and as much is read of a file whose first block it is
+abbrev pub FileReadsAsHeld : List ℕ → Past → Type 0
+FileReadsAsHeld file past = (more : List ℕ) → reading_of (file ++ more) ≡ passing_at at_first past.left (without past file ++ more)

@@ -118,8 +118,8 @@ fn described_by(order: Order, total: u32, body: &[u8]) -> Past
 }
 
 impl Passing {
-    ghost use Rattle.std.specs.Prelude.{◌≡◌, ◌≤◌, ◌<◌, ◌+◌, ◌↔◌, IsTrue, Some, None, if◌then◌else◌, nat_lt, length};
-    ghost use Rattle.bench_pcapng.specs.Passing.{IsHeldOf, fault_in, inside_of, kept_of, letting_all, letting_of, letting_option};
+    ghost use Rattle.std.specs.Prelude.{◌≡◌, ◌≤◌, ◌<◌, ◌+◌, ◌↔◌, IfSome, IsTrue, Some, None, if◌then◌else◌, nat_lt, length};
+    ghost use Rattle.bench_pcapng.specs.Passing.{IsHeldOf, RestDoesAsHeld, fault_in, inside_of, kept_of, letting_all, letting_of, letting_option};
 
     /// How many bytes stand in front of the block's second length, if that is among so many.
     fn end_within(self, len: usize) -> Option<usize>
@@ -190,6 +190,7 @@ impl Passing {
     #[tactic(auto, unfolding(crate::specs::Passing::letting_of))]
     pub fn let_go(self, bytes: &[u8]) -> Option<Past>
         ensures value { result ≡ letting_of self bytes.now }
+        ensures same { IfSome result (λ past. RestDoesAsHeld self bytes.now past) }
         ensures held { kept_of self.outcome ≤ 262164 → result ≡ None → IsHeldOf self bytes.now }
     {
         match self.outcome {
@@ -204,7 +205,7 @@ impl Passing {
 
 impl Blocks {
     ghost use Rattle.std.specs.Prelude.{◌≡◌, ◌<◌, ◌-◌, ◌^◌, IfSome, option_map};
-    ghost use Rattle.bench_pcapng.specs.Passing.{at_first, fault_in, first_passing_of, passing_of, step_within};
+    ghost use Rattle.bench_pcapng.specs.Passing.{at_first, fault_in, first_passing_of, passing_of, step_within, DoesAsHeld, FileReadsAsHeld};
     ghost use Rattle.bench_pcapng.specs.Read.{Reads};
     ghost use Rattle.bench_pcapng.specs.declared.fault.BlockFault.TheVariants.{Torn};
 
@@ -212,7 +213,8 @@ impl Blocks {
     /// of them, or they show whether the block is whole.
     #[tactic(auto, unfolding(crate::specs::Passing::passing_of))]
     pub fn pass_over(&self, bytes: &[u8]) -> Option<Past>
-        ensures { result ≡ passing_of self.now bytes.now }
+        ensures value { result ≡ passing_of self.now bytes.now }
+        ensures same { IfSome result (λ past. DoesAsHeld self.now bytes.now past) }
     {
         if bytes.len() < SHOWN_LEN {
             return None;
@@ -278,6 +280,7 @@ impl Blocks {
     pub fn pass_over_first(alloc: Global, file: &[u8]) -> Option<(Blocks, Past)>
         ensures past { option_map (λ parts. parts.1) result ≡ first_passing_of file.now }
         ensures known { IfSome result (λ parts. parts.0 ≡ at_first) }
+        ensures same { IfSome result (λ parts. FileReadsAsHeld file.now parts.1) }
     {
         if !is_pcapng(file) {
             return None;

@@ -13,6 +13,7 @@ use Rattle.bench_pcapng.specs.declared.fault.BlockFault.{BlockFault}
 use Rattle.bench_pcapng.specs.declared.interface.Interface.{Interface}
 use Rattle.bench_pcapng.specs.declared.order.Order.{Order}
 use Rattle.bench_pcapng.specs.declared.passing.Past.{Past}
+use Rattle.bench_pcapng.proofs.PassedOver.{does_as_held}
 use Rattle.bench_pcapng.proofs.blocks.Blocks.pass_over.Goals as goal
 
 shown_test : (bytes : List ℕ) (total : ℕ) → shown_length ≤ length bytes → total % 4 ≡ 0 → length bytes < total → is_shown bytes total ≡ true
@@ -60,8 +61,8 @@ shown_other known bytes own kind total is other =
     ∙ ap (λ (interface : Bool). if interface then Some (described_by own total (body_shown bytes))
     else passed_by own total kind (effect_of known.order known.interfaces known.time kind (body_shown bytes))) (ne_eqb kind 1 other)
 
-pub returns-then-kind-eq-INTERFACE : goal.returns-then-kind-eq-INTERFACE
-returns-then-kind-eq-INTERFACE c =
+pub returns-then-kind-eq-INTERFACE-clause-value : goal.returns-then-kind-eq-INTERFACE-clause-value
+returns-then-kind-eq-INTERFACE-clause-value c =
     let known = c.args.self.now in
     let bytes = c.args.bytes.now in
     let own = c.in_ok-own.own in
@@ -78,8 +79,8 @@ returns-then-kind-eq-INTERFACE c =
     ap (λ (past : Past). Some past) (c.described_by.ensures ∙ ap (λ (held : List ℕ). described_by own total held) body)
     ∙ sym (shown_interface known bytes own c.read_u32-kind.result total front c.if-kind-eq-INTERFACE.true)
 
-pub returns : goal.returns
-returns c =
+pub returns-clause-value : goal.returns-clause-value
+returns-clause-value c =
     let known = c.args.self.now in
     let bytes = c.args.bytes.now in
     let own = c.in_ok-own.own in
@@ -101,3 +102,9 @@ returns c =
     ∙ ap (λ (p : Progress). effect_of p.order p.interfaces p.time kind (body_shown bytes)) c.self.view_is in
     c.passed_by.ensures ∙ ap (λ (effect : Result Effect BlockFault). passed_by own total kind effect) does
     ∙ sym (shown_other known bytes own kind total front c.if-kind-eq-INTERFACE.false)
+
+pub returns-then-kind-eq-INTERFACE-clause-same : goal.returns-then-kind-eq-INTERFACE-clause-same
+returns-then-kind-eq-INTERFACE-clause-same c = does_as_held c.args.self.now c.args.bytes.now _ (returns-then-kind-eq-INTERFACE-clause-value c)
+
+pub returns-clause-same : goal.returns-clause-same
+returns-clause-same c = does_as_held c.args.self.now c.args.bytes.now _ (returns-clause-value c)
