@@ -1,5 +1,5 @@
 -- What a lane knows.
-use Rattle.std.specs.Prelude.{◌≡◌, ℕ, List, [], ◌∷◌, Option, Some, option_map}
+use Rattle.std.specs.Prelude.{◌≡◌, ◌≢◌, ℕ, List, [], ◌∷◌, Option, Some, option_map}
 use Rattle.left_right.specs.Sides.{view}
 use Rattle.omci_msg.specs.declared.Request.{Request}
 use Rattle.plan_publish.specs.declared.rule.View.{View}
@@ -43,6 +43,11 @@ pub record HasEntered (before after : Lane) : Type 0 where
 pub record HasHeld (before after : Lane) (version : ℕ) : Type 0 where
   pub entered : HasEntered before after
   pub version_is : version ≡ version_of entered.now
+
+-- it has held one list more, of another number than that of these requests
+pub record HasEnteredOther (requests : List Request) (before after : Lane) : Type 0 where
+  pub entered : HasEntered before after
+  pub other : version_of entered.now ≢ version_of requests
 
 -- which history it is of
 abbrev pub home_of : Lane → Home

@@ -30,7 +30,7 @@ impl Lane {
     ghost use Rattle.std.specs.Borrow.{sem, RestsIfNone};
     ghost use Rattle.plan_publish.specs.Requests.{StartsWith};
     ghost use Rattle.plan_publish.specs.Told.{told_home, told_list};
-    ghost use Rattle.plan_publish.specs.Lane.{number_of, known_by, held_by, learnt_by, home_of, HasEntered, HasHeld, HeldPrefixes, IsSameLane, IsUnchanged};
+    ghost use Rattle.plan_publish.specs.Lane.{number_of, known_by, held_by, learnt_by, home_of, HasEntered, HasEnteredOther, HasHeld, HeldPrefixes, IsSameLane, IsUnchanged};
     ghost use Rattle.plan_publish.specs.Holding.{Holds};
     ghost use Rattle.plan_publish.specs.Held.{held_entities, held_lane, held_lists, held_version};
     ghost use Rattle.plan_publish.specs.contracts.lane.Lane.{the_row};
@@ -104,6 +104,8 @@ impl Lane {
         requires { told_home told.now ≡ home_of self.old }
         ensures held { OnTrue result (HeldPrefixes (told_list told.now) self.old) }
         ensures lists { (held_by self.new ≡ held_by self.old) ⊎ HasEntered self.old self.new }
+        ensures otherwise { result ≡ false → (held_by self.new ≡ held_by self.old)
+            ⊎ HasEnteredOther (told_list told.now) self.old self.new }
         ensures told { StartsWith (learnt_by self.new) (told_list told.now) }
         ensures before { StartsWith (learnt_by self.new) (learnt_by self.old) }
         ensures either { (learnt_by self.new ≡ told_list told.now)

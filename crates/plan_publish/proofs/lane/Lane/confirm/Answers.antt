@@ -1,5 +1,5 @@
 use Rattle.std.proofs.Common.{◌≡◌, ◌∙◌, sym, subst, nat_eq, inl, inr}
-use Rattle.std.proofs.lemmas.Bool.{OnTrue_from, eqb-true}
+use Rattle.std.proofs.lemmas.Bool.{OnTrue_from, eqb-false, eqb-true}
 use Rattle.plan_publish.specs.Requests.{StartsWith, StartsWithEach}
 use Rattle.plan_publish.specs.Lane.{HeldPrefixes, learnt_by}
 use Rattle.plan_publish.specs.Told.{told_list}
@@ -34,3 +34,22 @@ returns-in-Some-clause-lists c =
 
 pub returns-in-None-clause-lists : goal.returns-in-None-clause-lists
 returns-in-None-clause-lists c = inl (c.pass.ensures.none c.in-None.is ∙ c.learn.ensures.held)
+
+pub returns-in-Some-clause-otherwise : goal.returns-in-Some-clause-otherwise
+returns-in-Some-clause-otherwise c = λ isnt.
+    let held = c.in-Some.ensures.held in
+    let one = held.entered in
+    inr (record {
+      entered = record {
+        now = one.now;
+        lists = one.lists;
+        held_before = sym c.learn.ensures.held ∙ one.held_before;
+        held_after = one.held_after;
+        begins_held = one.begins_held;
+        begins_learnt = one.begins_learnt;
+      };
+      other = λ same. eqb-false c.in-Some.version c.version.result isnt (held.version_is ∙ same ∙ sym c.version.ensures.version);
+    })
+
+pub returns-in-None-clause-otherwise : goal.returns-in-None-clause-otherwise
+returns-in-None-clause-otherwise c = λ isnt. inl (c.pass.ensures.none c.in-None.is ∙ c.learn.ensures.held)

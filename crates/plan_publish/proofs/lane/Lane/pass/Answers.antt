@@ -1,5 +1,4 @@
-use Rattle.std.proofs.Common.{◌≡◌, ◌∙◌, rules}
-use Rattle.plan_publish.specs.Lane.{HasHeld}
+use Rattle.std.proofs.Common.{◌∙◌, rules}
 use Rattle.plan_publish.proofs.lane.Lane.pass.Goals as goal
 
 pub returns-clause-held : goal.returns-clause-held
