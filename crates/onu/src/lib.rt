@@ -4,15 +4,13 @@
 //! call does.
 #![tactic(auto)]
 
-ghost use Rattle.std.specs.Prelude.{◌≡◌, None, Err, pos};
-ghost use Rattle.bench_history.specs.History.{history_of};
+ghost use Rattle.std.specs.Prelude.{◌≡◌, None};
 ghost use Rattle.onu_calls.specs.Forwarding.{StandsIn, verdict_in, verdict_number, verdict_room};
 ghost use Rattle.onu_calls.specs.Messaging.{answer_in, answer_number, answer_room, left_in};
-ghost use Rattle.onu_cell.specs.Numbers.{bad_flags, bad_line, closed};
 ghost use Rattle.onu_cell.specs.Opening.{Opens, closing_number};
-ghost use Rattle.onu_texts.specs.Judging.{DeviatesAt, IsExplainedBy, IsJudgeNumber, NamesLine, SaysJudged, settings_in};
+ghost use Rattle.onu_texts.specs.Judging.{JudgesInto};
 ghost use Rattle.onu_texts.specs.Replaying.{ReplaysInto};
-ghost use Rattle.onu_texts.specs.Room.{IsExplainNumber, IsWrittenUpTo, Refuses, SaysExplained};
+ghost use Rattle.onu_texts.specs.Room.{ExplainsInto};
 
 use onu_calls::CVerdict;
 use onu_cell::Cell;
@@ -80,11 +78,8 @@ pub extern "C" fn onu_proved_explain(
     written: &mut usize,
 ) -> i32
     ensures same { cell.new.handle.held ≡ cell.old.handle.held }
-    ensures closed { cell.old.handle.held ≡ None → result ≡ closed }
-    ensures ok { result ≡ pos 0 → IsWrittenUpTo written.new room.old room.new }
-    ensures number { IsExplainNumber result }
-    ensures written { SaysExplained result room.old written.old written.new }
-    ensures kept { Refuses result → room.new ≡ room.old }
+    ensures put { ExplainsInto cell.old.handle.held room.old room.new result written.old
+        written.new }
 {
     onu_texts::explain_into(cell, alloc, port, frame, room, written)
 }
@@ -113,16 +108,8 @@ pub extern "C" fn onu_proved_judge(
     written: &mut usize,
     line: &mut u64,
 ) -> i32
-    ensures explained { result ≡ pos 1 → IsExplainedBy (settings_in flags) history.now }
-    ensures deviates { result ≡ pos 0 → DeviatesAt (settings_in flags) history.now line.new }
-    ensures bad { result ≡ bad_line → history_of history.now ≡ Err line.new }
-    ensures flags { settings_in flags ≡ None → result ≡ bad_flags }
-    ensures yes { result ≡ pos 1 → IsWrittenUpTo written.new room.old room.new }
-    ensures no { result ≡ pos 0 → IsWrittenUpTo written.new room.old room.new }
-    ensures number { IsJudgeNumber result }
-    ensures line { NamesLine (settings_in flags) history.now result line.old line.new }
-    ensures written { SaysJudged result room.old written.old written.new }
-    ensures kept { Refuses result → room.new ≡ room.old }
+    ensures { JudgesInto flags history.now room.old room.new result written.old written.new line.old
+        line.new }
 {
     onu_texts::judge_into(alloc, history, flags, room, written, line)
 }

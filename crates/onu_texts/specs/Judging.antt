@@ -1,5 +1,5 @@
 -- What the judgement of a history says by its number and its line.
-use Rattle.std.specs.Prelude.{◌≡◌, ◌<◌, ◌⊎◌, ℕ, ◌+◌, ℤ, pos, Bool, true, false, ◌==◌, if◌then◌else◌, List, Option, Some, None, Ok, length}
+use Rattle.std.specs.Prelude.{◌≡◌, ◌<◌, ◌⊎◌, ℕ, ◌+◌, ℤ, pos, Bool, true, false, ◌==◌, if◌then◌else◌, List, Option, Some, None, Ok, Err, length}
 use Rattle.bench_history.specs.History.{history_of}
 use Rattle.bench_history.specs.declared.event.Event.{Event}
 use Rattle.onu_cell.specs.Numbers.{bad_flags, bad_line, no_memory, small}
@@ -8,6 +8,7 @@ use Rattle.bench_judge.specs.Judged.{IsFirstUnexplained}
 use Rattle.bench_judge.specs.declared.judgement.Judgement.{Judgement}
 use Rattle.bench_judge.specs.declared.judgement.Judgement.TheVariants.{Explained, Deviates}
 use Rattle.bench_judge.specs.declared.settings.JudgeSettings.{JudgeSettings}
+use Rattle.onu_texts.specs.Room.{IsWrittenUpTo, Refuses}
 
 -- flags: 1, modelled classes only; 2, each frame by itself; the rest have no meaning
 abbrev pub flagged : Bool → Bool → JudgeSettings
@@ -66,3 +67,16 @@ pub record NamesLine (settings : Option JudgeSettings) (history : List ℕ) (num
 abbrev pub SaysJudged : ℤ → List ℕ → ℕ → ℕ → Type 0
 SaysJudged number room before written =
     (number ≡ bad_flags → written ≡ before) × (number ≡ no_memory → written ≡ 0) × (number ≡ bad_line → written ≡ 0) × (number ≡ small → length room < written)
+
+-- the judgement of a history in a room: its number, how many bytes it is said to have, and the line that it names
+pub record JudgesInto (flags : ℕ) (history room after : List ℕ) (result : ℤ) (written_before written line_before line : ℕ) : Type 0 where
+  pub explained : result ≡ pos 1 → IsExplainedBy (settings_in flags) history
+  pub deviates : result ≡ pos 0 → DeviatesAt (settings_in flags) history line
+  pub bad : result ≡ bad_line → history_of history ≡ Err line
+  pub no_settings : settings_in flags ≡ None → result ≡ bad_flags
+  pub yes : result ≡ pos 1 → IsWrittenUpTo written room after
+  pub no : result ≡ pos 0 → IsWrittenUpTo written room after
+  pub number : IsJudgeNumber result
+  pub names : NamesLine (settings_in flags) history result line_before line
+  pub says : SaysJudged result room written_before written
+  pub kept : Refuses result → after ≡ room

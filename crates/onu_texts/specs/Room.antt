@@ -1,5 +1,5 @@
 -- A text in a room for it.
-use Rattle.std.specs.Prelude.{◌≡◌, ◌≤◌, ◌<◌, ◌⊎◌, ℕ, ℤ, pos, negsuc, Bool, if◌then◌else◌, nat_le, List, ◌++◌, length, drop}
+use Rattle.std.specs.Prelude.{◌≡◌, ◌≤◌, ◌<◌, ◌⊎◌, ℕ, ℤ, pos, negsuc, Bool, if◌then◌else◌, nat_le, List, ◌++◌, Option, None, length, drop}
 use Rattle.onu_cell.specs.Numbers.{closed, no_memory, small}
 
 abbrev pub fits : List ℕ → List ℕ → Bool
@@ -30,3 +30,11 @@ SaysExplained number room before written =
 -- the numbers of calls that leave the room as it was: the negative ones
 abbrev pub Refuses : ℤ → Type 0
 Refuses number = (n : ℕ) × (number ≡ negsuc n)
+
+-- an explanation, for what a cell holds, in a room: its number and how many bytes it is said to have
+pub record ExplainsInto {H : Type 0} (held : Option H) (room after : List ℕ) (result : ℤ) (before written : ℕ) : Type 0 where
+  pub no_unit : held ≡ None → result ≡ closed
+  pub ok : result ≡ pos 0 → IsWrittenUpTo written room after
+  pub number : IsExplainNumber result
+  pub says : SaysExplained result room before written
+  pub kept : Refuses result → after ≡ room

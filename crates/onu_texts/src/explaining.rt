@@ -1,7 +1,6 @@
 //! Why a frame goes where it goes.
-ghost use Rattle.std.specs.Prelude.{◌≡◌, None, pos};
-ghost use Rattle.onu_cell.specs.Numbers.{closed};
-ghost use Rattle.onu_texts.specs.Room.{IsExplainNumber, IsWrittenUpTo, Refuses, SaysExplained};
+ghost use Rattle.std.specs.Prelude.{◌≡◌};
+ghost use Rattle.onu_texts.specs.Room.{ExplainsInto};
 
 use crate::room::put;
 use onu_cell::{CLOSED, Cell, NO_MEMORY, SMALL};
@@ -19,11 +18,8 @@ pub fn explain_into(
     written: &mut usize,
 ) -> i32
     ensures same { cell.new.handle.held ≡ cell.old.handle.held }
-    ensures closed { cell.old.handle.held ≡ None → result ≡ closed }
-    ensures ok { result ≡ pos 0 → IsWrittenUpTo written.new room.old room.new }
-    ensures number { IsExplainNumber result }
-    ensures written { SaysExplained result room.old written.old written.new }
-    ensures kept { Refuses result → room.new ≡ room.old }
+    ensures put { ExplainsInto cell.old.handle.held room.old room.new result written.old
+        written.new }
 {
     let Some(unit) = cell.take(alloc) else {
         return CLOSED;

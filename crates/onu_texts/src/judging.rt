@@ -1,9 +1,6 @@
 //! The judgement of a history.
-ghost use Rattle.std.specs.Prelude.{◌≡◌, None, Err, pos};
-ghost use Rattle.bench_history.specs.History.{history_of};
-ghost use Rattle.onu_cell.specs.Numbers.{bad_flags, bad_line};
-ghost use Rattle.onu_texts.specs.Judging.{DeviatesAt, IsExplainedBy, IsJudgeNumber, NamesLine, SaysJudged, said_of, settings_in};
-ghost use Rattle.onu_texts.specs.Room.{IsWrittenUpTo, Refuses};
+ghost use Rattle.std.specs.Prelude.{◌≡◌};
+ghost use Rattle.onu_texts.specs.Judging.{JudgesInto, said_of, settings_in};
 
 use crate::room::put;
 use bench_judge::{JudgeFault, JudgeSettings, Judgement, judge};
@@ -51,16 +48,8 @@ pub fn judge_into(
     written: &mut usize,
     line: &mut u64,
 ) -> i32
-    ensures explained { result ≡ pos 1 → IsExplainedBy (settings_in flags) history.now }
-    ensures deviates { result ≡ pos 0 → DeviatesAt (settings_in flags) history.now line.new }
-    ensures bad { result ≡ bad_line → history_of history.now ≡ Err line.new }
-    ensures flags { settings_in flags ≡ None → result ≡ bad_flags }
-    ensures yes { result ≡ pos 1 → IsWrittenUpTo written.new room.old room.new }
-    ensures no { result ≡ pos 0 → IsWrittenUpTo written.new room.old room.new }
-    ensures number { IsJudgeNumber result }
-    ensures line { NamesLine (settings_in flags) history.now result line.old line.new }
-    ensures written { SaysJudged result room.old written.old written.new }
-    ensures kept { Refuses result → room.new ≡ room.old }
+    ensures { JudgesInto flags history.now room.old room.new result written.old written.new line.old
+        line.new }
 {
     let Some(settings) = settings_in(flags) else {
         return FLAGS;
