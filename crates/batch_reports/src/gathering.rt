@@ -1,5 +1,5 @@
 //! Reports gathered, or their tallies, with the totals of all.
-ghost use Rattle.std.specs.Prelude.{◌≡◌, ◌≤◌, ◌^◌, ℕ, None, IfOk, IfErr, IsErrOf};
+ghost use Rattle.std.specs.Prelude.{◌≡◌, None, IfOk, IfErr, IsErrOf};
 ghost use Rattle.std.specs.List.{sum_by};
 ghost use Rattle.frame_stats.specs.Figures.{Figure, counted, AreCountsOf};
 ghost use Rattle.batch_reports.specs.declared.batch.Tally.{Tally};

@@ -74,7 +74,7 @@ fn settle(
     true
 }
 
-/// Tries a version at each queue. Whether each frame that is at the head of one then may have a greater version by its window.
+/// Tries a version at each queue. False if some head can't take a later version.
 fn settle_all(
     live: &Live,
     events: &[Event<'_>],

@@ -50,11 +50,10 @@ impl Live {
         })
     }
 
-    /// Carries a request out, as a step of the entities does. Compiled again is only what read the instance that changed: its
-    /// table, or the routes that lead by it. What is attached is looked up again for those ports alone that a table or a mapper
-    /// is attached to that was set and points elsewhere, or was before; and where one came or went, so that others take other
-    /// places, for each port that a table or a mapper points to or pointed to. A request that isn't accepted changes no entity.
-    /// It takes no memory.
+    /// Carries a request out, as a step of the entities does. It compiles again only what read the instance that changed: its
+    /// table, or the routes that lead by it. After a Set it looks up only the ports that the changed instance points to, or
+    /// pointed to. Where a table or a mapper came or went, others take other places, so it looks up each port that any of them
+    /// points to, or pointed to. A request that isn't accepted changes no entity. It takes no memory.
     pub fn apply(&mut self, request: &Request)
         ensures { self.new ≡ left request.now.action self.old request.now }
     {
