@@ -1,6 +1,7 @@
 //! A file in pieces.
 
 use crate::batches::Batches;
+use crate::cutting::count_cut;
 use crate::header::read_order;
 use crate::joining::joined;
 use crate::piece::Piece;
@@ -55,6 +56,16 @@ impl Pieces {
         };
         let records = Records::from_place(&self.pieces, HEADER_LEN);
         Batches::cut(alloc, order, records, size)
+    }
+
+    /// How many frames of the capture file were cut when they were taken, up to its first fault. No contract speaks of it: it tells a
+    /// user what a snap length left out.
+    pub fn cut_frames(&self) -> u64 {
+        let Ok(order) = read_order(&self.pieces) else {
+            return 0;
+        };
+        let records = Records::from_place(&self.pieces, HEADER_LEN);
+        count_cut(order, records)
     }
 
     /// The frames of the capture file, in its order, each as a slice of a piece. A fault of the file is told before want of memory.

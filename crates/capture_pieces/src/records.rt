@@ -64,6 +64,14 @@ impl<'a> Records<'a> {
         self.pieces.is_empty()
     }
 
+    /// Whether the next record stores fewer bytes than its frame had.
+    pub(crate) fn is_cut(&self, order: Order) -> bool {
+        match self.rest.get(8..16) {
+            Some(lengths) => order.read_u32(lengths) < order.read_u32(&lengths[4..]),
+            None => false,
+        }
+    }
+
     /// Passes the next record, and gives its frame. Where nothing is left, a record is torn.
     #[inline]
     pub(crate) fn pass(&mut self, order: Order) -> Result<&'a [u8], RecordFault>

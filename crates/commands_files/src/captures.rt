@@ -1,10 +1,8 @@
 //! Captures as the program names them: what is said of a fault of one, and how many of its frames were cut.
 use crate::files::report_file;
-use bench_capture::{CaptureFileFault, CaptureFrames, FrameReader, NextFrameFault, RecordedFrame};
+use bench_capture::{CaptureFileFault, CaptureFrames, NextFrameFault, RecordedFrame};
 use std::alloc::Global;
-use std::fs::File;
 use std::io::{ErrorKind, Write};
-use std::rt::Files;
 use text_writing::Status;
 
 /// Where the name of a file stands in what is said of a fault.
@@ -114,26 +112,6 @@ pub fn cut_frames(alloc: Global, file: &[u8]) -> u64 {
             break;
         };
         if frame.is_cut() {
-            cut = cut.saturating_add(1);
-        }
-    }
-    cut
-}
-
-/// The same of a capture that is read again, in pieces. What can't be read isn't counted.
-pub fn cut_in_file<R: Files + Alloc<A = Global>>(rt: &R, path: &str) -> u64 {
-    let Ok(file) = File::open(rt, path) else {
-        return 0;
-    };
-    let Ok(mut frames) = FrameReader::open(rt.alloc(), file) else {
-        return 0;
-    };
-    let mut cut = 0u64;
-    for _ in 0..u64::MAX {
-        let Ok(true) = frames.advance() else {
-            break;
-        };
-        if frames.frame().is_some_and(|frame| frame.is_cut()) {
             cut = cut.saturating_add(1);
         }
     }

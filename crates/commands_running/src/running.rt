@@ -3,7 +3,7 @@ use bench_capture::{CaptureFileFault, NextFrameFault};
 use bench_pcapng::is_pcapng;
 use command_words::RunWords;
 use commands_files::{
-    Capture, Naming, cut_frames, cut_in_file, explain_fault, packets_of, read_capture, read_whole,
+    Capture, Naming, cut_frames, explain_fault, packets_of, read_capture, read_whole,
     refuse_twice, report_capture, report_cut, report_text, report_unread,
 };
 use omci_msg::Request;
@@ -100,11 +100,11 @@ fn run_over_capture<
     }
 }
 
-/// How many frames of a capture were cut. One that is held in pieces is read again, in order.
-fn count_cut<R: Files + Alloc<A = Global>>(rt: &R, words: &RunWords, capture: &Capture) -> u64 {
+/// How many frames of a capture were cut.
+fn count_cut(alloc: Global, capture: &Capture) -> u64 {
     match capture {
-        Capture::InPieces(_) => cut_in_file(rt, words.frames),
-        Capture::Whole(file) => cut_frames(rt.alloc(), file),
+        Capture::InPieces(pieces) => pieces.cut_frames(),
+        Capture::Whole(file) => cut_frames(alloc, file),
     }
 }
 
@@ -132,7 +132,7 @@ fn run_lines<
     };
     let status = run_over_capture(rt, words, &requests, &capture, out, err);
     if status == Status::Done && err.is_terminal() {
-        report_cut(count_cut(rt, words, &capture), err);
+        report_cut(count_cut(rt.alloc(), &capture), err);
     }
     status
 }
