@@ -25,7 +25,7 @@ pub struct Lane {
 }
 
 impl Lane {
-    ghost use Rattle.std.specs.Prelude.{◌⊎◌, None, IfSome};
+    ghost use Rattle.std.specs.Prelude.{◌⊎◌, None, IfSome, false};
     ghost use Rattle.std.specs.Bool.{OnTrue};
     ghost use Rattle.std.specs.Borrow.{sem, RestsIfNone};
     ghost use Rattle.plan_publish.specs.Requests.{StartsWith};
