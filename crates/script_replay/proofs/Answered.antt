@@ -1,5 +1,5 @@
 -- The line of a script's message is that of what the unit answers.
-use Rattle.std.proofs.Common.{◌≡◌, ◌≤◌, ℕ, List, Option, Some, None, Result, Ok, Err, length, refl}
+use Rattle.std.proofs.Common.{◌≡◌, ◌≤◌, ℕ, List, Option, Result, Ok, Err, length, refl}
 use Rattle.omci_msg.specs.Message.{request_of}
 use Rattle.omci_msg.specs.declared.fault.MsgFault.{MsgFault}
 use Rattle.omci_msg.specs.declared.request.Request.{Request}

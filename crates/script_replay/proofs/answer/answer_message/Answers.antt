@@ -1,4 +1,4 @@
-use Rattle.std.proofs.Common.{◌≡◌, sym, ◌∙◌, arith}
+use Rattle.std.proofs.Common.{sym, ◌∙◌, arith}
 use Rattle.omci_msg.specs.Message.{request_of}
 use Rattle.script_replay.proofs.Answered.{answered_long, left_same}
 use Rattle.script_replay.proofs.answer.answer_message.Goals as goal
