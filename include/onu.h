@@ -1,20 +1,21 @@
 /**
  * @file onu.h
  * @brief An optical network unit (ONU) in your process: it answers OMCI messages and forwards Ethernet frames upstream as ITU-T G.988
- *        says, and judges what another unit was seen to do.
+ *        says, and judges what another unit was seen to do. Scripts are answered, made of words, decoded and looked into.
  *
  * Link `libonu.a` or `libonu.so`, which `./build-library` makes. The calls keep nothing but what stands in an ::onu, call no function of
  * yours, open no file, start no thread and write to no stream. They take memory by `malloc` and `realloc` and give it back by `free`.
  *
  * @par Answers
  * Every call but onu_version() answers by a number: 0 or more where it did what was asked, and less where it didn't. -1 to -4 are the
- * faults of a message; the others are named here. A call that answers one of these leaves the unit as it was.
+ * faults of a message; the others are named here. A call that answers one of these leaves the unit as it was. onu_judge(), onu_encode()
+ * and onu_decode() tell a bad input by 0 or 1, with words on it in the room.
  *
  * @par What is proved
  * What each call leaves in a cell; the replies of onu_message() and the verdicts of onu_forward(); the answers of onu_replay(), with
- * its number, size and line; the number of onu_judge() and the line that it names; and that no byte behind a text changes. Tested only
- * are what the texts of onu_explain() and onu_judge() say, the answers to null pointers, and onu_version(). docs/PROOFS.md has the
- * whole.
+ * its number, size and line; the number of onu_judge() and the line that it names; the bad line that onu_mib(), onu_lint() and
+ * onu_rules() name; and that no byte behind a text changes. Tested only are what the texts of the other calls say, whether onu_encode()
+ * and onu_decode() answer 0 or 1, the answers to null pointers, and onu_version(). docs/PROOFS.md has the whole.
  *
  * @par Threads
  * A cell is used by one thread at a time: two calls with one cell must not run at once, and what orders them must be a lock, a join or the
@@ -177,6 +178,65 @@ int32_t onu_replay(const uint8_t *script, size_t n, uint8_t *room, size_t size, 
  *         `*line` is written.
  */
 int32_t onu_judge(const uint8_t *history, size_t n, uint32_t flags, uint8_t *room, size_t size, size_t *written, uint64_t *line);
+
+/**
+ * @brief Makes a script of a text in words, as `onuctl encode` does (docs/FORMATS.md). Each line of the text is one of the script. The texts
+ *        and whether 0 or 1 is returned are tested, not proved.
+ *
+ * @param[in]  words       the text. It may be null where `n` is 0.
+ * @param[in]  n           how many bytes it has.
+ * @param[in]  identifier  the transaction correlation identifier of the first message; `onuctl encode` takes 1.
+ * @param[out] room        room for the script or the mistakes, with no zero byte at their end. It may be null where `size` is 0.
+ * @param[in]  size        how many bytes the room has.
+ * @param[out] written     how many bytes the script or the mistakes have, also with #ONU_SMALL.
+ * @return 0, and the script is in the room; 1, the text has mistakes, and these are in the room, each a line `line N, column N: WORDS`;
+ *         #ONU_SMALL, #ONU_NO_MEMORY (`*written` is 0) or #ONU_NULL.
+ */
+int32_t onu_encode(const uint8_t *words, size_t n, uint16_t identifier, uint8_t *room, size_t size, size_t *written);
+
+/**
+ * @brief Says what each line of a script or of its answers means, as `onuctl decode --json` does (docs/FORMATS.md). The texts and
+ *        whether 0 or 1 is returned are tested, not proved.
+ *
+ * @param[in]  script   the script. It may be null where `n` is 0.
+ * @param[in]  n        how many bytes it has.
+ * @param[out] room     room for the text: an object of JSON a line, in UTF-8, no zero byte at its end. It may be null where `size` is 0.
+ * @param[in]  size     how many bytes the room has.
+ * @param[out] written  how many bytes the text has, also with #ONU_SMALL.
+ * @return 0, and the text is in the room; 1, a line is bad, and the room has what is wrong in the first such line, as
+ *         `line N, column N: WORDS` on a line; #ONU_SMALL, #ONU_NO_MEMORY (`*written` is 0) or #ONU_NULL.
+ */
+int32_t onu_decode(const uint8_t *script, size_t n, uint8_t *room, size_t size, size_t *written);
+
+/**
+ * @brief Shows the managed entities after a trace, as `onuctl mib --json` does (docs/FORMATS.md). The number and the line are proved; the
+ *        text is tested.
+ *
+ * A trace is a script. Its messages are carried out by a unit of its own. Those that have a fault or are refused change nothing, and
+ * frames are passed over: onu_lint() says which messages these are.
+ *
+ * @param[in]  trace    the trace. It may be null where `n` is 0.
+ * @param[in]  n        how many bytes it has.
+ * @param[out] room     room for the text: JSON in UTF-8, no zero byte at its end. It may be null where `size` is 0.
+ * @param[in]  size     how many bytes the room has.
+ * @param[out] written  how many bytes the text has, also with #ONU_SMALL; 0 where there is none.
+ * @param[out] line     the number, from 1, of the first bad line; 0 where no line is bad.
+ * @return 0, and the text is in the room; #ONU_BAD_LINE, #ONU_SMALL, #ONU_NO_MEMORY (`*line` is 0) or #ONU_NULL.
+ */
+int32_t onu_mib(const uint8_t *trace, size_t n, uint8_t *room, size_t size, size_t *written, uint64_t *line);
+
+/**
+ * @brief Finds what is wrong with the managed entities after a trace, and which of its messages have a fault or are refused, as
+ *        `onuctl lint --json` does. All else is as of onu_mib().
+ */
+int32_t onu_lint(const uint8_t *trace, size_t n, uint8_t *room, size_t size, size_t *written, uint64_t *line);
+
+/**
+ * @brief Shows the VLAN tagging table that is in force at a port after a trace, as `onuctl rules --json` does. All else is as of onu_mib().
+ *
+ * @param[in] port  the port.
+ */
+int32_t onu_rules(const uint8_t *trace, size_t n, uint16_t port, uint8_t *room, size_t size, size_t *written, uint64_t *line);
 
 /**
  * @brief The program's version, and what it was proved with.

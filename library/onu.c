@@ -18,6 +18,11 @@ int32_t onu_proved_forward(onu *cell, uint16_t port, const uint8_t *frame, size_
 int32_t onu_proved_explain(onu *cell, uint16_t port, const uint8_t *frame, size_t n, uint8_t *room, size_t size, size_t *written);
 int32_t onu_proved_replay(const uint8_t *script, size_t n, uint8_t *room, size_t size, size_t *written, uint64_t *line);
 int32_t onu_proved_judge(const uint8_t *history, size_t n, uint32_t flags, uint8_t *room, size_t size, size_t *written, uint64_t *line);
+int32_t onu_proved_encode(const uint8_t *words, size_t n, uint16_t identifier, uint8_t *room, size_t size, size_t *written);
+int32_t onu_proved_decode(const uint8_t *script, size_t n, uint8_t *room, size_t size, size_t *written);
+int32_t onu_proved_mib(const uint8_t *trace, size_t n, uint8_t *room, size_t size, size_t *written, uint64_t *line);
+int32_t onu_proved_lint(const uint8_t *trace, size_t n, uint8_t *room, size_t size, size_t *written, uint64_t *line);
+int32_t onu_proved_rules(const uint8_t *trace, size_t n, uint16_t port, uint8_t *room, size_t size, size_t *written, uint64_t *line);
 
 /* The first address of no bytes, where the caller has none. No byte of it is read or written. */
 static uint8_t no_bytes;
@@ -63,6 +68,36 @@ PUBLIC int32_t onu_judge(const uint8_t *history, size_t n, uint32_t flags, uint8
     if (is_missing(history, n) || is_missing(room, size) || written == NULL || line == NULL)
         return ONU_NULL;
     return onu_proved_judge(n == 0 ? &no_bytes : history, n, flags, size == 0 ? &no_bytes : room, size, written, line);
+}
+
+PUBLIC int32_t onu_encode(const uint8_t *words, size_t n, uint16_t identifier, uint8_t *room, size_t size, size_t *written) {
+    if (is_missing(words, n) || is_missing(room, size) || written == NULL)
+        return ONU_NULL;
+    return onu_proved_encode(n == 0 ? &no_bytes : words, n, identifier, size == 0 ? &no_bytes : room, size, written);
+}
+
+PUBLIC int32_t onu_decode(const uint8_t *script, size_t n, uint8_t *room, size_t size, size_t *written) {
+    if (is_missing(script, n) || is_missing(room, size) || written == NULL)
+        return ONU_NULL;
+    return onu_proved_decode(n == 0 ? &no_bytes : script, n, size == 0 ? &no_bytes : room, size, written);
+}
+
+PUBLIC int32_t onu_mib(const uint8_t *trace, size_t n, uint8_t *room, size_t size, size_t *written, uint64_t *line) {
+    if (is_missing(trace, n) || is_missing(room, size) || written == NULL || line == NULL)
+        return ONU_NULL;
+    return onu_proved_mib(n == 0 ? &no_bytes : trace, n, size == 0 ? &no_bytes : room, size, written, line);
+}
+
+PUBLIC int32_t onu_lint(const uint8_t *trace, size_t n, uint8_t *room, size_t size, size_t *written, uint64_t *line) {
+    if (is_missing(trace, n) || is_missing(room, size) || written == NULL || line == NULL)
+        return ONU_NULL;
+    return onu_proved_lint(n == 0 ? &no_bytes : trace, n, size == 0 ? &no_bytes : room, size, written, line);
+}
+
+PUBLIC int32_t onu_rules(const uint8_t *trace, size_t n, uint16_t port, uint8_t *room, size_t size, size_t *written, uint64_t *line) {
+    if (is_missing(trace, n) || is_missing(room, size) || written == NULL || line == NULL)
+        return ONU_NULL;
+    return onu_proved_rules(n == 0 ? &no_bytes : trace, n, port, size == 0 ? &no_bytes : room, size, written, line);
 }
 
 PUBLIC const char *onu_version(void) {

@@ -4,19 +4,19 @@ from typing import Iterator, Union
 
 import pytest
 
-from onuctl import Dropped, Forwarded, Reason, Unit, steps
+from onuctl import Dropped, Forwarded, Reason, Unit, encode, lint, steps
 
 PORT = 257
 
-# Each is a message's front; zeros up to byte 40 and the trailer follow.
-PROVISIONING = {
-    "create GEM port 0x0401, port-ID 1024, both directions": "0001440a010c0401 0400 8001 03 00",
-    "create interworking point 0x0501 to it": "0002440a010a0501 0401 05 0601",
-    "create mapper 0x0601 of port 257, each priority to 0x0501": "0003440a00820601 0101 0501050105010501 0501050105010501 01 0001",
-    "create table 0x0701 of port 257": "0004440a00ab0701 02 0101",
-    "no tag: add VID 100": "0005480a00ab0701 0400 f8000000f8000000 000f000000000324",
-    "VID 100: becomes VID 200, with its priority": "0006480a00ab0701 0400 f800000080320000 400f000000080644",
-}
+# A GEM port, an interworking point to it, the mapper of the port, and a table: no tag gets VID 100, and VID 100 becomes VID 200.
+PROVISIONING = """\
+create gem-port 0x0401 port-id=1024 tcont=0x8001 direction=both
+create interwork 0x0501 gem-port=0x0401 option=mapper service-profile=0x0601
+create mapper 0x0601 tp=0x0101 tp-type=pptp p0-7=0x0501 unmarked=default
+create vlan 0x0701 association=pptp pointer=0x0101
+entry vlan 0x0701 tags=0 -> inner(pcp=0 vid=100 tpid=8100)
+entry vlan 0x0701 tags=1 vid=100 -> remove=1 inner(pcp=inner vid=200 tpid=8100)
+"""
 
 ADDRESSES = "020000000001 020000000002"
 
@@ -34,21 +34,24 @@ FRAMES = [
 ]
 
 
-def message(front: str) -> bytes:
-    return bytes.fromhex(front).ljust(40, b"\0") + bytes.fromhex("0000002800000000")
-
-
 def frame(behind: str) -> bytes:
     return bytes.fromhex(ADDRESSES + behind)
 
 
-@pytest.fixture
-def unit() -> Iterator[Unit]:
-    """A provisioned unit."""
+@pytest.fixture(scope="module")
+def provisioned() -> Iterator[Unit]:
+    """A provisioned unit, which no test changes."""
     with Unit() as unit:
-        for name, front in PROVISIONING.items():
-            reply = unit.message(message(front))
-            assert reply is not None and reply[8] == 0, "%s: result %d" % (name, reply[8] if reply else -1)
+        for words, line in zip(PROVISIONING.splitlines(), encode(PROVISIONING).splitlines()):
+            reply = unit.message(bytes.fromhex(line[len("o ") :]))
+            assert reply is not None and reply[8] == 0, "%s: result %d" % (words, reply[8] if reply else -1)
+        yield unit
+
+
+@pytest.fixture
+def unit(provisioned: Unit) -> Iterator[Unit]:
+    """A unit like the provisioned one, for one test."""
+    with provisioned.copy() as unit:
         yield unit
 
 
@@ -63,6 +66,10 @@ def explained(unit: Unit, sent: bytes) -> str:
         if isinstance(step, steps.Used):
             return "entry %d is used: %s -> %s" % (step.number, step.filter_words, step.treatment_words)
     return "no entry is used"
+
+
+def test_each_instance_is_reached() -> None:
+    assert "not-reached" not in [found["kind"] for found in lint(encode(PROVISIONING))]
 
 
 @pytest.mark.parametrize("name, sent, expected", FRAMES, ids=[name for name, _, _ in FRAMES])

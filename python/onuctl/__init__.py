@@ -1,11 +1,13 @@
 """An optical network unit in your process, and a judge of other units.
 
 A :class:`Unit` answers OMCI messages and forwards Ethernet frames upstream as ITU-T G.988 says. :func:`judge` says whether a right unit
-may have behaved as a history says.
+may have behaved as a history says. :func:`encode` makes a script of words, :func:`decode` says what one means, and :func:`mib`,
+:func:`lint` and :func:`rules` show what its messages leave.
 
-Proved are the library's replies, what becomes of a frame, the answers of :func:`replay`, and of a judgement whether it is explained and
-which line it names. Tested only are the texts of :meth:`Unit.explain` and of ``Finding.details``, and this package itself, which puts
-frames together and reads JSON. ``docs/PROOFS.md`` has the whole.
+Proved are the library's replies, what becomes of a frame, the answers of :func:`replay`, of a judgement whether it is explained and
+which line it names, and the bad line that :func:`mib`, :func:`lint` and :func:`rules` name. Tested only are the texts of
+:meth:`Unit.explain` and of ``Finding.details``, all else that :func:`encode`, :func:`decode`, :func:`mib`, :func:`lint` and :func:`rules`
+say, and this package itself, which puts frames together, reads JSON and copies units. ``docs/PROOFS.md`` has the whole.
 
     >>> from onuctl import Unit
     >>> with Unit() as unit:
@@ -18,6 +20,7 @@ The package needs nothing but Python 3.8 and the shared library, which ``./build
 
 from . import steps
 from ._library import version
+from ._scripts import Mistake, Mistakes, decode, encode, lint, mib, rules
 from ._texts import BadLine, Finding, judge, replay
 from ._unit import Dropped, Forwarded, MessageFault, Reason, Unit
 
@@ -28,10 +31,17 @@ __all__ = [
     "Finding",
     "Forwarded",
     "MessageFault",
+    "Mistake",
+    "Mistakes",
     "Reason",
     "Unit",
+    "decode",
+    "encode",
     "judge",
+    "lint",
+    "mib",
     "replay",
+    "rules",
     "steps",
     "version",
 ]

@@ -4,7 +4,7 @@ import ctypes
 import os
 import struct
 from pathlib import Path
-from typing import Any
+from typing import Any, Callable, Tuple
 
 CLOSED = -16
 SMALL = -19
@@ -17,6 +17,9 @@ class Cell(ctypes.Structure):
 
     _fields_ = [("full_", ctypes.c_bool), ("unit_", ctypes.c_void_p)]
 
+
+# The number of a line.
+Line = ctypes.c_uint64
 
 # What becomes of a frame, `onu_verdict`: GEM port, reason, how many tags, four tags, and where the rest begins.
 verdict = struct.Struct("@HBB4IN")
@@ -36,8 +39,8 @@ def _path() -> str:
 
 _found = _path()
 
-# A unit is used by one thread at a time, so its calls keep the interpreter's lock. A replay and a judgement may take long and use no
-# unit, so theirs let it go.
+# A unit is used by one thread at a time, so its calls keep the interpreter's lock. Calls over whole texts may take long and use no unit of
+# the caller's, so they let it go.
 _locked = ctypes.PyDLL(_found)
 _free = ctypes.CDLL(_found)
 
@@ -51,7 +54,7 @@ def _call(library: Any, name: str, *types: Any) -> Any:
 
 _cell = ctypes.POINTER(Cell)
 _size = ctypes.POINTER(ctypes.c_size_t)
-_line = ctypes.POINTER(ctypes.c_uint64)
+_line = ctypes.POINTER(Line)
 _bytes = (ctypes.c_char_p, ctypes.c_size_t)
 _room = (ctypes.c_void_p, ctypes.c_size_t)
 
@@ -62,6 +65,11 @@ forward = _call(_locked, "onu_forward", _cell, ctypes.c_uint16, *_bytes, ctypes.
 explain = _call(_locked, "onu_explain", _cell, ctypes.c_uint16, *_bytes, *_room, _size)
 replay = _call(_free, "onu_replay", *_bytes, *_room, _size, _line)
 judge = _call(_free, "onu_judge", *_bytes, ctypes.c_uint32, *_room, _size, _line)
+encode = _call(_free, "onu_encode", *_bytes, ctypes.c_uint16, *_room, _size)
+decode = _call(_free, "onu_decode", *_bytes, *_room, _size)
+mib = _call(_free, "onu_mib", *_bytes, *_room, _size, _line)
+lint = _call(_free, "onu_lint", *_bytes, *_room, _size, _line)
+rules = _call(_free, "onu_rules", *_bytes, ctypes.c_uint16, *_room, _size, _line)
 
 _free.onu_version.argtypes = ()
 _free.onu_version.restype = ctypes.c_char_p
@@ -73,12 +81,14 @@ def version() -> str:
     return said.decode()
 
 
-def in_room(call: Any, size: int) -> bytes:
-    """The text that ``call(room, size, written)`` puts into a room: it is tried with ``size`` bytes, and once more where the text is longer."""
+def in_room(call: Callable[[Any, int, Any], int], size: int) -> Tuple[int, bytes]:
+    """What ``call(room, size, written)`` answers, and the text that it puts into a room: it is tried with ``size`` bytes, and once more where
+    the text is longer."""
     written = ctypes.c_size_t()
     room = ctypes.create_string_buffer(size)
-    if call(room, size, written) == SMALL:
+    number = call(room, size, written)
+    if number == SMALL:
         size = written.value
         room = ctypes.create_string_buffer(size)
-        call(room, size, written)
-    return room.raw[: written.value]
+        number = call(room, size, written)
+    return number, room.raw[: written.value]

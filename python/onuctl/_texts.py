@@ -1,12 +1,11 @@
 """Whole texts: a script and its answers, a history and its judgement."""
 
-import ctypes
 import json
-from typing import Any, Dict, List, NamedTuple, Optional, Union
+from typing import Any, Dict, NamedTuple, Optional, Union
 
 from . import _library
 from ._given import Bytes, text_of
-from ._library import BAD_LINE, NO_MEMORY
+from ._library import BAD_LINE, NO_MEMORY, Line, in_room
 
 
 class BadLine(Exception):
@@ -38,17 +37,11 @@ class Finding(NamedTuple):
 def replay(script: Union[Bytes, str]) -> bytes:
     """The answers to a script, line by line, from a unit of its own, as ``onuctl replay`` gives them. Raises :class:`BadLine`."""
     text = text_of("script", script)
-    line = ctypes.c_uint64()
-    numbers: List[int] = []
-
-    def call(room: Any, size: int, written: ctypes.c_size_t) -> int:
-        numbers.append(_library.replay(text, len(text), room, size, written, line))
-        return numbers[-1]
-
-    answers = _library.in_room(call, 3 * len(text) + 1)
-    if numbers[-1] == NO_MEMORY:
+    line = Line()
+    number, answers = in_room(lambda *room: _library.replay(text, len(text), *room, line), 3 * len(text) + 1)
+    if number == NO_MEMORY:
         raise MemoryError("no memory for a replay")
-    if numbers[-1] == BAD_LINE:
+    if number == BAD_LINE:
         raise BadLine(line.value, answers)
     return answers
 
@@ -61,17 +54,11 @@ def judge(history: Union[Bytes, str], *, modelled: bool = False, unordered: bool
     """
     given = text_of("history", history)
     flags = (1 if modelled else 0) | (2 if unordered else 0)
-    line = ctypes.c_uint64()
-    numbers: List[int] = []
-
-    def call(room: Any, size: int, written: ctypes.c_size_t) -> int:
-        numbers.append(_library.judge(given, len(given), flags, room, size, written, line))
-        return numbers[-1]
-
-    text = _library.in_room(call, 4096)
-    if numbers[-1] == NO_MEMORY:
+    line = Line()
+    number, text = in_room(lambda *room: _library.judge(given, len(given), flags, *room, line), 4096)
+    if number == NO_MEMORY:
         raise MemoryError("no memory for a judgement")
-    if numbers[-1] == BAD_LINE:
+    if number == BAD_LINE:
         raise BadLine(line.value)
-    explained = numbers[-1] == 1
+    explained = number == 1
     return Finding(explained, None if explained else line.value, json.loads(text))

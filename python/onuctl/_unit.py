@@ -4,7 +4,8 @@ import ctypes
 import enum
 import json
 import struct
-from typing import Any, List, NamedTuple, NoReturn, Optional, Union
+import threading
+from typing import List, NamedTuple, NoReturn, Optional, Union
 
 from . import _library
 from ._given import Bytes, bytes_of, port_of
@@ -66,6 +67,9 @@ _Verdict = ctypes.c_char * _library.verdict.size
 _message = _library.message
 _forward = _library.forward
 _numbers = _library.verdict.unpack
+# The third bytes of the requests that may change a unit, whether they want an answer or not: Create, Delete, Set, Get (which latches a table), MIB
+# upload (which keeps its rows) and MIB reset (ITU-T G.988, 11.2). No other request does.
+_CHANGING = frozenset(answer | action for answer in (0, 0x40) for action in (4, 6, 8, 9, 13, 15))
 # The bytes of so many tags.
 _tags = [struct.Struct(">%dI" % count).pack for count in range(5)]
 
@@ -74,12 +78,15 @@ class Unit:
     """An optical network unit without any managed entity but ONU data, until messages create some.
 
     It holds memory until it is closed; ``with Unit() as unit`` closes it at the end. A closed unit raises :class:`ValueError`. Threads may
-    share one: a call holds the interpreter's lock. A unit can't be copied.
+    share one: a call holds the interpreter's lock. A unit keeps the requests that may have changed it, so that :meth:`copy` can carry them out
+    again.
     """
 
-    __slots__ = ("_at", "_cell")
+    __slots__ = ("_at", "_cell", "_changes", "_order")
 
     def __init__(self) -> None:
+        self._changes: List[bytes] = []
+        self._order = threading.Lock()
         self._cell = Cell()
         self._at = ctypes.byref(self._cell)
         if _library.open_cell(self._at) != 0:
@@ -91,7 +98,14 @@ class Unit:
         if type(message) is not bytes:
             message = bytes_of("message", message)
         reply = _Reply()
-        number = _message(self._at, message, len(message), reply)
+        if len(message) > 2 and message[2] in _CHANGING:
+            # Requests are kept in the order in which they are carried out.
+            with self._order:
+                number = _message(self._at, message, len(message), reply)
+                if number >= 0:
+                    self._changes.append(message)
+        else:
+            number = _message(self._at, message, len(message), reply)
         if number == 1:
             return reply.raw
         if number == 0:
@@ -122,22 +136,31 @@ class Unit:
         """Why a frame that is sent into a port goes where it goes: the ``steps`` that ``onuctl explain --json`` writes (docs/FORMATS.md), each of
         its class in :mod:`onuctl.steps`. The last step is the verdict. Nothing changes."""
         number, sent = port_of(port), bytes_of("frame", frame)
-        numbers: List[int] = []
-
-        def call(room: Any, size: int, written: ctypes.c_size_t) -> int:
-            numbers.append(_library.explain(self._at, number, sent, len(sent), room, size, written))
-            return numbers[-1]
-
-        text = _library.in_room(call, 16384)
-        if numbers[-1] == CLOSED:
+        answer, text = _library.in_room(lambda *room: _library.explain(self._at, number, sent, len(sent), *room), 16384)
+        if answer == CLOSED:
             self._refuse()
-        if numbers[-1] != 0:
+        if answer != 0:
             raise MemoryError("no memory for an explanation")
         return steps_of(json.loads(text)["steps"])
 
+    def copy(self) -> "Unit":
+        """Another unit in the same state: entities with the MIB data sync, the table that a Get latched, and the rows of the last MIB upload. From
+        then on each goes its own way. The requests that may have changed this unit are carried out again, so a copy takes as long as they did."""
+        with self._order:
+            changes = self._changes[:]
+            is_closed = _library.message(self._at, b"", 0, _Reply()) == CLOSED
+        if is_closed:
+            self._refuse()
+        other = Unit()
+        for request in changes:
+            other.message(request)
+        return other
+
     def close(self) -> None:
         """Gives the unit's memory back. A closed unit stays closed."""
-        _library.close_cell(self._at)
+        with self._order:
+            self._changes.clear()
+            _library.close_cell(self._at)
 
     def __enter__(self) -> "Unit":
         return self
@@ -150,7 +173,7 @@ class Unit:
             self.close()
 
     def __reduce__(self) -> NoReturn:
-        raise TypeError("a unit can't be copied")
+        raise TypeError("a unit can't be pickled, nor copied but by its copy()")
 
     @staticmethod
     def _refuse() -> NoReturn:

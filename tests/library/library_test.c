@@ -167,6 +167,22 @@ static int dropped(onu *cell, const char *digits) {
     return said.reason;
 }
 
+/* ---- calls over texts */
+
+typedef int32_t make_call(const uint8_t *text, size_t n, uint8_t *room, size_t size, size_t *written);
+typedef int32_t look_call(const uint8_t *text, size_t n, uint8_t *room, size_t size, size_t *written, uint64_t *line);
+
+static int32_t encode_from_1(const uint8_t *text, size_t n, uint8_t *room, size_t size, size_t *written) {
+    return onu_encode(text, n, 1, room, size, written);
+}
+
+static int32_t rules_at_257(const uint8_t *text, size_t n, uint8_t *room, size_t size, size_t *written, uint64_t *line) {
+    return onu_rules(text, n, 257, room, size, written, line);
+}
+
+static make_call *const makes[] = {encode_from_1, onu_decode};
+static look_call *const looks[] = {onu_mib, onu_lint, rules_at_257};
+
 /* ---- tests */
 
 static void null_pointers_are_answered(void) {
@@ -195,6 +211,17 @@ static void null_pointers_are_answered(void) {
     CHECK(onu_judge(room, 9, 0, NULL, 64, &written, &line) == ONU_NULL);
     CHECK(onu_judge(room, 9, 0, room + 20, 40, NULL, &line) == ONU_NULL);
     CHECK(onu_judge(room, 9, 0, room + 20, 40, &written, NULL) == ONU_NULL);
+    for (int i = 0; i < 2; i++) {
+        CHECK(makes[i](NULL, 9, room, 64, &written) == ONU_NULL);
+        CHECK(makes[i](room, 9, NULL, 64, &written) == ONU_NULL);
+        CHECK(makes[i](room, 9, room + 20, 40, NULL) == ONU_NULL);
+    }
+    for (int i = 0; i < 3; i++) {
+        CHECK(looks[i](NULL, 9, room, 64, &written, &line) == ONU_NULL);
+        CHECK(looks[i](room, 9, NULL, 64, &written, &line) == ONU_NULL);
+        CHECK(looks[i](room, 9, room + 20, 40, NULL, &line) == ONU_NULL);
+        CHECK(looks[i](room, 9, room + 20, 40, &written, NULL) == ONU_NULL);
+    }
     CHECK(written == 7 && line == 7);
     for (size_t i = 0; i < sizeof room; i++)
         CHECK(room[i] == 0);
@@ -214,6 +241,14 @@ static void no_bytes_may_be_null(void) {
     CHECK(onu_explain(&cell, 257, NULL, 0, NULL, 0, &written) == ONU_SMALL && written > 0);
     CHECK(onu_replay(NULL, 0, NULL, 0, &written, &line) == 0 && written == 0 && line == 0);
     CHECK(onu_judge(NULL, 0, 0, room, sizeof room, &written, &line) == 1 && line == 0);
+    for (int i = 0; i < 2; i++) {
+        written = 7;
+        CHECK(makes[i](NULL, 0, NULL, 0, &written) == 0 && written == 0);
+    }
+    for (int i = 0; i < 3; i++) {
+        written = line = 7;
+        CHECK(looks[i](NULL, 0, NULL, 0, &written, &line) == ONU_SMALL && written > 7 && line == 0);
+    }
     CHECK(onu_close(&cell) == 0);
 }
 
@@ -418,6 +453,100 @@ static void a_history_is_judged(void) {
     CHECK(onu_judge((uint8_t *)history, strlen(history), 0, room, sizeof room, &written, &line) == ONU_BAD_LINE && line == 2 && written == 0);
 }
 
+/* A text that a call makes: in a room of just its size, and in one that is a byte too small. */
+static void is_made(make_call *call, const char *text, int32_t number, const char *made) {
+    static uint8_t room[4096];
+    size_t n = strlen(made), written = 7;
+    memset(room, 0xee, sizeof room);
+    CHECK(call((const uint8_t *)text, strlen(text), room, n, &written) == number && written == n);
+    CHECK(memcmp(room, made, n) == 0 && room[n] == 0xee);
+    memset(room, 0xee, sizeof room);
+    CHECK(call((const uint8_t *)text, strlen(text), room, n - 1, &written) == ONU_SMALL && written == n);
+    for (size_t i = 0; i <= n; i++)
+        CHECK(room[i] == 0xee);
+}
+
+static void words_become_a_script(void) {
+    static char script[4096];
+    uint8_t room[200];
+    size_t written;
+    script[0] = 0;
+    for (int i = 0; i < 4; i++)
+        put_line(script, "o", set_up[i]);
+    strcat(script, "# a frame\nf 257 " U "\n");
+    is_made(encode_from_1,
+            "create gem-port 0x0401 port-id=1024 tcont=0x8001 direction=both\n"
+            "create interwork 0x0501 gem-port=0x0401 option=mapper service-profile=0x0601\n"
+            "create mapper 0x0601 tp=0x0101 p0-7=0x0501 unmarked=default tp-type=pptp\n"
+            "create vlan 0x0701 association=pptp pointer=0x0101\n"
+            "# a frame\nframe 257 type=ipv4 payload=4500\n",
+            0, script);
+    /* The identifiers of messages count from the one that is said. */
+    script[0] = 0;
+    put_line(script, "o", "01004f0a00020000");
+    CHECK(onu_encode((const uint8_t *)"reset", 5, 256, room, sizeof room, &written) == 0);
+    CHECK(written == strlen(script) && memcmp(room, script, written) == 0);
+    is_made(encode_from_1, "# remark\nget onu-data 0 vid\nf 257 0O\n", 1,
+            "line 2, column 16: onu-data has no attribute `vid`, expected sync\n"
+            "line 3, column 8: found `O`, expected a hexadecimal digit\n");
+}
+
+static void a_script_is_decoded(void) {
+    is_made(onu_decode, "# remark\nd 5\n-\n", 0,
+            "{\"format\":1,\"line\":1,\"kind\":\"remark\"}\n"
+            "{\"format\":1,\"line\":2,\"kind\":\"dropped\",\"reason\":5,\"words\":\"the port has no mapper\"}\n"
+            "{\"format\":1,\"line\":3,\"kind\":\"no_answer\"}\n");
+    is_made(onu_decode, "# remark\nf 257 0g\nx\n", 1, "line 2, column 8: found 'g', expected a hexadecimal digit\n");
+}
+
+/* What a call shows after a trace, but for white space: in a room of just its size, and in one that is a byte too small. */
+static void is_shown(look_call *call, const char *trace, const char *shown) {
+    static uint8_t room[8192], other[8192];
+    size_t written = 7, needed = 7;
+    uint64_t line = 7;
+    CHECK(call((const uint8_t *)trace, strlen(trace), room, sizeof room, &written, &line) == 0 && line == 0);
+    CHECK(says(room, written, shown));
+    memset(other, 0xee, sizeof other);
+    line = 7;
+    CHECK(call((const uint8_t *)trace, strlen(trace), other, written, &needed, &line) == 0 && needed == written && line == 0);
+    CHECK(memcmp(other, room, written) == 0 && other[written] == 0xee);
+    memset(other, 0xee, sizeof other);
+    line = 7;
+    CHECK(call((const uint8_t *)trace, strlen(trace), other, written - 1, &needed, &line) == ONU_SMALL && needed == written && line == 0);
+    for (size_t i = 0; i <= written; i++)
+        CHECK(other[i] == 0xee);
+}
+
+static void what_a_trace_leaves_is_shown(void) {
+    static char trace[4096];
+    is_shown(onu_mib, "f 257 00\n",
+             "{\"format\":1,\"mib_data_sync\":0,\"entities\":["
+             "{\"class\":2,\"class_name\":\"ONUdata\",\"instance\":0,\"attributes\":{\"MIBdatasync\":0}}]}");
+    is_shown(onu_lint, "", "{\"format\":1,\"findings\":[]}");
+    is_shown(rules_at_257, "", "{\"format\":1,\"port\":257,\"table\":{\"points_to\":\"none\"},\"entries\":[]}");
+    /* Each message counts: four are accepted, and one more is refused. */
+    trace[0] = 0;
+    for (int i = 0; i < 5; i++)
+        put_line(trace, "o", set_up[i % 4]);
+    uint8_t room[8192];
+    size_t written = 0;
+    uint64_t line = 7;
+    CHECK(onu_mib((uint8_t *)trace, strlen(trace), room, sizeof room - 1, &written, &line) == 0 && line == 0);
+    room[written] = 0;
+    CHECK(strstr((char *)room, "\"mib_data_sync\":4,") != NULL && strstr((char *)room, "\"Port-ID\":1024") != NULL);
+    CHECK(onu_lint((uint8_t *)trace, strlen(trace), room, sizeof room - 1, &written, &line) == 0 && line == 0);
+    room[written] = 0;
+    CHECK(strstr((char *)room, "\"line\":5,\"kind\":\"message-refused\"") != NULL);
+    CHECK(rules_at_257((uint8_t *)trace, strlen(trace), room, sizeof room - 1, &written, &line) == 0 && line == 0);
+    room[written] = 0;
+    CHECK(strstr((char *)room, "\"points_to\":\"port\",\"instance\":1793") != NULL);
+    for (int i = 0; i < 3; i++) {
+        memset(room, 0xee, sizeof room);
+        CHECK(looks[i]((const uint8_t *)"#\nx\ny\n", 6, room, sizeof room, &written, &line) == ONU_BAD_LINE && line == 2 && written == 0);
+        CHECK(room[0] == 0xee);
+    }
+}
+
 static void units_are_alone(void) {
     enum { UNITS = 1000 };
     static onu cells[UNITS];
@@ -511,6 +640,31 @@ static void memory_for_texts_is_refused(void) {
     }
 }
 
+static void memory_for_scripts_is_refused(void) {
+    static const char *const texts[] = {"get onu-data 0 sync\n", "get onu-data 0 vid\n", "d 5\n", "x\n"};
+    static char trace[4096];
+    static uint8_t room[8192];
+    trace[0] = 0;
+    for (int i = 0; i < 5; i++)
+        put_line(trace, "o", set_up[i % 4]);
+    for (int which = 0; which < 7; which++) {
+        unsigned long number = 0;
+        int32_t answer;
+        do {
+            size_t written = 7;
+            uint64_t line = 7;
+            memset(room, 0xee, sizeof room);
+            refuse(++number);
+            answer = which < 4 ? makes[which / 2]((const uint8_t *)texts[which], strlen(texts[which]), room, sizeof room, &written)
+                               : looks[which - 4]((uint8_t *)trace, strlen(trace), room, sizeof room, &written, &line);
+            refuse(0);
+            CHECK(answer == (which < 4 ? which % 2 : 0) || (answer == ONU_NO_MEMORY && written == 0 && room[0] == 0xee));
+            CHECK(line == (which < 4 ? 7 : 0) && blocks == 0);
+        } while (answer == ONU_NO_MEMORY);
+        CHECK(number > 3);
+    }
+}
+
 int main(void) {
     CHECK(strncmp(onu_version(), "onuctl ", 7) == 0 && strstr(onu_version(), ", proved with rattle-kit") != NULL);
     null_pointers_are_answered();
@@ -522,12 +676,16 @@ int main(void) {
     a_frame_is_explained();
     a_script_is_answered();
     a_history_is_judged();
+    words_become_a_script();
+    a_script_is_decoded();
+    what_a_trace_leaves_is_shown();
     units_are_alone();
     CHECK(blocks == 0);
     memory_for_a_unit_is_refused();
     messages_and_frames_take_no_memory();
     memory_for_an_explanation_is_refused();
     memory_for_texts_is_refused();
+    memory_for_scripts_is_refused();
     printf("%u checks, %u failed\n", checked, failed);
     return failed != 0;
 }

@@ -6,6 +6,7 @@ import doctest
 import json
 import multiprocessing
 import pickle
+import random
 import re
 import subprocess
 import sys
@@ -21,7 +22,24 @@ sys.path[:0] = [str(TOP / "python"), str(TOP / "tests/plainly")]
 
 import onuctl  # noqa: E402
 from dialogues import calls_of  # noqa: E402
-from onuctl import BadLine, Dropped, Forwarded, MessageFault, Reason, Unit, judge, replay, steps  # noqa: E402
+from onuctl import (  # noqa: E402
+    BadLine,
+    Dropped,
+    Forwarded,
+    MessageFault,
+    Mistake,
+    Mistakes,
+    Reason,
+    Unit,
+    decode,
+    encode,
+    judge,
+    lint,
+    mib,
+    replay,
+    rules,
+    steps,
+)
 
 TRAILER = "0000002800000000"
 ADDRESSES = "020000000001020000000002"
@@ -33,6 +51,13 @@ SET_UP = [
     "0004440a00ab0701 02 0101",
 ]
 REPLIES = ["0001240a010c0401", "0002240a010a0501", "0003240a00820601", "0004240a00ab0701"]
+# The same in words.
+SET_UP_WORDS = """\
+create gem-port 0x0401 port-id=1024 tcont=0x8001 direction=both
+create interwork 0x0501 gem-port=0x0401 option=mapper service-profile=0x0601
+create mapper 0x0601 tp=0x0101 p0-7=0x0501 unmarked=default tp-type=pptp
+create vlan 0x0701 association=pptp pointer=0x0101
+"""
 # Frames without a tag get one of VID 100; VID 100 becomes VID 200.
 TO_100 = "0005480a00ab0701 0400 f8000000f8000000 000f000000000324"
 TO_200 = "0006480a00ab0701 0400 f800000080320000 400f000000080644"
@@ -149,6 +174,8 @@ class UnitTest(unittest.TestCase):
                 self.unit.forward(port, b"")
             with self.assertRaises(ValueError):
                 self.unit.explain(port, b"")
+            with self.assertRaises(ValueError):
+                rules(b"", port)
 
     def test_a_frame_is_explained(self) -> None:
         self.set_up()
@@ -168,12 +195,18 @@ class UnitTest(unittest.TestCase):
         with Unit() as unit:
             unit.message(message(SET_UP[0]))
         unit.close()
-        calls: List[Callable[[], Any]] = [lambda: unit.message(message(SET_UP[0])), lambda: unit.forward(257, b""), lambda: unit.explain(257, b"")]
+        calls: List[Callable[[], Any]] = [
+            lambda: unit.message(message(SET_UP[0])),
+            lambda: unit.message(message("0009490a00020000 8000")),
+            lambda: unit.forward(257, b""),
+            lambda: unit.explain(257, b""),
+            unit.copy,
+        ]
         for call in calls:
             with self.assertRaisesRegex(ValueError, "closed"):
                 call()
 
-    def test_a_unit_is_not_copied(self) -> None:
+    def test_a_unit_is_copied_by_its_copy_alone(self) -> None:
         calls: List[Callable[[Any], Any]] = [copy.copy, copy.deepcopy, pickle.dumps]
         for call in calls:
             with self.assertRaises(TypeError):
@@ -197,6 +230,105 @@ class UnitTest(unittest.TestCase):
         for thread in threads:
             thread.join()
         self.assertEqual(wrong, [])
+
+
+class CopyTest(unittest.TestCase):
+    """A copy is in the state of its unit, and from then on each goes its own way."""
+
+    def unit(self, *requests: str) -> Unit:
+        unit = Unit()
+        self.addCleanup(unit.close)
+        for request in requests:
+            unit.message(message(request))
+        return unit
+
+    def copy_of(self, unit: Unit) -> Unit:
+        other = unit.copy()
+        self.addCleanup(other.close)
+        return other
+
+    def test_entities(self) -> None:
+        unit = self.unit(*SET_UP, TO_100.replace("48", "08", 1))
+        other = self.copy_of(unit)
+        for each in (unit, other, self.copy_of(other)):
+            # The sync counts the five that were accepted, with the one that wanted no answer.
+            self.assertEqual(each.message(message("0009490a00020000 8000")), message("0009290a00020000 00 8000 05"))
+            self.assertEqual(each.forward(257, frame("0800 4500")), Forwarded(1024, frame("81000064 0800 4500")))
+        other.message(message(TO_200))
+        self.assertEqual(other.forward(257, frame("81000064 0800")), Forwarded(1024, frame("810000c8 0800")))
+        self.assertEqual(unit.forward(257, frame("81000064 0800")), Forwarded(1024, frame("81000064 0800")))
+        unit.message(message("00094f0a00020000"))
+        self.assertEqual(unit.forward(257, frame("0800 4500")), Dropped(Reason.NO_MAPPER))
+        unit.close()
+        self.assertEqual(other.message(message("0009490a00020000 8000")), message("0009290a00020000 00 8000 06"))
+
+    def test_the_latched_table(self) -> None:
+        # A Get of attribute 6 latches the table, with an entry more than the three of a new one; then the table is made anew.
+        unit = self.unit(*SET_UP, TO_100, "0009490a00ab0701 0400", "0009460a00ab0701", SET_UP[3])
+        for each in (unit, self.copy_of(unit)):
+            parts = [each.message(message("00095a0a00ab0701 0400 %04x" % number)) for number in range(4)]
+            # Its 64 bytes come in parts of 29, and behind the last there is none: a parameter error.
+            self.assertEqual([part and part[8] for part in parts], [0, 0, 0, 3])
+            table = b"".join(part[11:40] for part in parts[:3] if part)
+            self.assertEqual(table[48:64], bytes.fromhex(TO_100[-34:].replace(" ", "")))
+
+    def test_the_rows_of_an_upload(self) -> None:
+        # Seven rows stand since the upload: of ONU data, two each of the mapper and of the table, of the interworking point and of the GEM port.
+        unit = self.unit(*SET_UP, "00094d0a00020000", "00094f0a00020000")
+        other = self.copy_of(unit)
+        for number in range(8):
+            asked = message("00094e0a00020000 %04x" % number)
+            row = unit.message(asked)
+            self.assertEqual(other.message(asked), row)
+            assert row is not None
+            self.assertEqual(row[8:40] != bytes(32), number < 7, number)
+
+    def test_what_was_drawn(self) -> None:
+        def drawn(draw: random.Random) -> bytes:
+            action = draw.choice((4, 6, 8, 9, 13, 14, 15, 26, 26, 8, 8, 9, 28)) | 0x40 * draw.randrange(2) | 0x20 * (draw.randrange(50) == 0)
+            if action & 31 == 15 and draw.randrange(20):
+                action ^= 15 ^ 8
+            class_, instance = draw.choice(((2, 0), (130, 1537), (171, 1793), (171, 1794), (266, 1281), (268, 1025), (268, 1026)))
+            any_bytes = bytes(draw.randrange(256) for _ in range(32))
+            contents = draw.choice((b"\x04\x00" + any_bytes[:16], b"\x04\x00\x00" + bytes([draw.randrange(4)]), any_bytes))
+            head = bytes([0, 1, action, 10]) + class_.to_bytes(2, "big") + instance.to_bytes(2, "big")
+            return head + contents.ljust(32, b"\0") + bytes.fromhex(TRAILER)[: draw.choice((4, 8, 8))]
+
+        def answer(unit: Unit, asked: bytes) -> Union[bytes, None, int]:
+            try:
+                return unit.message(asked)
+            except MessageFault as fault:
+                return fault.code
+
+        for seed in range(30):
+            draw = random.Random(seed)
+            unit = self.unit(*SET_UP)
+            for _ in range(100):
+                answer(unit, drawn(draw))
+            other = self.copy_of(unit)
+            probes = [message("00095a0a00ab0701 0400 %04x" % number) for number in range(6)]
+            probes += [message("00094e0a00020000 %04x" % number) for number in range(12)] + [drawn(draw) for _ in range(100)]
+            for asked in probes:
+                self.assertEqual(answer(other, asked), answer(unit, asked), (seed, asked.hex()))
+
+    def test_while_threads_send(self) -> None:
+        unit = self.unit(*SET_UP)
+        copies: List[Unit] = []
+
+        def send(value: int) -> None:
+            for _ in range(500):
+                # The tag protocol of the table's input, which the last one decides.
+                self.assertEqual(unit.message(message("0005480a00ab0701 2000 %04x" % value)), message("0005280a00ab0701"))
+            copies.append(self.copy_of(unit))
+
+        threads = [threading.Thread(target=send, args=(n,)) for n in range(8)]
+        for thread in threads:
+            thread.start()
+        for thread in threads:
+            thread.join()
+        asked = message("0009490a00ab0701 2000")
+        self.assertEqual(self.copy_of(unit).message(asked), unit.message(asked))
+        self.assertEqual(len(copies), 8)
 
 
 def explained() -> Iterator[Tuple[str, List[steps.Step]]]:
@@ -301,6 +433,11 @@ class GivenTest(unittest.TestCase):
             self.assertEqual(self.unit.explain(257, kind(sent))[-1]["line"], "g 1024 " + ADDRESSES + "8100006408004500")
             self.assertEqual(replay(kind(b"f 257 00\n")), b"d 1\n")
             self.assertTrue(judge(kind(b"# remark\n")).explained)
+            self.assertEqual(encode(kind(b"# remark\n")), "# remark\n")
+            self.assertEqual(decode(kind(b"# remark\n")), [{"format": 1, "line": 1, "kind": "remark"}])
+            self.assertEqual(mib(kind(b"# remark\n"))["mib_data_sync"], 0)
+            self.assertEqual(lint(kind(b"# remark\n")), [])
+            self.assertEqual(rules(kind(b"# remark\n"), 257)["entries"], [])
             self.unit.message(message("00094f0a00020000"))
 
     def test_what_is_refused_is_named(self) -> None:
@@ -309,7 +446,15 @@ class GivenTest(unittest.TestCase):
             ("frame", lambda given: self.unit.forward(257, given)),
             ("frame", lambda given: self.unit.explain(257, given)),
         ]
-        given_texts: List[Tuple[str, Callable[[Any], Any]]] = [("script", replay), ("history", judge)]
+        given_texts: List[Tuple[str, Callable[[Any], Any]]] = [
+            ("script", replay),
+            ("history", judge),
+            ("words", encode),
+            ("script", decode),
+            ("trace", mib),
+            ("trace", lint),
+            ("trace", lambda given: rules(given, 257)),
+        ]
         wrong: List[Any] = [None, 7, [1, 2], ("a",), object()]
         for kinds, calls, values in (
             ("bytes, bytearray or memoryview", given_bytes, [*wrong, "00"]),
@@ -322,7 +467,7 @@ class GivenTest(unittest.TestCase):
 
     def test_a_port_is_a_number(self) -> None:
         wrong: List[Any] = [None, "257", 257.0, b"1"]
-        calls: List[Callable[[Any, bytes], Any]] = [self.unit.forward, self.unit.explain]
+        calls: List[Callable[[Any, bytes], Any]] = [self.unit.forward, self.unit.explain, lambda port, trace: rules(trace, port)]
         for given in wrong:
             for call in calls:
                 with self.assertRaisesRegex(TypeError, "^port must be an int, not %s$" % type(given).__name__):
@@ -344,6 +489,7 @@ class FaultTest(unittest.TestCase):
             (BadLine(3, b"-\n"), "line 3 is bad"),
             (BadLine(1), "line 1 is bad"),
             (MessageFault(2), "message fault 2: the destination bit is 1, expected 0"),
+            (Mistakes([Mistake(2, 5, "one"), Mistake(3, 1, "two")]), "line 2, column 5: one\nline 3, column 1: two"),
         ):
             for protocol in range(pickle.HIGHEST_PROTOCOL + 1):
                 other = pickle.loads(pickle.dumps(fault, protocol))
@@ -355,8 +501,125 @@ class FaultTest(unittest.TestCase):
             with self.assertRaises(BadLine) as raised:
                 pool.submit(replay, "f 257 00\nx\n").result(60)
             self.assertEqual((raised.exception.line, raised.exception.answers), (2, b"d 1\n"))
+            with self.assertRaises(Mistakes) as mistaken:
+                pool.submit(encode, "\nget onu-data 0 vid\n").result(60)
+            self.assertEqual([(each.line, each.column) for each in mistaken.exception.mistakes], [(2, 16)])
             found = pool.submit(judge, "# remark\n").result(60)
             self.assertEqual(found, judge("# remark\n"))
+
+
+class ScriptTest(unittest.TestCase):
+    """Scripts in words, decoded, and what their messages leave; also as the stored outputs of the program say."""
+
+    def script(self, *more: str) -> str:
+        return "".join("o %s\n" % digits(request) for request in [*SET_UP, *more])
+
+    def test_words_become_a_script(self) -> None:
+        self.assertEqual(encode(SET_UP_WORDS), self.script())
+        self.assertEqual(encode("# remark\n\nframe 257 type=ipv4 payload=4500 # sent\n"), "# remark\n\nf 257 " + UNTAGGED + "\n")
+        self.assertEqual(encode(""), "")
+        # A remark has any bytes.
+        self.assertEqual(encode(b"# \xff\n"), "# \ufffd\n")
+        self.assertEqual(encode("# \u00e9\n"), "# \u00e9\n")
+
+    def test_identifiers_are_counted(self) -> None:
+        def resets(*identifiers: str) -> str:
+            return "".join("o %s\n" % digits(identifier + "4f0a00020000") for identifier in identifiers)
+
+        self.assertEqual(encode("reset\nreset\n"), resets("0001", "0002"))
+        self.assertEqual(encode("reset\nreset\n", identifier=100), resets("0064", "0065"))
+        self.assertEqual(encode("reset\nreset\n", identifier=65535), resets("ffff", "0001"))
+        for identifier in (-1, 65536):
+            with self.assertRaisesRegex(ValueError, "65535"):
+                encode("reset\n", identifier=identifier)
+        wrong: Any = "1"
+        with self.assertRaisesRegex(TypeError, "^identifier must be an int, not str$"):
+            encode("reset\n", identifier=wrong)
+
+    def test_mistakes_have_their_places(self) -> None:
+        with self.assertRaises(Mistakes) as raised:
+            encode("# remark\ncrate gem-port 1\nframe 70000 type=ipv4\n")
+        found = raised.exception
+        self.assertEqual([(each.line, each.column) for each in found.mistakes], [(2, 1), (3, 7)])
+        self.assertEqual((found.line, found.column, found.reason), found.mistakes[0])
+        self.assertRegex(found.reason, "found `crate`, expected create, .*; did you mean `create`[?]$")
+        self.assertIsInstance(found, BadLine)
+        folder = TOP / "examples/encode"
+        with self.assertRaises(Mistakes) as raised:
+            encode((folder / "mistakes.onu").read_bytes())
+        self.assertEqual(str(raised.exception) + "\n", (folder / "mistakes.said").read_text())
+
+    def test_a_script_is_decoded(self) -> None:
+        said = decode(self.script() + "f 257 " + UNTAGGED + "\nd 5\n-\n")
+        self.assertEqual([each["kind"] for each in said], ["message"] * 4 + ["frame", "dropped", "no_answer"])
+        self.assertEqual([each["line"] for each in said], list(range(1, 8)))
+        self.assertEqual((said[0]["action"], said[0]["class"], said[0]["instance"]), ("Create", 268, 1025))
+        self.assertEqual(said[0]["attributes"]["Port-ID"], 1024)
+        self.assertEqual((said[4]["port"], said[4]["ethertype"], said[4]["rest"]), (257, 0x0800, "08004500"))
+        self.assertEqual((said[5]["reason"], said[5]["words"]), (5, "the port has no mapper"))
+        self.assertEqual(decode(b""), [])
+        folder = TOP / "examples"
+        stored = [json.loads(line) for line in (folder / "looking/read_table.decoded.json").read_text().splitlines()]
+        self.assertEqual(decode((folder / "replay/read_table.script").read_bytes()), stored)
+
+    def test_a_bad_line_is_not_decoded(self) -> None:
+        with self.assertRaises(Mistakes) as raised:
+            decode("# remark\nf 257 0g\nx\n")
+        self.assertEqual(raised.exception.mistakes, [Mistake(2, 8, "found 'g', expected a hexadecimal digit")])
+
+    def test_entities_are_shown(self) -> None:
+        shown = mib(self.script(TO_100) + "f 257 " + UNTAGGED + "\n")
+        self.assertEqual(shown["mib_data_sync"], 5)
+        wanted = [(2, 0), (130, 0x0601), (171, 0x0701), (266, 0x0501), (268, 0x0401)]
+        self.assertEqual([(each["class"], each["instance"]) for each in shown["entities"]], wanted)
+        self.assertEqual(shown["entities"][-1]["attributes"]["Port-ID"], 1024)
+        self.assertEqual([each["class"] for each in mib("")["entities"]], [2])
+
+    def test_findings_are_listed(self) -> None:
+        self.assertEqual(lint(self.script()), [])
+        # The GEM port exists, result 7; and the destination bit of a message is 1.
+        found = lint(self.script(SET_UP[0], "0001c40a010c0401"))
+        self.assertEqual([(each["line"], each["kind"]) for each in found], [(5, "message-refused"), (6, "message-fault")])
+        self.assertEqual((found[0]["result"], found[1]["fault"]), (7, 2))
+        # No frame comes by a GEM port that nothing points to.
+        found = lint("o %s\n" % digits(SET_UP[0]))
+        self.assertEqual([(each["class"], each["instance"], each["kind"]) for each in found], [(268, 0x0401, "not-reached")])
+
+    def test_the_table_in_force_is_shown(self) -> None:
+        shown = rules(self.script(TO_100), 257)
+        self.assertEqual((shown["port"], shown["table"]["points_to"], shown["table"]["instance"]), (257, "port", 0x0701))
+        first = shown["entries"][0]
+        self.assertEqual((first["number"], first["line"], first["entry"]), (0, 5, TO_100[-34:].replace(" ", "")))
+        # Beside it stand the three of a new table.
+        self.assertEqual([each["line"] for each in shown["entries"][1:]], [4, 4, 4])
+        self.assertEqual(rules(self.script(TO_100), 258)["table"]["points_to"], "none")
+
+    def test_all_is_as_the_program_writes_it(self) -> None:
+        folder = TOP / "examples/looking"
+        trace = (folder / "inside.trace").read_text()
+        self.assertEqual(encode((folder / "inside.onu").read_bytes()), trace)
+        self.assertEqual(mib(trace), json.loads((folder / "inside.mib.json").read_text()))
+        self.assertEqual(lint(trace), json.loads((folder / "inside.lint.json").read_text())["findings"])
+        self.assertEqual(rules(trace, 257), json.loads((folder / "inside.rules.json").read_text()))
+
+    def test_a_bad_line_of_a_trace(self) -> None:
+        calls: List[Callable[[str], Any]] = [mib, lint, lambda trace: rules(trace, 257)]
+        for call in calls:
+            with self.assertRaises(BadLine) as raised:
+                call("# remark\nf 257 00\nx\ny\n")
+            self.assertEqual((raised.exception.line, type(raised.exception)), (3, BadLine))
+
+    def test_texts_of_any_length(self) -> None:
+        # A table of 100 entries, and what is said of it, are longer than the room that is tried first.
+        words = SET_UP_WORDS + "".join("entry vlan 0x0701 tags=1 vid=%d -> drop\n" % vid for vid in range(1, 101))
+        script = encode(words)
+        self.assertEqual(len(script.splitlines()), 104)
+        self.assertEqual(len(decode(script)), 104)
+        self.assertEqual(mib(script)["mib_data_sync"], 104)
+        self.assertEqual(len(rules(script, 257)["entries"]), 103)
+        with self.assertRaises(Mistakes) as raised:
+            encode("x\n" * 2000)
+        self.assertEqual([each.line for each in raised.exception.mistakes], list(range(1, 2001)))
 
 
 class TextTest(unittest.TestCase):

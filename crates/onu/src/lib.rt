@@ -8,6 +8,8 @@ ghost use Rattle.std.specs.Prelude.{◌≡◌, None};
 ghost use Rattle.onu_calls.specs.Forwarding.{StandsIn, verdict_in, verdict_number, verdict_room};
 ghost use Rattle.onu_calls.specs.Messaging.{answer_in, answer_number, answer_room, left_in};
 ghost use Rattle.onu_cell.specs.Opening.{Opens, closing_number};
+ghost use Rattle.onu_scripts.specs.Looking.{LooksInto};
+ghost use Rattle.onu_scripts.specs.Making.{MakesInto};
 ghost use Rattle.onu_texts.specs.Judging.{JudgesInto};
 ghost use Rattle.onu_texts.specs.Replaying.{ReplaysInto};
 ghost use Rattle.onu_texts.specs.Room.{ExplainsInto};
@@ -112,4 +114,74 @@ pub extern "C" fn onu_proved_judge(
         line.new }
 {
     onu_texts::judge_into(alloc, history, flags, room, written, line)
+}
+
+/// Makes a script of a text in words, in a room.
+#[unsafe(no_mangle)]
+pub extern "C" fn onu_proved_encode(
+    alloc: Global,
+    words: &[u8],
+    first_identifier: u16,
+    room: &mut [u8],
+    written: &mut usize,
+) -> i32
+    ensures { MakesInto room.old room.new result written.new }
+{
+    onu_scripts::encode_into(alloc, words, first_identifier, room, written)
+}
+
+/// Decodes a script or a dialogue, as JSON in a room.
+#[unsafe(no_mangle)]
+pub extern "C" fn onu_proved_decode(
+    alloc: Global,
+    script: &[u8],
+    room: &mut [u8],
+    written: &mut usize,
+) -> i32
+    ensures { MakesInto room.old room.new result written.new }
+{
+    onu_scripts::decode_into(alloc, script, room, written)
+}
+
+/// Shows the managed entities that the messages of a trace leave, as JSON in a room.
+#[unsafe(no_mangle)]
+pub extern "C" fn onu_proved_mib(
+    alloc: Global,
+    trace: &[u8],
+    room: &mut [u8],
+    written: &mut usize,
+    line: &mut u64,
+) -> i32
+    ensures { LooksInto trace.now room.old room.new result written.new line.new }
+{
+    onu_scripts::mib_into(alloc, trace, room, written, line)
+}
+
+/// Shows what is wrong with them, and with the messages, as JSON in a room.
+#[unsafe(no_mangle)]
+pub extern "C" fn onu_proved_lint(
+    alloc: Global,
+    trace: &[u8],
+    room: &mut [u8],
+    written: &mut usize,
+    line: &mut u64,
+) -> i32
+    ensures { LooksInto trace.now room.old room.new result written.new line.new }
+{
+    onu_scripts::lint_into(alloc, trace, room, written, line)
+}
+
+/// Shows the table in force at a port after a trace, as JSON in a room.
+#[unsafe(no_mangle)]
+pub extern "C" fn onu_proved_rules(
+    alloc: Global,
+    trace: &[u8],
+    port: u16,
+    room: &mut [u8],
+    written: &mut usize,
+    line: &mut u64,
+) -> i32
+    ensures { LooksInto trace.now room.old room.new result written.new line.new }
+{
+    onu_scripts::rules_into(alloc, trace, port, room, written, line)
 }

@@ -11,3 +11,4 @@ mod room;
 pub use explaining::explain_into;
 pub use judging::judge_into;
 pub use replaying::replay_into;
+pub use room::put;

@@ -1,0 +1,105 @@
+"""Scripts: made of words, decoded, and what their messages leave."""
+
+import json
+import operator
+import re
+from typing import Any, Callable, Dict, List, NamedTuple, Union
+
+from . import _library
+from ._given import Bytes, port_of, text_of
+from ._library import BAD_LINE, NO_MEMORY, in_room
+from ._texts import BadLine
+
+
+class Mistake(NamedTuple):
+    """What is wrong in a text: the number of its line and of its column, from 1, and what was found there and what is allowed."""
+
+    line: int
+    column: int
+    reason: str
+
+    def __str__(self) -> str:
+        return "line %d, column %d: %s" % self
+
+
+class Mistakes(BadLine):
+    """A text has mistakes. ``mistakes`` has them in order; ``line``, ``column`` and ``reason`` are those of the first."""
+
+    def __init__(self, mistakes: List[Mistake]) -> None:
+        super().__init__(mistakes[0].line)
+        self.args = (mistakes,)
+        self.mistakes = mistakes
+        self.column = mistakes[0].column
+        self.reason = mistakes[0].reason
+
+    def __str__(self) -> str:
+        return "\n".join(map(str, self.mistakes))
+
+
+_MISTAKE = re.compile(r"^line (\d+), column (\d+): (.*)$", re.MULTILINE)
+
+
+def _made(call: Callable[..., int], size: int, what: str) -> str:
+    """What a call makes of a text. It is UTF-8, but for remarks, which may hold any bytes."""
+    number, made = in_room(call, size)
+    if number == NO_MEMORY:
+        raise MemoryError("no memory for %s" % what)
+    text = made.decode(errors="replace")
+    if number == 1:
+        raise Mistakes([Mistake(int(line), int(column), reason) for line, column, reason in _MISTAKE.findall(text)])
+    return text
+
+
+def encode(words: Union[Bytes, str], *, identifier: int = 1) -> str:
+    """The script of a text in words (docs/FORMATS.md, "Scripts in words"), as ``onuctl encode`` gives it. Each line of the text is one of the
+    script. The transaction correlation identifiers of its messages count from ``identifier``. Raises :class:`Mistakes`."""
+    text = text_of("words", words)
+    try:
+        first = operator.index(identifier)
+    except TypeError:
+        raise TypeError("identifier must be an int, not %s" % type(identifier).__name__) from None
+    if not 0 <= first <= 0xFFFF:
+        raise ValueError("an identifier is a number from 0 to 65535, not %d" % first)
+    return _made(lambda *room: _library.encode(text, len(text), first, *room), 4 * len(text) + 1024, "a script")
+
+
+def decode(script: Union[Bytes, str]) -> List[Dict[str, Any]]:
+    """What each line of a script or of its answers means: the objects that ``onuctl decode --json`` writes (docs/FORMATS.md). Raises
+    :class:`Mistakes` where a line is bad."""
+    text = text_of("script", script)
+    said = _made(lambda *room: _library.decode(text, len(text), *room), 16 * len(text) + 1024, "what a script means")
+    return [json.loads(line) for line in said.split("\n") if line]
+
+
+def _shown(call: Callable[..., int]) -> Dict[str, Any]:
+    """What a call shows after a trace."""
+    line = _library.Line()
+    number, text = in_room(lambda *room: call(*room, line), 16384)
+    if number == NO_MEMORY:
+        raise MemoryError("no memory for what a trace leaves")
+    if number == BAD_LINE:
+        raise BadLine(line.value)
+    shown: Dict[str, Any] = json.loads(text)
+    return shown
+
+
+def mib(trace: Union[Bytes, str]) -> Dict[str, Any]:
+    """The managed entities after the messages of a trace, as ``onuctl mib --json`` writes them (docs/FORMATS.md). A trace is a script.
+    Its frames are passed over, and so are messages that have a fault or are refused: :func:`lint` says which. Raises :class:`BadLine`."""
+    text = text_of("trace", trace)
+    return _shown(lambda *room: _library.mib(text, len(text), *room))
+
+
+def lint(trace: Union[Bytes, str]) -> List[Dict[str, Any]]:
+    """What is wrong with the managed entities after a trace, and which of its messages have a fault or are refused: the ``findings`` that
+    ``onuctl lint --json`` writes (docs/FORMATS.md). Raises :class:`BadLine`."""
+    text = text_of("trace", trace)
+    found: List[Dict[str, Any]] = _shown(lambda *room: _library.lint(text, len(text), *room))["findings"]
+    return found
+
+
+def rules(trace: Union[Bytes, str], port: int) -> Dict[str, Any]:
+    """The VLAN tagging table that is in force at a port after a trace, as ``onuctl rules --json`` writes it (docs/FORMATS.md). Raises
+    :class:`BadLine`."""
+    text, number = text_of("trace", trace), port_of(port)
+    return _shown(lambda *room: _library.rules(text, len(text), number, *room))
