@@ -12,8 +12,8 @@ mod traces;
 mod unread;
 
 pub use captures::{
-    Naming, cut_frames, explain_fault, next_frame, open_frames, packets_of,
-    report_capture, report_cut,
+    Naming, cut_frames, explain_fault, next_frame, open_frames, packets_of, report_capture,
+    report_cut,
 };
 pub use files::{open_named, read_whole, refuse_twice, report_file, report_unread};
 pub use outputs::{Output, Taken, create_output};

@@ -51,16 +51,17 @@ pub struct Output<'n, W: Write + Drop> {
 impl<'n, W: Write + Drop> Output<'n, W> {
     /// An output that gets what is written as it comes.
     pub fn direct(alloc: Global, name: &'n str, writer: W) -> io::Result<Self> {
-        Self::of(alloc, name, writer, None)
+        let writer = BufWriter::with_capacity(alloc, GATHERED, writer)?;
+        Ok(Self::of(name, writer, None))
     }
 
-    fn of(alloc: Global, name: &'n str, writer: W, names: Option<Names>) -> io::Result<Self> {
-        Ok(Output {
-            writer: BufWriter::with_capacity(alloc, GATHERED, writer)?,
+    fn of(name: &'n str, writer: BufWriter<W>, names: Option<Names>) -> Self {
+        Output {
+            writer,
             name,
             names,
             failed: None,
-        })
+        }
     }
 
     fn note(&mut self, error: &io::Error) {
@@ -179,10 +180,13 @@ fn open_output<'n, R: Files + Alloc<A = Global>, E: Write>(
         Ok(file) => file,
         Err(error) => return Err(report_file(error.kind(), "write", name, err)),
     };
-    match Output::of(rt.alloc(), name, file, names) {
-        Ok(output) => Ok(output),
-        Err(_) => Err(without_memory(err)),
-    }
+    let Ok(writer) = BufWriter::with_capacity(rt.alloc(), GATHERED, file) else {
+        if names.is_some() {
+            let _ = fs::remove_file(rt, path);
+        }
+        return Err(without_memory(err));
+    };
+    Ok(Output::of(name, writer, names))
 }
 
 /// Whether a file that is written is one that is taken already, by its name or by the one that it has until it is whole. It says so.
