@@ -77,6 +77,8 @@ MISTAKES = [
     ("frame 257 tag=8100:8:0:1 type=arp", "line 1, column 20: a priority is at most 7, found `8`"),
     ("set gem-port 1 direction=bth",
      "line 1, column 26: found `bth`, expected upstream, downstream, both or a number; did you mean `both`?"),
+    ("create gem-port 1 port-id=0x", "line 1, column 27: found `0x`, expected port-id, a number of 0 to 65535"),
+    ("entry vlan 1 tags=1 pcp=x -> drop", "line 1, column 25: found `x`, expected a priority, a number of 0 to 7"),
     ("frame 257 type=ipv4 length=13", "line 1, column 1: found 14 bytes in what is said of the frame"),
 ]
 
