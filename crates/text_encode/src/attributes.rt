@@ -9,6 +9,16 @@ pub(crate) struct Values {
     /// The mask of those that are given.
     pub(crate) mask: u16,
     bytes: [[u8; MOST]; 16],
+    /// How many attributes the word names that gives each.
+    spans: [usize; 16],
+}
+
+/// A word `NAME=VALUE`, and how many attributes its name is of.
+#[derive(Clone, Copy)]
+struct Given<'a> {
+    name: Word<'a>,
+    value: Word<'a>,
+    span: usize,
 }
 
 /// The place of the attribute that a short word names.
@@ -69,9 +79,11 @@ impl Values {
     pub(crate) const NEW: Values = Values {
         mask: 0,
         bytes: [[0; MOST]; 16],
+        spans: [0; 16],
     };
 
-    /// Takes a word `ATTRIBUTE=VALUE`. At Create only what is given then.
+    /// Takes a word `ATTRIBUTE=VALUE`. At Create only what is given then. A word takes the place of one before it that names more
+    /// attributes.
     pub(crate) fn take<'a>(
         &mut self,
         class: Class,
@@ -85,8 +97,14 @@ impl Values {
             }));
         };
         let (first, last) = places_of(class, name)?;
-        for place in first..last.saturating_add(1) {
-            self.take_at(class, at_create, place, name, value)?;
+        let behind = last.saturating_add(1);
+        let given = Given {
+            name,
+            value,
+            span: behind.saturating_sub(first),
+        };
+        for place in first..behind {
+            self.take_at(class, at_create, place, &given)?;
         }
         Ok(())
     }
@@ -97,17 +115,18 @@ impl Values {
         class: Class,
         at_create: bool,
         place: usize,
-        name: Word<'a>,
-        value: Word<'a>,
+        given: &Given<'a>,
     ) -> Result<(), Mistake<'a>> {
-        let (Some(attribute), Some(description), Some(bytes)) = (
+        let (Some(attribute), Some(description), Some(bytes), Some(span)) = (
             class.layout().get(place),
             class.descriptions().get(place),
             self.bytes.get_mut(place),
+            self.spans.get_mut(place),
         ) else {
             return Ok(());
         };
-        if names(self.mask, place) {
+        let name = given.name;
+        if names(self.mask, place) && *span <= given.span {
             return Err(name.mistake(Why::Twice { found: name.text }));
         }
         if at_create && attribute.access != Access::SetByCreate {
@@ -115,7 +134,8 @@ impl Values {
                 words: "this attribute isn't given at create, but by set",
             }));
         }
-        *bytes = read_value(description, usize::from(attribute.width), value)?;
+        *bytes = read_value(description, usize::from(attribute.width), given.value)?;
+        *span = given.span;
         self.mask |= bit_of(place);
         Ok(())
     }

@@ -5,8 +5,8 @@ use text_words::{Mistake, Why, Word, number_at_most};
 #[derive(Clone, Copy)]
 struct Priorities {
     priorities: [u8; 64],
-    /// Those that are given.
-    given: [bool; 64],
+    /// How many DSCPs the range has that gives each, 0 where none does.
+    spans: [u16; 64],
 }
 
 /// The DSCPs `N` or `N-M`, from the first to the last.
@@ -29,7 +29,7 @@ fn read_range(word: Word<'_>) -> Result<(u16, u16), Mistake<'_>> {
 }
 
 impl Priorities {
-    /// Gives the DSCPs of `N:P` or `N-M:P` the priority.
+    /// Gives the DSCPs of `N:P` or `N-M:P` the priority, also those of a wider range before.
     fn take<'a>(&mut self, word: Word<'a>) -> Result<(), Mistake<'a>> {
         let Some((range, priority)) = word.split_at_byte(b':') else {
             return Err(word.mistake(Why::Unexpected {
@@ -39,17 +39,16 @@ impl Priorities {
         };
         let (first, last) = read_range(range)?;
         let priority = number_at_most(priority, "a priority", 7)?;
+        let width = last.saturating_sub(first).saturating_add(1);
         for dscp in usize::from(first)..usize::from(last) + 1 {
-            let (Some(slot), Some(given)) = (
-                self.priorities.get_mut(dscp),
-                self.given.get_mut(dscp),
-            ) else {
+            let (Some(slot), Some(span)) = (self.priorities.get_mut(dscp), self.spans.get_mut(dscp))
+            else {
                 continue;
             };
-            if *given {
+            if *span != 0 && *span <= width {
                 return Err(word.mistake(Why::Twice { found: word.text }));
             }
-            *given = true;
+            *span = width;
             *slot = u8::try_from(priority).unwrap_or(0);
         }
         Ok(())
@@ -83,7 +82,7 @@ fn packed(priorities: &[u8; 64]) -> [u8; 24] {
 pub(crate) fn read_mapping(word: Word<'_>) -> Result<[u8; 24], Mistake<'_>> {
     let mut found = Priorities {
         priorities: [0; 64],
-        given: [false; 64],
+        spans: [0; 64],
     };
     let mut rest = word;
     for _ in 0..word.text.len() {

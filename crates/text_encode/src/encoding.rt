@@ -3,6 +3,7 @@ use crate::fault::EncodeFault;
 use crate::frame::put_frame;
 use crate::hexadecimal::{put_frame_bytes, put_message};
 use crate::identifiers::Identifiers;
+use crate::mark::without_mark;
 use crate::message::read_asked;
 use crate::output::Output;
 use crate::statement::Statement;
@@ -56,7 +57,7 @@ fn put_statement(
         return Ok(());
     };
     match statement {
-        Statement::Frame => put_frame(first, words, output),
+        Statement::Frame => put_frame(words, output),
         Statement::FrameBytes => put_frame_bytes(words, output),
         Statement::Message => put_message(first, false, words, identifiers, output),
         Statement::Raw => put_message(first, true, words, identifiers, output),
@@ -94,7 +95,7 @@ fn encoded(alloc: Global, text: &[u8], first_identifier: u16) -> Result<Output, 
 
 /// Reads a text in words, and writes the script that it asks for: each line of the text is one line of the script. The identifiers
 /// of its messages count from `first_identifier`. Where the text has mistakes, all of them are written to `mistakes`, a line each, and
-/// of the script nothing is written.
+/// of the script nothing is written. A byte order mark in front of the text is passed over.
 ///
 /// All of the input is read before the first write.
 pub fn encode<R: Read, W: Write, M: Write>(
@@ -110,7 +111,7 @@ pub fn encode<R: Read, W: Write, M: Write>(
         Err(error) if error.kind() == ErrorKind::OutOfMemory => return Err(EncodeFault::NoMemory),
         Err(_) => return Err(EncodeFault::Read),
     }
-    let output = encoded(alloc, &text, first_identifier)?;
+    let output = encoded(alloc, without_mark(&text), first_identifier)?;
     let count = output.mistakes.count();
     if count > 0 {
         let _ = write_whole(mistakes, output.mistakes.text().as_bytes());

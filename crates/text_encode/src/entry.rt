@@ -24,19 +24,20 @@ fn contents_of(class: Class, entry: Entry) -> [u8; 32] {
     contents
 }
 
-/// That an entity has a table.
-fn check_table(entity: Entity, first: Word<'_>) -> Result<Class, Mistake<'_>> {
+/// That an entity has a table, whose class this word names.
+fn check_table(entity: Entity, class: Word<'_>) -> Result<Class, Mistake<'_>> {
     match Class::of(entity.class) {
         Some(Class::Vlan) => Ok(Class::Vlan),
-        _ => Err(first.mistake(Why::Rule {
+        _ => Err(class.mistake(Why::Rule {
             words: "only the class vlan has a table of entries",
         })),
     }
 }
 
-/// The rule of an entry, or that by whose filter one is removed. None where a word before has a mistake.
+/// The rule of an entry, or that by whose filter one is removed. None where a word before has a mistake. The line ends in front of the
+/// column `end`.
 fn rule_of<'a>(
-    first: Word<'a>,
+    end: usize,
     is_removal: bool,
     asked: &RuleAsked,
     mistakes: &Mistakes,
@@ -45,14 +46,11 @@ fn rule_of<'a>(
         return Ok(None);
     }
     let rule = if is_removal {
-        asked.filter_alone()
+        asked.filter_alone(end)?
     } else {
-        asked.rule()
+        asked.rule(end)?
     };
-    match rule {
-        Ok(rule) => Ok(Some(rule)),
-        Err(why) => Err(first.mistake(why)),
-    }
+    Ok(Some(rule))
 }
 
 /// `entry CLASS INSTANCE FILTER -> TREATMENT` or `remove-entry CLASS INSTANCE FILTER`, behind its first word.
@@ -62,11 +60,12 @@ pub(crate) fn read_entry(
     words: Words<'_>,
     mistakes: &mut Mistakes,
 ) -> Result<Option<Asked>, AllocError> {
-    let mut words = words;
+    let (mut words, mut ahead) = (words, words);
+    let named = ahead.next().unwrap_or(first);
     let Some(entity) = read_entity(&mut words, mistakes)? else {
         return Ok(None);
     };
-    let class = mistakes.take(check_table(entity, first))?;
+    let class = mistakes.take(check_table(entity, named))?;
     let (mut header, mut asked) = (Header::NEW, RuleAsked::NEW);
     for word in words {
         let taken = header.take(word);
@@ -78,7 +77,7 @@ pub(crate) fn read_entry(
         return Ok(None);
     };
     let Some(rule) = mistakes
-        .take(rule_of(first, is_removal, &asked, mistakes))?
+        .take(rule_of(words.end(), is_removal, &asked, mistakes))?
         .flatten()
     else {
         return Ok(None);

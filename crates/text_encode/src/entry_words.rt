@@ -2,7 +2,7 @@
 use managed_entity::Class;
 use std::alloc::AllocError;
 use text_rules::{put_filter, put_treatment};
-use vlan_rule::{Entry, Rank, Rule};
+use vlan_rule::{Entry, Rule};
 
 /// The entry with this key that drops frames, by which the filter of a deletion is read.
 fn dropping(entry: &Entry) -> Entry {
@@ -12,15 +12,14 @@ fn dropping(entry: &Entry) -> Entry {
     Entry(bytes)
 }
 
-/// The rule that an entry means, or whose filter a deletion names. None where it has no words: it is refused, or its key is a
-/// predefined one.
+/// The rule that an entry means, or whose filter a deletion names. None where it has no words: it is refused.
 fn rule_in(entry: &Entry) -> Option<Rule> {
     let read = if entry.is_deletion() {
         Rule::read(&dropping(entry))
     } else {
         Rule::read(entry)
     };
-    read.ok().filter(|rule| rule.rank != Rank::Predefined)
+    read.ok()
 }
 
 /// Puts the words of a set of one entry: `entry CLASS INSTANCE FILTER -> TREATMENT`, or `remove-entry CLASS INSTANCE FILTER`. Whether

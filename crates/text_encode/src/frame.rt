@@ -46,7 +46,11 @@ struct FrameAsked<'a> {
     tags: ArrayVec<u8, 64>,
     ethertype: Option<u16>,
     dscp: Option<u8>,
+    /// The column of the word that says the DSCP.
+    dscp_at: usize,
     length: Option<u16>,
+    /// The column of the length.
+    length_at: usize,
     /// The digits of what stands behind the type.
     payload: Option<Word<'a>>,
 }
@@ -154,8 +158,12 @@ impl<'a> FrameAsked<'a> {
             1 => name.put_into(&mut self.source, read_address(value)?),
             2 => self.take_tag(value),
             3 => name.put_into(&mut self.ethertype, read_type(value)?),
-            4 => name.put_into(&mut self.dscp, read_dscp(value)?),
+            4 => {
+                self.dscp_at = name.column;
+                name.put_into(&mut self.dscp, read_dscp(value)?)
+            }
             5 => {
+                self.length_at = value.column;
                 let length = number_at_most(value, "the length of a frame", MOST)?;
                 name.put_into(&mut self.length, length)
             }
@@ -174,21 +182,27 @@ impl<'a> FrameAsked<'a> {
         }
     }
 
+    /// What goes against a rule in what it says of the DSCP.
+    fn bad_dscp(&self, words: &'static str) -> Mistake<'a> {
+        Mistake {
+            column: self.dscp_at,
+            why: Why::Rule { words },
+        }
+    }
+
     /// The two bytes of its DSCP, behind the type, if it says one.
-    fn packet(&self, ethertype: u16) -> Result<Option<[u8; 2]>, Why<'static>> {
+    fn packet(&self, ethertype: u16) -> Result<Option<[u8; 2]>, Mistake<'a>> {
         let Some(dscp) = self.dscp else {
             return Ok(None);
         };
         if self.payload.is_some() {
-            return Err(Why::Rule {
-                words: "the payload says the DSCP itself, so dscp doesn't stand beside it",
-            });
+            return Err(self.bad_dscp(
+                "the payload says the DSCP itself, so dscp doesn't stand beside it",
+            ));
         }
         match begun_packet(ethertype, dscp) {
             Some(bytes) => Ok(Some(bytes)),
-            None => Err(Why::Rule {
-                words: "only a frame of type ipv4 or ipv6 has a DSCP",
-            }),
+            None => Err(self.bad_dscp("only a frame of type ipv4 or ipv6 has a DSCP")),
         }
     }
 }
@@ -218,22 +232,20 @@ fn put_payload(payload: Option<Word<'_>>, output: &mut Output) -> Result<(), All
 }
 
 /// Puts the zeros of a frame whose bytes begin at a place of the script, up to its length.
-fn put_zeros(
-    first: Word<'_>,
-    length: Option<u16>,
-    begin: usize,
-    output: &mut Output,
-) -> Result<(), AllocError> {
+fn put_zeros(asked: &FrameAsked<'_>, begin: usize, output: &mut Output) -> Result<(), AllocError> {
     let found = output.script.len().saturating_sub(begin) / 2;
-    let Some(length) = length.map(usize::from) else {
+    let Some(length) = asked.length.map(usize::from) else {
         return Ok(());
     };
     if found > length {
-        return output.mistakes.put(&first.mistake(Why::Count {
-            found,
-            unit: "bytes in what is said of the frame",
-            expected: "no more than its length",
-        }));
+        return output.mistakes.put(&Mistake {
+            column: asked.length_at,
+            why: Why::Count {
+                found,
+                unit: "bytes in what is said of the frame",
+                expected: "no more than its length",
+            },
+        });
     }
     for _ in found..length {
         output.script.extend_from_slice(b"00")?;
@@ -241,22 +253,15 @@ fn put_zeros(
     Ok(())
 }
 
-/// Puts what words say of a frame, behind its port.
-fn put_asked(
-    first: Word<'_>,
-    asked: &FrameAsked<'_>,
-    output: &mut Output,
-) -> Result<(), AllocError> {
+/// Puts what words say of a frame, behind its port. The line ends in front of the column `end`.
+fn put_asked(end: usize, asked: &FrameAsked<'_>, output: &mut Output) -> Result<(), AllocError> {
     let Some(ethertype) = asked.ethertype else {
-        return output
-            .mistakes
-            .put(&first.mistake(Why::Missing { expected: "type=" }));
+        return output.mistakes.put(&Mistake {
+            column: end,
+            why: Why::Missing { expected: "type=" },
+        });
     };
-    let packet = match asked.packet(ethertype) {
-        Ok(packet) => Ok(packet),
-        Err(why) => Err(first.mistake(why)),
-    };
-    let packet = output.mistakes.take(packet)?.flatten();
+    let packet = output.mistakes.take(asked.packet(ethertype))?.flatten();
     let begin = output.script.len();
     output.put_bytes(&asked.destination.unwrap_or(DESTINATION))?;
     output.put_bytes(&asked.source.unwrap_or(SOURCE))?;
@@ -266,7 +271,7 @@ fn put_asked(
         output.put_bytes(&bytes)?;
     }
     put_payload(asked.payload, output)?;
-    put_zeros(first, asked.length, begin, output)
+    put_zeros(asked, begin, output)
 }
 
 /// Puts the front of the line of a frame, up to its bytes.
@@ -281,11 +286,7 @@ pub(crate) fn put_front(port: u16, output: &mut Output) -> Result<(), AllocError
 }
 
 /// `frame PORT NAME=VALUE ..`, behind its first word.
-pub(crate) fn put_frame<'a>(
-    first: Word<'a>,
-    words: Words<'a>,
-    output: &mut Output,
-) -> Result<(), AllocError> {
+pub(crate) fn put_frame<'a>(words: Words<'a>, output: &mut Output) -> Result<(), AllocError> {
     let mut words = words;
     let Some(port) = read_port_word(&mut words, output)? else {
         return Ok(());
@@ -296,7 +297,9 @@ pub(crate) fn put_frame<'a>(
         tags: ArrayVec::new(),
         ethertype: None,
         dscp: None,
+        dscp_at: 0,
         length: None,
+        length_at: 0,
         payload: None,
     };
     for word in words {
@@ -307,5 +310,5 @@ pub(crate) fn put_frame<'a>(
         return Ok(());
     }
     put_front(port, output)?;
-    put_asked(first, &asked, output)
+    put_asked(words.end(), &asked, output)
 }

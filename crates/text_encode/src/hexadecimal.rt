@@ -34,7 +34,7 @@ fn identifier_in(digits: &[u8]) -> Option<u16> {
     u16::try_from(number).ok()
 }
 
-/// Fills a message that is short: with zeros up to its trailer, and with that.
+/// Fills a message that is short, whose digits begin with this word: with zeros up to its trailer, and with that.
 fn fill(first: Word<'_>, begin: usize, output: &mut Output) -> Result<(), AllocError> {
     let found = output.script.len().saturating_sub(begin);
     if WHOLE.contains(&found) {
@@ -63,9 +63,11 @@ pub(crate) fn put_message(
 ) -> Result<(), AllocError> {
     output.script.extend_from_slice(b"o ")?;
     let begin = output.script.len();
+    let mut ahead = words;
+    let digits_word = ahead.next().unwrap_or(first);
     put_words(words, output)?;
     if !is_raw {
-        fill(first, begin, output)?;
+        fill(digits_word, begin, output)?;
     }
     let (_, digits) = output.script.split_at(begin.min(output.script.len()));
     if let Some(identifier) = identifier_in(digits) {

@@ -19,6 +19,7 @@ mod frame_words;
 mod header;
 mod hexadecimal;
 mod identifiers;
+mod mark;
 mod message;
 mod output;
 mod request_words;
@@ -28,4 +29,6 @@ mod value;
 
 pub use encoding::encode;
 pub use fault::EncodeFault;
+pub use mark::without_mark;
 pub use source::decode_source;
+pub use statement::is_in_words;

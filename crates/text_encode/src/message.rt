@@ -162,9 +162,15 @@ fn read_values(
     };
     let at_create = action == Action::Create;
     let (mut header, mut values) = (Header::NEW, Values::NEW);
+    let mut over = first;
+    let mut is_over = false;
     for word in words {
         let taken = take_value(&mut header, &mut values, entity, at_create, word);
         mistakes.take(taken)?;
+        if !is_over && contents_of(entity, &values, at_create).is_err() {
+            is_over = true;
+            over = word;
+        }
     }
     match contents_of(entity, &values, at_create) {
         Ok(contents) => Ok(Some(Asked {
@@ -174,7 +180,7 @@ fn read_values(
             contents,
         })),
         Err(found) => {
-            mistakes.put(&first.mistake(Why::Count {
+            mistakes.put(&over.mistake(Why::Count {
                 found,
                 unit: "bytes of values",
                 expected: "at most 30 in a set",

@@ -1,5 +1,7 @@
 //! What a line says, by its first word.
-use text_words::{Mistake, Word};
+use crate::mark::without_mark;
+use script_lines::first_line;
+use text_words::{Mistake, Word, Words};
 
 /// What a line says, by its first word.
 #[derive(Clone, Copy)]
@@ -58,6 +60,27 @@ const STATEMENTS: [Statement; 14] = [
     Statement::FrameBytes,
     Statement::Raw,
 ];
+
+/// The words of them with which a line of a script begins too.
+const IN_DIGITS: &[&str] = &["o", "f"];
+
+/// Whether a text is in words, by the first word that isn't in a remark: one of those with which a line may begin, but none with which
+/// a line of a script does.
+pub fn is_in_words(text: &[u8]) -> bool {
+    let mut rest = without_mark(text);
+    for _ in 0..text.len() {
+        if rest.is_empty() {
+            break;
+        }
+        let (line, behind) = first_line(rest);
+        let content = line.strip_suffix(b"\r").unwrap_or(line);
+        if let Some(word) = Words::of(content).next() {
+            return word.place_in(FIRST_WORDS).is_some() && word.place_in(IN_DIGITS).is_none();
+        }
+        rest = behind;
+    }
+    false
+}
 
 impl Statement {
     /// What a line says that begins with this word.

@@ -17,7 +17,7 @@ use text_writing::{DecodeFault, write_whole};
 
 /// Reads a script or a dialogue as [`decode`](crate::decode) does, and writes an object of JSON (RFC 8259) for each line, on a line of its
 /// own: `format`, 1; `line`, its number, from 1; `kind`, which is `message`, `frame`, `reply`, `leaving`, `dropped`, `fault`, `no_answer` or
-/// `remark`; and what it says.
+/// `remark`; and what it says. Of a remark that is text that is `text`.
 pub fn decode_json<R: Read, W: Write>(
     alloc: Global,
     reader: &mut R,
@@ -50,10 +50,20 @@ fn decode_line<W: Write>(
     put_number(&mut object, "format", 1)?;
     put_number(&mut object, "line", number)?;
     put_line(alloc, &mut object, &read)?;
+    put_remark(&mut object, line)?;
     object.end_object()?;
     write_whole(writer, &object.into_inner())?;
     write_whole(writer, b"\n")?;
     Ok(())
+}
+
+/// Puts a remark, if the line is one and is text.
+fn put_remark(object: &mut Writer, line: &[u8]) -> Result<(), AllocError> {
+    let content = line.strip_suffix(b"\r").unwrap_or(line);
+    match str::from_utf8(content) {
+        Ok(remark) if remark.starts_with('#') => put_text(object, "text", remark),
+        _ => Ok(()),
+    }
 }
 
 /// Puts what a line says.

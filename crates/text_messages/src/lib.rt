@@ -29,7 +29,7 @@ pub use frame::{put_frame, put_view};
 pub use frame_json::{put_tag_json, put_view_json};
 pub use line::{ScriptLine, read_script_line};
 pub use lines::LineReader;
-pub use mistake::find_mistake;
+pub use mistake::{ScriptMistake, find_mistake, find_script_mistake};
 pub use names::{action_name, result_name};
 pub use reply::put_reply;
 pub use request::put_request;

@@ -1,10 +1,61 @@
 //! Why a line of a script or of a dialogue is bad.
-use script_lines::{LINE_LIMIT, read_port};
+use script_lines::{LINE_LIMIT, Line, MOST_SPELLED, read_line, read_port};
+use std::fmt;
 use text_writing::{Expected, Found, Mistake};
+
+/// Why a line isn't one of a script, or of a trace that has no frames.
+#[derive(Clone, Copy, Debug, PartialEq, Eq)]
+pub enum ScriptMistake {
+    /// No line of a script begins so.
+    Mark(Found),
+    /// It is a frame, and the trace has none.
+    Frame,
+    /// Behind its mark stands what mustn't.
+    Behind(Mistake),
+}
+
+impl fmt::Display for ScriptMistake {
+    fn fmt<W: fmt::Write>(&self, f: &mut fmt::Formatter<W>) -> fmt::Result {
+        match self {
+            ScriptMistake::Mark(found) => {
+                write!(f, "column 1: found {found}, expected 'o', 'f' or '#'")
+            }
+            ScriptMistake::Frame => f.write_str(
+                "column 1: found 'f', expected 'o' or '#', since the frames of a run are those of its capture",
+            ),
+            ScriptMistake::Behind(mistake) => write!(f, "{mistake}"),
+        }
+    }
+}
+
+/// The first mistake of a line, without its line feed, that isn't one of a script, or of a trace that has no frames.
+pub fn find_script_mistake(line: &[u8]) -> ScriptMistake {
+    let mut buffer = [0; MOST_SPELLED];
+    if let Some(Line::Frame(_, _)) = read_line(line, &mut buffer) {
+        return ScriptMistake::Frame;
+    }
+    match line {
+        [b'o' | b'f' | b'#', ..] => ScriptMistake::Behind(find_mistake(line)),
+        [first, ..] => ScriptMistake::Mark(Found::Byte(*first)),
+        [] => ScriptMistake::Mark(Found::End),
+    }
+}
 
 /// The first mistake of a bad line, without its line feed.
 pub fn find_mistake(line: &[u8]) -> Mistake {
     let content = line.strip_suffix(b"\r").unwrap_or(line);
+    let mistake = in_content(content);
+    match mistake.expected {
+        Expected::Limit(most) if content.len() <= most => Mistake {
+            found: Found::Byte(b'\r'),
+            ..mistake
+        },
+        _ => mistake,
+    }
+}
+
+/// The first mistake of a bad line without its end.
+fn in_content(content: &[u8]) -> Mistake {
     match content {
         [b'o' | b'r', b' ', ..] => in_digits(content, 2),
         [b'f' | b'g', b' ', ..] => in_numbered(content),

@@ -1,6 +1,8 @@
 //! A tag that an entry adds, in words.
+use crate::asked::rule_at;
 use crate::filter::TAG_WORDS;
-use text_words::{Mistake, Word, number_at_most, read_number};
+use crate::instead::{ADDED_TPIDS, is_hexadecimal};
+use text_words::{Mistake, Why, Word, number_at_most, read_number};
 use vlan_rule::{AddedTag, EligibleSource, PrioritySource, TpidSource, VidSource};
 
 /// What a priority may be taken from. The last is no word, since it has blanks; it is said among those that are allowed.
@@ -29,6 +31,8 @@ pub(crate) struct AddedAsked {
     vid: Option<VidSource>,
     tpid: Option<TpidSource>,
     eligible: Option<EligibleSource>,
+    /// The column of the word that says the drop eligible indicator.
+    eligible_at: usize,
 }
 
 fn read_priority(word: Word<'_>) -> Result<PrioritySource, Mistake<'_>> {
@@ -52,12 +56,17 @@ fn read_vid(word: Word<'_>) -> Result<VidSource, Mistake<'_>> {
 }
 
 fn read_tpid(word: Word<'_>) -> Result<TpidSource, Mistake<'_>> {
-    Ok(match word.one_of(TPIDS)? {
-        0 => TpidSource::Inner,
-        1 => TpidSource::Outer,
-        2 => TpidSource::Output,
-        _ => TpidSource::Standard,
-    })
+    match word.place_in(TPIDS) {
+        Some(0) => Ok(TpidSource::Inner),
+        Some(1) => Ok(TpidSource::Outer),
+        Some(2) => Ok(TpidSource::Output),
+        Some(_) => Ok(TpidSource::Standard),
+        None if is_hexadecimal(word) => Err(word.mistake(Why::Unexpected {
+            found: word.text,
+            expected: ADDED_TPIDS,
+        })),
+        None => Err(word.no_such(TPIDS)),
+    }
 }
 
 fn read_eligible(word: Word<'_>) -> Result<EligibleSource, Mistake<'_>> {
@@ -78,12 +87,18 @@ pub(crate) fn usual_eligible(tpid: TpidSource) -> EligibleSource {
     }
 }
 
+/// Whether a drop eligible indicator goes with a TPID: each with the output TPID, and else the usual one alone.
+fn goes_with(eligible: EligibleSource, tpid: TpidSource) -> bool {
+    tpid == TpidSource::Output || eligible == usual_eligible(tpid)
+}
+
 impl AddedAsked {
     pub(crate) const NOTHING: AddedAsked = AddedAsked {
         priority: None,
         vid: None,
         tpid: None,
         eligible: None,
+        eligible_at: 0,
     };
 
     /// Takes a word that says something of the tag.
@@ -95,23 +110,33 @@ impl AddedAsked {
             0 => name.put_into(&mut self.priority, read_priority(value)?),
             1 => name.put_into(&mut self.vid, read_vid(value)?),
             2 => name.put_into(&mut self.tpid, read_tpid(value)?),
-            _ => name.put_into(&mut self.eligible, read_eligible(value)?),
+            _ => {
+                self.eligible_at = name.column;
+                name.put_into(&mut self.eligible, read_eligible(value)?)
+            }
         }
     }
 
     /// The tag. What isn't said is copied from the received tag on this side; but beside a TPID that isn't copied the drop eligible
-    /// indicator is 0.
-    pub(crate) fn tag(&self, side: Side) -> AddedTag {
+    /// indicator is 0. Or that the indicator doesn't go with the TPID.
+    pub(crate) fn tag<'a>(&self, side: Side) -> Result<AddedTag, Mistake<'a>> {
         let (priority, vid, tpid) = match side {
             Side::Outer => (PrioritySource::Outer, VidSource::Outer, TpidSource::Outer),
             Side::Inner => (PrioritySource::Inner, VidSource::Inner, TpidSource::Inner),
         };
         let tpid = self.tpid.unwrap_or(tpid);
-        AddedTag {
+        let eligible = self.eligible.unwrap_or(usual_eligible(tpid));
+        if !goes_with(eligible, tpid) {
+            return Err(rule_at(
+                self.eligible_at,
+                "beside tpid=8100 the dei is 0, and beside tpid=inner or tpid=outer it is that tag's",
+            ));
+        }
+        Ok(AddedTag {
             priority: self.priority.unwrap_or(priority),
             vid: self.vid.unwrap_or(vid),
             tpid,
-            eligible: self.eligible.unwrap_or(usual_eligible(tpid)),
-        }
+            eligible,
+        })
     }
 }

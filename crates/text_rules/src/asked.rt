@@ -1,6 +1,25 @@
 //! How a filter and a treatment take their words, one by one.
 use std::alloc::AllocError;
-use text_words::{Mistake, Mistakes, Word};
+use text_words::{Mistake, Mistakes, Why, Word};
+
+/// What goes against a rule at a column.
+pub(crate) fn rule_at<'a>(column: usize, words: &'static str) -> Mistake<'a> {
+    Mistake {
+        column,
+        why: Why::Rule { words },
+    }
+}
+
+/// That a word doesn't stand there, whose column is given if it does.
+pub(crate) fn check_alone<'a>(
+    column: Option<usize>,
+    words: &'static str,
+) -> Result<(), Mistake<'a>> {
+    match column {
+        Some(column) => Err(rule_at(column, words)),
+        None => Ok(()),
+    }
+}
 
 /// What words ask, of which some stand in the parentheses of `outer(..)` or `inner(..)`.
 pub(crate) trait Asked {

@@ -1,5 +1,6 @@
 //! The type of a frame, or the filter of one, in words.
-use text_words::{Mistake, Word};
+use crate::instead::{TYPES, is_hexadecimal};
+use text_words::{Mistake, Why, Word};
 use vlan_rule::EthertypeFilter;
 
 /// The words for what the type behind a frame's tags must be.
@@ -7,6 +8,12 @@ const FILTERS: &[&str] = &["any", "ipv4", "pppoe", "arp", "ipv6", "eapol"];
 
 /// What the type behind a frame's tags must be.
 pub(crate) fn read_filter(word: Word<'_>) -> Result<EthertypeFilter, Mistake<'_>> {
+    if is_hexadecimal(word) {
+        return Err(word.mistake(Why::Unexpected {
+            found: word.text,
+            expected: TYPES,
+        }));
+    }
     Ok(match word.one_of(FILTERS)? {
         0 => EthertypeFilter::Any,
         1 => EthertypeFilter::Ipv4,

@@ -7,6 +7,7 @@ mod added;
 mod asked;
 mod ethertype;
 mod filter;
+mod instead;
 mod rule;
 mod rule_words;
 mod treatment;

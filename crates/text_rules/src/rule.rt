@@ -1,18 +1,26 @@
 //! A rule in words.
-use crate::asked::take;
+use crate::asked::{check_alone, rule_at, take};
 use crate::filter::FilterAsked;
 use crate::treatment::TreatmentAsked;
 use std::alloc::AllocError;
-use text_words::{Mistakes, Why, Word};
-use vlan_rule::{Rule, Treatment};
+use text_words::{Mistake, Mistakes, Word};
+use vlan_rule::{Entry, Rule, Treatment};
 
 /// What the words of a rule ask so far: a filter, and behind an arrow a treatment.
 #[derive(Clone, Copy)]
 pub struct RuleAsked {
     filter: FilterAsked,
     treatment: TreatmentAsked,
-    /// Whether the arrow has come.
-    is_behind: bool,
+    /// The column of the arrow, once it has come.
+    arrow: Option<usize>,
+}
+
+/// The rule of the predefined key of the same kind: but for the priorities, which say the kind, such a key is 0.
+fn predefined(rule: &Rule) -> Option<Rule> {
+    let mut bytes = rule.spell().0;
+    let (outer, inner) = (bytes[0] & 0xf0, bytes[4] & 0xf0);
+    bytes[..8].copy_from_slice(&[outer, 0, 0, 0, inner, 0, 0, 0]);
+    Rule::read(&Entry(bytes)).ok()
 }
 
 impl RuleAsked {
@@ -20,46 +28,47 @@ impl RuleAsked {
     pub const NEW: RuleAsked = RuleAsked {
         filter: FilterAsked::NEW,
         treatment: TreatmentAsked::NEW,
-        is_behind: false,
+        arrow: None,
     };
 
     /// Takes a word.
     pub fn take(&mut self, word: Word<'_>, mistakes: &mut Mistakes) -> Result<(), AllocError> {
-        if word.is("->") && !self.is_behind {
-            self.is_behind = true;
+        if self.arrow.is_some() {
+            return take(&mut self.treatment, word, mistakes);
+        }
+        if word.is("->") {
+            self.arrow = Some(word.column);
             return Ok(());
         }
-        if self.is_behind {
-            take(&mut self.treatment, word, mistakes)
-        } else {
-            take(&mut self.filter, word, mistakes)
-        }
+        take(&mut self.filter, word, mistakes)
     }
 
-    /// The rule in all, or why it can't be asked for.
-    pub fn rule(&self) -> Result<Rule, Why<'static>> {
-        if !self.is_behind {
-            return Err(Why::Rule {
-                words: "behind the filter stand -> and the treatment",
-            });
-        }
-        self.with(self.treatment.treatment()?)
+    /// The rule in all, or what is wrong with it. The line ends in front of the column `end`.
+    pub fn rule<'a>(&self, end: usize) -> Result<Rule, Mistake<'a>> {
+        let Some(arrow) = self.arrow else {
+            return Err(rule_at(end, "behind the filter stand -> and the treatment"));
+        };
+        self.with(self.treatment.treatment()?, arrow)
     }
 
-    /// The rule with this filter that drops frames, where a filter stands alone; or why it can't be asked for.
-    pub fn filter_alone(&self) -> Result<Rule, Why<'static>> {
-        if self.is_behind {
-            return Err(Why::Rule {
-                words: "an entry is removed by its filter, no treatment stands behind it",
-            });
-        }
-        self.with(Treatment::Discard)
+    /// The rule with this filter that drops frames, where a filter stands alone; or what is wrong with it. The line ends in front of the
+    /// column `end`.
+    pub fn filter_alone<'a>(&self, end: usize) -> Result<Rule, Mistake<'a>> {
+        check_alone(
+            self.arrow,
+            "an entry is removed by its filter, no treatment stands behind it",
+        )?;
+        self.with(Treatment::Discard, end)
     }
 
-    fn with(&self, treatment: Treatment) -> Result<Rule, Why<'static>> {
-        let filter = self.filter.filter()?;
-        Rule::new(filter, self.filter.ethertype(), treatment).ok_or(Why::Rule {
-            words: "beside tpid=8100 the dei is 0, and beside tpid=inner or tpid=outer it is that tag's",
-        })
+    /// The rule with a treatment, whose filter ends in front of a column.
+    fn with<'a>(&self, treatment: Treatment, end: usize) -> Result<Rule, Mistake<'a>> {
+        let filter = self.filter.filter(end)?;
+        let ordinary = Rule::new(filter, self.filter.ethertype(), treatment);
+        let rule = match &ordinary {
+            Some(rule) if self.filter.is_predefined() => predefined(rule),
+            _ => ordinary,
+        };
+        rule.ok_or(rule_at(end, "no entry of a table says this"))
     }
 }

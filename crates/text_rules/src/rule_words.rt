@@ -3,8 +3,8 @@ use crate::added::usual_eligible;
 use crate::ethertype::filter_word;
 use std::alloc::AllocError;
 use vlan_rule::{
-    AddedTag, EligibleSource, EthertypeFilter, Filter, PriorityFilter, PrioritySource, Retag, Rule,
-    TagFilter, TpidFilter, TpidSource, Treatment, VidFilter, VidSource,
+    AddedTag, EligibleSource, EthertypeFilter, Filter, PriorityFilter, PrioritySource, Rank, Retag,
+    Rule, TagFilter, TpidFilter, TpidSource, Treatment, VidFilter, VidSource,
 };
 
 /// Puts what a tag must be, each word but the first behind a space.
@@ -38,8 +38,20 @@ fn put_group(text: &mut String, name: &str, filter: &TagFilter) -> Result<(), Al
     text.push_str(")")
 }
 
+/// Puts the words for a predefined entry's filter.
+fn put_predefined(text: &mut String, filter: &Filter) -> Result<(), AllocError> {
+    text.push_str(match filter {
+        Filter::NoTag => " tags=0 predefined",
+        Filter::OneTag(_) | Filter::OneTagDefault => " tags=1 predefined",
+        Filter::TwoTag { .. } | Filter::TwoTagDefault => " tags=2 predefined",
+    })
+}
+
 /// Puts the words of a rule's filter, each behind a space.
 pub fn put_filter(text: &mut String, rule: &Rule) -> Result<(), AllocError> {
+    if rule.rank == Rank::Predefined {
+        return put_predefined(text, &rule.filter);
+    }
     match &rule.filter {
         Filter::NoTag => text.push_str(" tags=0")?,
         Filter::OneTagDefault => text.push_str(" tags=1 default")?,

@@ -1,9 +1,10 @@
 //! The treatment of an entry in words.
 use crate::added::{AddedAsked, Side};
-use crate::asked::Asked;
-use crate::filter::{GROUPS, read_count};
+use crate::asked::{Asked, check_alone, rule_at};
+use crate::filter::{GROUPS, TAG_WORDS, read_count};
+use crate::instead::ADDED;
 use std::alloc::AllocError;
-use text_words::{Mistake, Mistakes, Why, Word, Words};
+use text_words::{Mistake, Mistakes, Word, Words};
 use vlan_rule::{AddedTag, Retag, Treatment};
 
 /// The words of a treatment.
@@ -12,7 +13,10 @@ const WORDS: &[&str] = &["drop", "remove", "outer", "inner"];
 /// What the words of a treatment ask so far.
 #[derive(Clone, Copy)]
 pub(crate) struct TreatmentAsked {
-    drops: bool,
+    /// The column of `drop`.
+    drops: Option<usize>,
+    /// The column of a word of what changes.
+    changes: Option<usize>,
     remove: Option<u8>,
     outer: Option<AddedTag>,
     inner: Option<AddedTag>,
@@ -21,26 +25,26 @@ pub(crate) struct TreatmentAsked {
 impl TreatmentAsked {
     /// Nothing is asked yet.
     pub(crate) const NEW: TreatmentAsked = TreatmentAsked {
-        drops: false,
+        drops: None,
+        changes: None,
         remove: None,
         outer: None,
         inner: None,
     };
 
-    /// What it asks in all, or why it can't be asked.
-    pub(crate) fn treatment(&self) -> Result<Treatment, Why<'static>> {
-        if !self.drops {
+    /// What it asks in all, or what is wrong with it.
+    pub(crate) fn treatment<'a>(&self) -> Result<Treatment, Mistake<'a>> {
+        if self.drops.is_none() {
             return Ok(Treatment::Retag(Retag {
                 remove: self.remove.unwrap_or(0),
                 outer: self.outer,
                 inner: self.inner,
             }));
         }
-        if self.remove.is_some() || self.outer.is_some() || self.inner.is_some() {
-            return Err(Why::Rule {
-                words: "a frame that is dropped leaves with no tags, so nothing stands beside drop",
-            });
-        }
+        check_alone(
+            self.changes,
+            "a frame that is dropped leaves with no tags, so nothing stands beside drop",
+        )?;
         Ok(Treatment::Discard)
     }
 }
@@ -50,12 +54,15 @@ impl Asked for TreatmentAsked {
 
     fn take_word<'a>(&mut self, word: Word<'a>) -> Result<(), Mistake<'a>> {
         if word.is("drop") {
-            self.drops = true;
-            return Ok(());
+            return word.put_into(&mut self.drops, word.column);
         }
+        self.changes = Some(word.column);
         match word.split_value() {
             Some((name, value)) if name.is("remove") => {
                 name.put_into(&mut self.remove, read_count(value)?)
+            }
+            Some((name, _)) if name.place_in(TAG_WORDS).is_some() => {
+                Err(rule_at(name.column, ADDED))
             }
             _ => Err(word.name().no_such(WORDS)),
         }
@@ -71,10 +78,11 @@ impl Asked for TreatmentAsked {
     }
 
     fn put_tag<'a>(&mut self, name: Word<'a>, tag: AddedAsked) -> Result<(), Mistake<'a>> {
+        self.changes = Some(name.column);
         if name.one_of(GROUPS)? == 0 {
-            name.put_into(&mut self.outer, tag.tag(Side::Outer))
+            name.put_into(&mut self.outer, tag.tag(Side::Outer)?)
         } else {
-            name.put_into(&mut self.inner, tag.tag(Side::Inner))
+            name.put_into(&mut self.inner, tag.tag(Side::Inner)?)
         }
     }
 }

@@ -34,6 +34,12 @@ pub enum Why<'a> {
     Missing {
         expected: &'static str,
     },
+    /// A word that is no number, where one of 0 to `most` is expected.
+    NoNumber {
+        what: &'static str,
+        found: &'a [u8],
+        most: u64,
+    },
     /// A number that is too great for what it is to be.
     TooGreat {
         what: &'static str,
@@ -96,6 +102,10 @@ impl fmt::Display for Why<'_> {
                 write!(f, "found {found}, expected {expected}")
             }
             Why::Missing { expected } => write!(f, "the line ends, expected {expected}"),
+            Why::NoNumber { what, found, most } => {
+                let found = Shown(found);
+                write!(f, "found {found}, expected {what}, a number of 0 to {most}")
+            }
             Why::TooGreat { what, found, most } => {
                 let found = Shown(found);
                 write!(f, "{what} is at most {most}, found {found}")

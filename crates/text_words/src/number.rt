@@ -40,9 +40,10 @@ pub fn number_at_most<'a>(
 ) -> Result<u16, Mistake<'a>> {
     let found = word.text;
     let Some(number) = read_number(found) else {
-        return Err(word.mistake(Why::Unexpected {
+        return Err(word.mistake(Why::NoNumber {
+            what,
             found,
-            expected: what,
+            most: u64::from(most),
         }));
     };
     match u16::try_from(number) {

@@ -30,6 +30,11 @@ impl<'a> Word<'a> {
         }
     }
 
+    /// The column behind its last character.
+    pub fn end(&self) -> usize {
+        self.column.saturating_add(characters_in(self.text))
+    }
+
     /// The part behind its first so many bytes, or nothing where it has fewer.
     fn behind(&self, count: usize) -> Word<'a> {
         let (front, rest) = self.text.split_at(count.min(self.text.len()));

@@ -73,6 +73,15 @@ impl<'a> Words<'a> {
         }
     }
 
+    /// The column behind the last word that is left, or where that would begin.
+    pub fn end(self) -> usize {
+        let mut end = self.column;
+        for word in self {
+            end = word.end();
+        }
+        end
+    }
+
     /// What is wrong behind the last word that was given.
     pub fn mistake(&self, why: Why<'a>) -> Mistake<'a> {
         Mistake {
