@@ -120,13 +120,18 @@ Say what is suspect in a trace and in the entities after it
 Usage: onuctl lint [OPTIONS] --trace <FILE>
 
 Options:
-      --trace <FILE>  Script whose messages are applied, a file [example: up.script]
-      --until <LINE>  Stop behind this line of the trace, from 1 [example: 20]
-      --strict        Stop where a message of the trace has a fault or is refused; has no value [example: --strict]
-      --json          Show it as JSON, for other programs; has no value [example: --json]
-  -h, --help          Print help
+      --trace <FILE>        Script whose messages are applied, a file [example: up.script]
+      --until <LINE>        Stop behind this line of the trace, from 1 [example: 20]
+      --strict              Stop where a message of the trace has a fault or is refused; has no value [example: --strict]
+      --json                Show it as JSON, for other programs; has no value [example: --json]
+      --ignore <KIND>       Leave findings of this kind out; may be given several times [example: not-reached]
+      --fail-on <SEVERITY>  Severity from which on findings give status 3: error, warning or note; error without it [example: warning]
+  -h, --help                Print help
 
-Example: onuctl lint --trace up.script""",
+Kinds and their severities: onuctl help findings
+Status: 3 where a finding is of the severity of --fail-on, or worse
+Example: onuctl lint --trace up.script
+Example: onuctl lint --trace up.script --ignore not-reached --fail-on warning""",
     "graph": """\
 Draw how the managed entities after a trace point to each other, for Graphviz
 
@@ -251,6 +256,27 @@ Why a capture isn't read: `capture fault K at N` of run, forward, record and exp
   3  link type N, expected Ethernet
   4  record or block N, from 0, is cut short or broken, expected a whole one
   5  record or block N, from 0, stores over 262144 bytes of a frame""",
+    "findings": """\
+What lint finds, the most severe first: `--ignore KIND` leaves findings of a kind out
+  port-drops-all (error): all frames of a port are dropped
+  null-pointer (error): a mapper's pointer of a priority is null, so its frames are dropped
+  pointer-to-nothing (error): nothing has the number that an instance points to
+  priority-not-carried (error): no GEM port carries the frames of a mapper's priority
+  second-mapper (error): another mapper is in force at the port of this one
+  second-table (error): another table is in force at the port of this one
+  entry-never-used (error): an entry is tried behind one that admits everything that it admits
+  port-id-used-twice (error): another GEM port has this one's port-ID
+  message-fault (error): a message of the trace has a fault
+  message-refused (error): a message of the trace is refused
+  not-upstream (warning): a GEM port's direction carries no frames upstream
+  not-reached (warning): the frames of no port come by an instance
+  entry-not-held (warning): a message removes an entry that the table doesn't hold
+  entry-overwritten (warning): a message overwrites an entry that the trace set before
+  copy-of-no-tag (warning): an entry for frames without tags copies from a received tag
+  bridge-not-modelled (warning): a mapper hangs on a bridge, which this model doesn't have
+  empty-trace (warning): the trace has no message
+  predefined-never-used (note): the same of an entry that each new table has
+  not-modelled (note): a class or an action that this model doesn't have; once for each""",
     "statuses": """\
 The status with which the program ends
   0  all is written, and judge and lint found nothing

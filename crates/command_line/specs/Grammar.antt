@@ -164,7 +164,7 @@ abbrev pub explain : App
 explain = with_rule (with_rule of_bytes (optional (codes "frames") NonEmptyString)) (numbered (codes "frame"))
 
 abbrev pub lint : App
-lint = shown_after (codes "lint")
+lint = with_rule (with_rule (shown_after (codes "lint")) (several (codes "ignore"))) (optional (codes "fail-on") NonEmptyString)
 
 -- a port that may be left out
 abbrev pub any_port : Rule

@@ -129,6 +129,8 @@ pub record IsDecode (rows : List Row) (words : DecodeWords) : Type 0 where
 -- those behind `lint`
 pub record IsLint (rows : List Row) (words : LintWords) : Type 0 where
   pub trace : IsTrace rows words.trace
+  pub ignored : AreTexts (codes "ignore") rows words.ignored.items
+  pub fail_on : first_of (codes "fail-on") rows ≡ option_map (λ (name : _). name.now) words.fail_on
   pub json : IsFlag (codes "json") rows words.json
 
 -- those behind `graph`
@@ -157,22 +159,22 @@ IsAskedBy (Some (name, rows)) (Encode words) = (name ≡ codes "encode") × IsEn
 IsAskedBy (Some (name, rows)) (Lint words) = (name ≡ codes "lint") × IsLint rows words
 IsAskedBy (Some (name, rows)) (Graph words) = (name ≡ codes "graph") × IsGraph rows words
 
--- all but `record`
-abbrev pub IsNoRecord : Words → Type 0
-IsNoRecord (Replay words) = Unit {0}
-IsNoRecord (Run words) = Unit {0}
-IsNoRecord (Decode words) = Unit {0}
-IsNoRecord (Mib words) = Unit {0}
-IsNoRecord (Rules words) = Unit {0}
-IsNoRecord (Explain words) = Unit {0}
-IsNoRecord (Judge words) = Unit {0}
-IsNoRecord (Forward words) = Unit {0}
-IsNoRecord (Record words) = ⊥
-IsNoRecord (Encode words) = Unit {0}
-IsNoRecord (Lint words) = Unit {0}
-IsNoRecord (Graph words) = Unit {0}
+-- all but `record` and `lint`, which have options that may be given several times
+abbrev pub HasNoList : Words → Type 0
+HasNoList (Replay words) = Unit {0}
+HasNoList (Run words) = Unit {0}
+HasNoList (Decode words) = Unit {0}
+HasNoList (Mib words) = Unit {0}
+HasNoList (Rules words) = Unit {0}
+HasNoList (Explain words) = Unit {0}
+HasNoList (Judge words) = Unit {0}
+HasNoList (Forward words) = Unit {0}
+HasNoList (Record words) = ⊥
+HasNoList (Encode words) = Unit {0}
+HasNoList (Lint words) = ⊥
+HasNoList (Graph words) = Unit {0}
 
--- what looks at the entities after a trace
+-- what shows the entities after a trace
 abbrev pub IsLook : Words → Type 0
 IsLook (Replay words) = ⊥
 IsLook (Run words) = ⊥
@@ -184,5 +186,5 @@ IsLook (Judge words) = ⊥
 IsLook (Forward words) = ⊥
 IsLook (Record words) = ⊥
 IsLook (Encode words) = ⊥
-IsLook (Lint words) = Unit {0}
+IsLook (Lint words) = ⊥
 IsLook (Graph words) = Unit {0}

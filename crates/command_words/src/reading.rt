@@ -1,7 +1,7 @@
 //! What the words ask for.
 ghost use Rattle.std.specs.Prelude.{◌≡◌, ◌≤◌, ℕ, Option, codes, IfErr, IfNone, IfOk, IfSome};
 ghost use Rattle.clap.specs.Words.{found_of, rows_of, subcommand_rows_of};
-ghost use Rattle.command_words.specs.Asked.{AreTexts, IsAskedBy, IsDecode, IsEncode, IsExplain, IsForward, IsFrame, IsGraph, IsJudge, IsLint, IsLook, IsMib, IsNoRecord, IsOptionalNumber, IsRecord, IsReplay, IsRules, IsRun, IsTrace};
+ghost use Rattle.command_words.specs.Asked.{AreTexts, IsAskedBy, IsDecode, IsEncode, IsExplain, IsForward, IsFrame, IsGraph, IsJudge, IsLint, IsLook, IsMib, HasNoList, IsOptionalNumber, IsRecord, IsReplay, IsRules, IsRun, IsTrace};
 ghost use Rattle.command_words.specs.declared.words.Words.{Words};
 ghost use Rattle.command_words.specs.declared.words.RecordWords.{RecordWords};
 ghost use Rattle.command_words.specs.declared.words.RunWords.{RunWords};
@@ -157,19 +157,6 @@ fn read_explain<'a>(given: &ArgMatches<'a>) -> Option<ExplainWords<'a>>
     })
 }
 
-/// What the options behind `lint` ask for; None where one is missing, or the line's number has over 32 bits.
-fn read_lint<'a>(given: &ArgMatches<'a>) -> Option<LintWords<'a>>
-    ensures asked { IfSome result (IsLint (rows_of (found_of given.now))) }
-    ensures range { IfSome result (λ words. IsLine words.trace.until) }
-    ensures none { IfNone result ((words : LintWords) → IsLint (rows_of (found_of given.now)) words
-        → IsLine words.trace.until → ⊥) }
-{
-    Some(LintWords {
-        trace: read_trace(given)?,
-        json: given.get_flag("json"),
-    })
-}
-
 /// What the options behind `graph` ask for; None where one is missing, the port has over 16 bits, or the line's number over 32.
 fn read_graph<'a>(given: &ArgMatches<'a>) -> Option<GraphWords<'a>>
     ensures asked { IfSome result (IsGraph (rows_of (found_of given.now))) }
@@ -251,6 +238,24 @@ fn texts_of<'a>(
     }
 }
 
+/// What the options behind `lint` ask for; None where the trace is missing, or the line's number has over 32 bits.
+fn read_lint<'a>(alloc: Global, given: &ArgMatches<'a>) -> Result<Option<LintWords<'a>>, AllocError>
+    ensures asked { IfOk result (λ read. IfSome read (IsLint (rows_of (found_of given.now)))) }
+    ensures range { IfOk result (λ read. IfSome read (λ words. IsLine words.trace.until)) }
+    ensures none { IfOk result (λ read. IfNone read ((words : LintWords)
+        → IsLint (rows_of (found_of given.now)) words → IsLine words.trace.until → ⊥)) }
+{
+    let Some(trace) = read_trace(given) else {
+        return Ok(None);
+    };
+    Ok(Some(LintWords {
+        trace,
+        ignored: texts_of(alloc, given, "ignore")?,
+        fail_on: given.get_str("fail-on"),
+        json: given.get_flag("json"),
+    }))
+}
+
 /// What the options behind `record` ask for; None where a time is no number of 32 bits.
 fn read_record<'a>(
     alloc: Global,
@@ -279,7 +284,7 @@ fn read_record<'a>(
     }))
 }
 
-/// What a parse asks for that looks at the entities after a trace; None where it is nothing of that, a value is missing, or no number in
+/// What a parse asks for that shows the entities after a trace; None where it is nothing of that, a value is missing, or no number in
 /// its range.
 fn read_look<'a>(matches: &ArgMatches<'a>) -> Option<Words<'a>>
     ensures asked { IfSome result (IsAskedBy (subcommand_rows_of matches.now)) }
@@ -296,19 +301,16 @@ fn read_look<'a>(matches: &ArgMatches<'a>) -> Option<Words<'a>>
     if let Some(given) = matches.subcommand_matches("explain") {
         return Some(Words::Explain(read_explain(given)?));
     }
-    if let Some(given) = matches.subcommand_matches("lint") {
-        return Some(Words::Lint(read_lint(given)?));
-    }
     let given = matches.subcommand_matches("graph")?;
     Some(Words::Graph(read_graph(given)?))
 }
 
-/// What a parse asks for, but for `record`; None where it is that, a value is missing, or no number in its range.
+/// What a parse asks for, but for `record` and `lint`; None where it is one of these, a value is missing, or no number in its range.
 fn read_others<'a>(matches: &ArgMatches<'a>) -> Option<Words<'a>>
     ensures asked { IfSome result (IsAskedBy (subcommand_rows_of matches.now)) }
     ensures range { IfSome result IsInRange }
     ensures none { IfNone result ((words : Words) → IsAskedBy (subcommand_rows_of matches.now) words
-        → IsInRange words → IsNoRecord words → ⊥) }
+        → IsInRange words → HasNoList words → ⊥) }
 {
     if let Some(given) = matches.subcommand_matches("replay") {
         return Some(Words::Replay(read_replay(given)));
@@ -341,6 +343,12 @@ pub fn read_matches<'a>(
     ensures none { IfOk result (λ read. IfNone read ((words : Words)
         → IsAskedBy (subcommand_rows_of matches.now) words → IsInRange words → ⊥)) }
 {
+    if let Some(given) = matches.subcommand_matches("lint") {
+        return match read_lint(alloc, given)? {
+            Some(words) => Ok(Some(Words::Lint(words))),
+            None => Ok(None),
+        };
+    }
     let Some(given) = matches.subcommand_matches("record") else {
         return Ok(read_others(matches));
     };

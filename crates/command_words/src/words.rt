@@ -117,11 +117,15 @@ pub struct ExplainWords<'a> {
     pub json: bool,
 }
 
-/// What `lint` is to look at.
-#[derive(Clone, Copy)]
+/// What `lint` is to look at, and what it finds.
+#[derive(Drop)]
 pub struct LintWords<'a> {
     /// The messages that are applied.
     pub trace: TraceWords<'a>,
+    /// The words of the kinds whose findings are left out, as they were given.
+    pub ignored: Vec<&'a str>,
+    /// The word of the severity from which on a finding ends the command with status 3, as it was given; None for errors alone.
+    pub fail_on: Option<&'a str>,
     /// Whether it is shown as JSON.
     pub json: bool,
 }

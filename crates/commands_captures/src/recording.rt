@@ -2,7 +2,9 @@
 use bench_capture::{CaptureFrames, NextFrameFault};
 use bench_record::{CapturedFrame, Passed, RecordSettings, Tap, record_history, write_history};
 use command_words::{RecordWords, read_numbered, read_tpid};
-use commands_files::{Naming, read_whole, report_capture, report_cut, report_file, without_memory};
+use commands_files::{
+    Naming, read_whole, report_capture, report_cut, report_file, report_value, without_memory,
+};
 use std::alloc::Global;
 use std::io::{BufWriter, Write};
 use std::rt::Files;
@@ -21,15 +23,6 @@ struct Capture<'a> {
 struct Seen<'a> {
     frames: Vec<CapturedFrame<'a>>,
     cut: u64,
-}
-
-/// Says that the value of an option is none, and gives the status.
-fn report_value<E: Write>(value: &str, option: &str, expected: &str, err: &mut E) -> Status {
-    let _ = write!(
-        err,
-        "error: invalid value '{value}' for '{option}': expected {expected}\n\nFor more information, try '--help'.\n",
-    );
-    Status::Failed
 }
 
 /// Reads a capture whole, and puts it behind others; or gives the status where it can't be had.

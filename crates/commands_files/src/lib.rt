@@ -18,6 +18,6 @@ pub use captures::{
 pub use files::{open_named, read_whole, refuse_twice, report_file, report_unread};
 pub use outputs::{Output, Taken, create_output};
 pub use pieces::{Capture, History, read_capture, read_history};
-pub use reports::{report_decoding, report_text, without_memory};
-pub use traces::{apply_linted, apply_trace};
+pub use reports::{report_decoding, report_text, report_value, without_memory};
+pub use traces::{Linted, apply_linted, apply_trace};
 pub use unread::{Silenced, Unread, Watched};

@@ -20,3 +20,12 @@ pub fn report_decoding<E: Write>(outcome: Result<(), DecodeFault>, err: &mut E) 
     }
     status
 }
+
+/// Says that the value of an option is none, and gives the status.
+pub fn report_value<E: Write>(value: &str, option: &str, expected: &str, err: &mut E) -> Status {
+    let _ = write!(
+        err,
+        "error: invalid value '{value}' for '{option}': expected {expected}\n\nFor more information, try '--help'.\n",
+    );
+    Status::Failed
+}

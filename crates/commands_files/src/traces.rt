@@ -96,18 +96,36 @@ fn report_until<E: Write>(script: &[u8], words: &TraceWords<'_>, err: &mut E) {
     }
 }
 
-/// Carries out the messages of a trace, and gives what they leave, or the status where a line is bad.
-fn apply_file<R: Files + Alloc<A = Global>, E: Write>(
+/// A trace, and what its messages leave.
+#[derive(Drop)]
+pub struct Linted {
+    pub script: Vec<u8>,
+    pub applied: Applied,
+}
+
+/// Reads a trace whole, or gives the status where it can't be read.
+fn read_trace<R: Files + Alloc<A = Global>, E: Write>(
     rt: &R,
     words: &TraceWords<'_>,
     err: &mut E,
+) -> Result<Vec<u8>, Status> {
+    match read_whole(rt, words.file) {
+        Ok(script) => {
+            report_until(&script, words, err);
+            Ok(script)
+        }
+        Err(error) => Err(report_unread(&error, b"cannot read trace\n", words.file, err)),
+    }
+}
+
+/// Carries out the messages of a script, and gives what they leave, or the status where a line is bad.
+fn apply_read<E: Write>(
+    alloc: Global,
+    script: &[u8],
+    words: &TraceWords<'_>,
+    err: &mut E,
 ) -> Result<Applied, Status> {
-    let script = match read_whole(rt, words.file) {
-        Ok(script) => script,
-        Err(error) => return Err(report_unread(&error, b"cannot read trace\n", words.file, err)),
-    };
-    report_until(&script, words, err);
-    match apply_script(rt.alloc(), &script, words.until.map(u64::from)) {
+    match apply_script(alloc, script, words.until.map(u64::from)) {
         Ok(applied) => Ok(applied),
         Err(ScriptFault::BadLine(line)) => Err(report_look(&Err(LookFault::BadTrace(line)), err)),
         Err(ScriptFault::NoMemory) => Err(without_memory(err)),
@@ -121,27 +139,31 @@ pub fn apply_trace<R: Files + Alloc<A = Global>, E: Write>(
     words: &TraceWords<'_>,
     err: &mut E,
 ) -> Result<Applied, Status> {
-    apply_saying(rt, words, "; onuctl lint says why", err)
+    let script = read_trace(rt, words, err)?;
+    apply_saying(rt.alloc(), &script, words, "; onuctl lint says why", err)
 }
 
-/// The same for a command that says itself why a message wasn't carried out.
+/// The same for a command that says itself why a message wasn't carried out, with the trace.
 pub fn apply_linted<R: Files + Alloc<A = Global>, E: Write>(
     rt: &R,
     words: &TraceWords<'_>,
     err: &mut E,
-) -> Result<Applied, Status> {
-    apply_saying(rt, words, "", err)
+) -> Result<Linted, Status> {
+    let script = read_trace(rt, words, err)?;
+    let applied = apply_saying(rt.alloc(), &script, words, "", err)?;
+    Ok(Linted { script, applied })
 }
 
 /// The same, with these words on what says why a message wasn't carried out.
-fn apply_saying<R: Files + Alloc<A = Global>, E: Write>(
-    rt: &R,
+fn apply_saying<E: Write>(
+    alloc: Global,
+    script: &[u8],
     words: &TraceWords<'_>,
     why: &str,
     err: &mut E,
 ) -> Result<Applied, Status> {
-    let applied = apply_file(rt, words, err)?;
-    match report_applied(rt.alloc(), &applied, why, err) {
+    let applied = apply_read(alloc, script, words, err)?;
+    match report_applied(alloc, &applied, why, err) {
         Ok(0) => Ok(applied),
         Ok(_) if words.strict => Err(Status::Bad),
         Ok(_) => Ok(applied),

@@ -1,73 +1,130 @@
 //! What is wrong with a configuration, and its picture.
 use command_words::{GraphWords, LintWords};
-use commands_files::{apply_linted, apply_trace, report_text};
+use commands_files::{
+    Linted, apply_linted, apply_trace, report_text, report_value, without_memory,
+};
 use explain_findings::findings;
-use script_trace::{Applied, Refused};
-use std::alloc::{AllocError, Global};
+use std::alloc::Global;
 use std::io::Write;
 use std::rt::Files;
-use text_findings::{TraceFault, TraceFinding, write_findings, write_findings_json};
+use text_findings::{
+    EntityFinding, Kind, Severity, TraceFinding, trace_findings, with_kinds, write_findings,
+    write_findings_json,
+};
 use text_graph::write_graph;
 use text_writing::{Status, TextFault};
 
-/// What is found of the messages of a trace, by their lines.
-fn trace_findings(alloc: Global, applied: &Applied) -> Result<Vec<TraceFinding>, AllocError> {
-    let mut found = Vec::new(alloc);
-    for message in &applied.faulty {
-        found.push(TraceFinding {
-            line: message.line,
-            fault: TraceFault::Faulty(message.fault),
-        })?;
-    }
-    push_refused(&mut found, &applied.refused)?;
-    found.sort_unstable_by(|one, other| one.line.cmp(&other.line));
-    Ok(found)
+/// Which findings are left out, and from which severity on they give a status.
+#[derive(Drop)]
+struct Choice {
+    ignored: Vec<Kind>,
+    least: Severity,
 }
 
-/// Puts the requests that were refused behind what was found.
-fn push_refused(found: &mut Vec<TraceFinding>, refused: &[Refused]) -> Result<(), AllocError> {
-    for message in refused {
-        found.push(TraceFinding {
-            line: message.line,
-            fault: TraceFault::Refused(message.result()),
-        })?;
-    }
-    Ok(())
+/// What is found that isn't left out.
+#[derive(Drop)]
+struct Found {
+    of_entities: Vec<EntityFinding>,
+    of_trace: Vec<TraceFinding>,
 }
 
-/// Writes what is found after a trace, and gives how much that is.
+/// The choice that the words ask for, or the status where one is no kind or no severity.
+fn read_choice<E: Write>(
+    alloc: Global,
+    words: &LintWords<'_>,
+    err: &mut E,
+) -> Result<Choice, Status> {
+    let mut ignored = Vec::new(alloc);
+    for word in &words.ignored {
+        let Some(kind) = Kind::of_word(word) else {
+            let expected = "a kind that onuctl help findings lists";
+            return Err(report_value(word, "--ignore <KIND>", expected, err));
+        };
+        if ignored.push(kind).is_err() {
+            return Err(without_memory(err));
+        }
+    }
+    let word = words.fail_on.unwrap_or(Severity::Error.word());
+    match Severity::of_word(word) {
+        Some(least) => Ok(Choice { ignored, least }),
+        None => {
+            let expected = "error, warning or note";
+            Err(report_value(word, "--fail-on <SEVERITY>", expected, err))
+        }
+    }
+}
+
+impl Found {
+    /// What is found after a trace, and of its messages.
+    fn of(
+        alloc: Global,
+        linted: &Linted,
+        until: Option<u64>,
+        choice: &Choice,
+    ) -> Result<Self, TextFault> {
+        let mib = &linted.applied.mib;
+        let mut of_entities = with_kinds(alloc, mib, &findings(alloc, mib)?)?;
+        of_entities.retain(|each| !each.kind.is_among(&choice.ignored));
+        let mut of_trace = trace_findings(alloc, &linted.script, until)?;
+        of_trace.retain(|each| !each.kind().is_among(&choice.ignored));
+        Ok(Found {
+            of_entities,
+            of_trace,
+        })
+    }
+
+    /// Whether one is of this severity, or a worse one.
+    fn reaches(&self, least: Severity) -> bool {
+        self.of_entities
+            .iter()
+            .any(|each| each.kind.severity.reaches(least))
+            || self
+                .of_trace
+                .iter()
+                .any(|each| each.kind().severity.reaches(least))
+    }
+}
+
+/// Writes what is found after a trace, and gives whether that is severe enough for a status.
 fn write_lint<O: Write>(
     alloc: Global,
-    json: bool,
-    applied: &Applied,
+    words: &LintWords<'_>,
+    linted: &Linted,
+    choice: &Choice,
     out: &mut O,
-) -> Result<usize, TextFault> {
-    let mib = &applied.mib;
-    let found = findings(alloc, mib)?;
-    let of_trace = trace_findings(alloc, applied)?;
-    if json {
-        write_findings_json(alloc, mib, &found, &of_trace, out)?;
+) -> Result<bool, TextFault> {
+    let mib = &linted.applied.mib;
+    let until = words.trace.until.map(u64::from);
+    let found = Found::of(alloc, linted, until, choice)?;
+    let (of_entities, of_trace) = (&found.of_entities, &found.of_trace);
+    if words.json {
+        write_findings_json(alloc, mib, of_entities, of_trace, out)?;
     } else {
-        write_findings(alloc, mib, &found, &of_trace, out)?;
+        write_findings(alloc, mib, of_entities, of_trace, out)?;
     }
-    Ok(found.len().saturating_add(of_trace.len()))
+    Ok(found.reaches(choice.least))
 }
 
 /// Writes the findings about the managed entities after a trace, and about its messages, to `out`, and why not all to `err`. It gives the
 /// status.
 pub fn lint<R: Files + Alloc<A = Global>, O: Write, E: Write>(
     rt: &R,
-    words: &LintWords,
+    words: &LintWords<'_>,
     out: &mut O,
     err: &mut E,
 ) -> Status {
-    let applied = match apply_linted(rt, &words.trace, err) {
-        Ok(applied) => applied,
+    let alloc = rt.alloc();
+    let choice = match read_choice(alloc, words, err) {
+        Ok(choice) => choice,
         Err(status) => return status,
     };
-    match write_lint(rt.alloc(), words.json, &applied, out) {
-        Ok(0) => Status::Done,
-        Ok(_) => Status::Found,
+    let linted = match apply_linted(rt, &words.trace, err) {
+        Ok(linted) => linted,
+        Err(status) => return status,
+    };
+    match write_lint(alloc, words, &linted, &choice, out) {
+        Ok(true) => Status::Found,
+        Ok(false) => Status::Done,
         Err(fault) => report_text(Err(fault), err),
     }
 }

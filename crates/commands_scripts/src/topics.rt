@@ -1,9 +1,10 @@
-//! The numbers that the program writes, in words.
+//! The numbers and the kinds of findings that the program writes, in words.
 use bench_capture::CaptureFileFault;
 use frame_meaning::Reason;
 use omci_msg::MsgFault;
 use std::alloc::{AllocError, Global};
 use std::io::Write;
+use text_findings::put_kinds;
 use text_messages::result_name;
 use text_writing::{LookFault, Status, report_look, write_whole};
 
@@ -16,6 +17,8 @@ pub enum Topic {
     Results,
     /// The faults of messages and of captures.
     Faults,
+    /// The kinds of findings, with their severities.
+    Findings,
     /// The statuses with which the program ends.
     Statuses,
 }
@@ -27,6 +30,7 @@ pub fn topic_of(words: &[&str]) -> Option<Topic> {
             "reasons" => Some(Topic::Reasons),
             "results" => Some(Topic::Results),
             "faults" => Some(Topic::Faults),
+            "findings" => Some(Topic::Findings),
             "statuses" => Some(Topic::Statuses),
             _ => None,
         },
@@ -78,6 +82,14 @@ fn put_faults(text: &mut String) -> Result<(), AllocError> {
     Ok(())
 }
 
+/// Puts the kinds of findings.
+fn put_findings(text: &mut String) -> Result<(), AllocError> {
+    text.push_str(
+        "What lint finds, the most severe first: `--ignore KIND` leaves findings of a kind out\n",
+    )?;
+    put_kinds(text)
+}
+
 /// Puts the statuses.
 fn put_statuses(text: &mut String) -> Result<(), AllocError> {
     text.push_str("The status with which the program ends\n")?;
@@ -95,6 +107,7 @@ fn text_of(alloc: Global, topic: Topic) -> Result<String, AllocError> {
         Topic::Reasons => put_reasons(&mut text)?,
         Topic::Results => put_results(&mut text)?,
         Topic::Faults => put_faults(&mut text)?,
+        Topic::Findings => put_findings(&mut text)?,
         Topic::Statuses => put_statuses(&mut text)?,
     }
     Ok(text)

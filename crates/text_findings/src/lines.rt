@@ -1,34 +1,59 @@
 //! Findings as text.
+use crate::entity_finding::EntityFinding;
 use crate::subject::subject_of;
 use crate::trace::TraceFinding;
-use crate::words::{FindingWords, kind_of};
-use explain_findings::Finding;
+use crate::words::FindingWords;
 use mib_state::Mib;
 use std::alloc::Global;
 use std::io::Write;
 use text_writing::{TextFault, write_whole};
 
-/// Writes a line for each finding, `CLASS NUMBER KIND: WORDS`, and then one for each finding of a trace, `line NUMBER KIND: WORDS`,
-/// both in the order in which they come.
+/// Writes a line for each finding, `SEVERITY CLASS NUMBER KIND: WORDS`, and then one for each finding of a trace, `SEVERITY line
+/// NUMBER KIND: WORDS`, or `SEVERITY trace KIND: WORDS` of a whole one, both in the order in which they come.
 pub fn write_findings<W: Write>(
     alloc: Global,
     mib: &Mib,
-    findings: &[Finding],
+    findings: &[EntityFinding],
     trace: &[TraceFinding],
     writer: &mut W,
 ) -> Result<(), TextFault> {
-    for finding in findings {
-        let finding = *finding;
-        let (subject, kind) = (subject_of(mib, finding), kind_of(finding));
-        let words = FindingWords { mib, finding };
-        let text = format!(in alloc; "{subject} {kind}: {words}\n")?;
-        write_whole(writer, text.as_bytes())?;
+    for each in findings {
+        write_finding(alloc, mib, each, writer)?;
     }
     for found in trace {
-        let (line, fault) = (found.line, found.fault);
-        let kind = fault.kind();
-        let text = format!(in alloc; "line {line} {kind}: {fault}\n")?;
-        write_whole(writer, text.as_bytes())?;
+        write_traced(alloc, found, writer)?;
     }
+    Ok(())
+}
+
+/// Writes the line of a finding.
+fn write_finding<W: Write>(
+    alloc: Global,
+    mib: &Mib,
+    each: &EntityFinding,
+    writer: &mut W,
+) -> Result<(), TextFault> {
+    let (finding, kind) = (each.finding, each.kind);
+    let subject = subject_of(mib, finding);
+    let (severity, word) = (kind.severity, kind.word);
+    let words = FindingWords { mib, finding };
+    let text = format!(in alloc; "{severity} {subject} {word}: {words}\n")?;
+    write_whole(writer, text.as_bytes())?;
+    Ok(())
+}
+
+/// Writes the line of a finding of a trace.
+fn write_traced<W: Write>(
+    alloc: Global,
+    found: &TraceFinding,
+    writer: &mut W,
+) -> Result<(), TextFault> {
+    let (kind, fault) = (found.kind(), found.fault);
+    let (severity, word) = (kind.severity, kind.word);
+    let text = match found.line {
+        Some(line) => format!(in alloc; "{severity} line {line} {word}: {fault}\n")?,
+        None => format!(in alloc; "{severity} trace {word}: {fault}\n")?,
+    };
+    write_whole(writer, text.as_bytes())?;
     Ok(())
 }

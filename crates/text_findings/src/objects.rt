@@ -1,31 +1,34 @@
 //! Findings as JSON.
+use crate::entity_finding::EntityFinding;
+use crate::kind::Kind;
 use crate::subject::subject_of;
-use crate::trace::{TraceFault, TraceFinding};
-use crate::words::{FindingWords, entry_number, kind_of};
+use crate::trace::{Head, Missing, TraceFault, TraceFinding};
+use crate::words::{FindingWords, entry_number};
 use explain_findings::Finding;
 use json::Writer;
 use mib_state::Mib;
+use omci_msg::Action;
 use std::alloc::{AllocError, Global};
 use std::io::Write;
-use text_entities::{JsonText, put_number, put_text, put_words};
-use text_messages::result_name;
+use text_entities::{JsonText, put_number, put_text, put_words, standard_class_name};
+use text_messages::{action_name, result_name};
 use text_writing::TextFault;
 
 /// Writes the findings as one object of JSON (RFC 8259): `format`, which is 1, and `findings`, an array with an object for each, on
-/// a line of its own. Of an instance it has `class`, `instance`, `kind`, the numbers that the finding names, and `words`; of a line
-/// of the trace `line`, `kind`, `fault` or `result`, and `words`.
+/// a line of its own. Of an instance it has `class`, `instance`, `kind`, `severity`, the numbers that the finding names, and `words`;
+/// of a line of the trace `line`, `kind`, `severity`, what the finding names, and `words`.
 pub fn write_findings_json<W: Write>(
     alloc: Global,
     mib: &Mib,
-    findings: &[Finding],
+    findings: &[EntityFinding],
     trace: &[TraceFinding],
     writer: &mut W,
 ) -> Result<(), TextFault> {
     let mut text = JsonText::new(alloc);
     text.begin(writer, "{\"format\":1,\"findings\":")?;
-    for finding in findings {
+    for each in findings {
         let mut object = text.object()?;
-        put_finding(alloc, &mut object, mib, *finding)?;
+        put_finding(alloc, &mut object, mib, each)?;
         text.write(writer, object)?;
     }
     for found in trace {
@@ -41,14 +44,21 @@ fn put_finding(
     alloc: Global,
     object: &mut Writer,
     mib: &Mib,
-    finding: Finding,
+    each: &EntityFinding,
 ) -> Result<(), AllocError> {
+    let finding = each.finding;
     let subject = subject_of(mib, finding);
     put_number(object, "class", u64::from(subject.class.number()))?;
     put_number(object, "instance", u64::from(subject.instance))?;
-    put_text(object, "kind", kind_of(finding))?;
+    put_kind(object, each.kind)?;
     put_numbers(object, mib, finding)?;
     put_words(alloc, object, "words", &FindingWords { mib, finding })
+}
+
+/// Puts a kind and its severity.
+fn put_kind(object: &mut Writer, kind: Kind) -> Result<(), AllocError> {
+    put_text(object, "kind", kind.word)?;
+    put_text(object, "severity", kind.severity.word())
 }
 
 /// Puts the numbers that a finding names.
@@ -131,14 +141,92 @@ fn put_unused(
 
 /// Puts a finding of a trace.
 fn put_trace(alloc: Global, object: &mut Writer, found: TraceFinding) -> Result<(), AllocError> {
-    put_number(object, "line", found.line)?;
-    put_text(object, "kind", found.fault.kind())?;
-    match found.fault {
-        TraceFault::Faulty(fault) => put_number(object, "fault", u64::from(fault.code()))?,
-        TraceFault::Refused(result) => {
-            put_number(object, "result", u64::from(result))?;
-            put_text(object, "result_name", result_name(result))?;
+    if let Some(line) = found.line {
+        put_number(object, "line", line)?;
+    }
+    put_kind(object, found.kind())?;
+    put_named(alloc, object, found.fault)?;
+    put_words(alloc, object, "words", &found.fault)
+}
+
+/// Puts what a finding of a trace names.
+fn put_named(alloc: Global, object: &mut Writer, fault: TraceFault) -> Result<(), AllocError> {
+    match fault {
+        TraceFault::Empty => Ok(()),
+        TraceFault::Faulty { head, fault } => {
+            put_head(object, head)?;
+            put_number(object, "fault", u64::from(fault.code()))
+        }
+        TraceFault::Refused { head, code, why } => {
+            put_head(object, head)?;
+            put_number(object, "result", u64::from(code))?;
+            put_text(object, "result_name", result_name(code))?;
+            put_words(alloc, object, "why_words", &why)
+        }
+        TraceFault::NotModelled { missing, messages } => {
+            put_missing(object, missing)?;
+            put_number(object, "messages", messages)
+        }
+        TraceFault::Bridged { mapper, uni } => {
+            put_number(object, "mapper", u64::from(mapper))?;
+            match uni {
+                Some(uni) => put_number(object, "uni", u64::from(uni)),
+                None => Ok(()),
+            }
+        }
+        TraceFault::EntryNotHeld { table, key } | TraceFault::CopyOfNoTag { table, key } => {
+            put_key(alloc, object, table, key)
+        }
+        TraceFault::EntryOverwritten { table, key, set_by } => {
+            put_key(alloc, object, table, key)?;
+            put_number(object, "set_by", set_by)
         }
     }
-    put_words(alloc, object, "words", &found.fault)
+}
+
+/// Puts what the model doesn't have.
+fn put_missing(object: &mut Writer, missing: Missing) -> Result<(), AllocError> {
+    match missing {
+        Missing::Class(class) => put_class(object, class),
+        Missing::Action(action) => put_action(object, action),
+    }
+}
+
+/// Puts what a message says of itself.
+fn put_head(object: &mut Writer, head: Head) -> Result<(), AllocError> {
+    if let Some(action) = head.action {
+        put_action(object, action)?;
+    }
+    if let Some(class) = head.class {
+        put_class(object, class)?;
+    }
+    match head.instance {
+        Some(instance) => put_number(object, "instance", u64::from(instance)),
+        None => Ok(()),
+    }
+}
+
+/// Puts an action: `action_code`, and `action`, its name, where it has one.
+fn put_action(object: &mut Writer, action: Action) -> Result<(), AllocError> {
+    put_number(object, "action_code", u64::from(action.code()))?;
+    match action_name(action) {
+        Some(name) => put_text(object, "action", name),
+        None => Ok(()),
+    }
+}
+
+/// Puts a class, and its name where it is a common one.
+fn put_class(object: &mut Writer, class: u16) -> Result<(), AllocError> {
+    put_number(object, "class", u64::from(class))?;
+    match standard_class_name(class) {
+        Some(name) => put_text(object, "class_name", name),
+        None => Ok(()),
+    }
+}
+
+/// Puts a table and a key, in 16 hexadecimal digits.
+fn put_key(alloc: Global, object: &mut Writer, table: u16, key: u64) -> Result<(), AllocError> {
+    put_number(object, "table", u64::from(table))?;
+    let digits = format!(in alloc; "{key:016x}")?;
+    put_text(object, "key", &digits)
 }

@@ -4,24 +4,6 @@ use explain_findings::Finding;
 use mib_state::Mib;
 use std::fmt;
 
-/// The word for the kind of a finding.
-pub(crate) fn kind_of(finding: Finding) -> &'static str {
-    match finding {
-        Finding::SecondMapper { .. } => "second-mapper",
-        Finding::SecondTable { .. } => "second-table",
-        Finding::PortDrops { .. } | Finding::PortCarriesNone { .. } => "port-drops-all",
-        Finding::NullPointer { .. } => "null-pointer",
-        Finding::MissingInterwork { .. }
-        | Finding::MissingMapper { .. }
-        | Finding::MissingGemPort { .. } => "pointer-to-nothing",
-        Finding::UncarriedPriority { .. } => "priority-not-carried",
-        Finding::UnusedEntry { .. } => "entry-never-used",
-        Finding::NotUpstream { .. } => "not-upstream",
-        Finding::SharedPortId { .. } => "port-id-used-twice",
-        Finding::Unreached { .. } => "not-reached",
-    }
-}
-
 /// The number of the entry at a place of a table, in the order in which entries are tried.
 pub(crate) fn entry_number(mib: &Mib, table: u16, place: usize) -> Option<usize> {
     let vlan = mib.vlan(table)?;

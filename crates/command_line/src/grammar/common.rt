@@ -2,7 +2,7 @@
 ghost use Rattle.std.specs.Prelude.{◌≡◌, Ok, false};
 ghost use Rattle.clap.specs.Words.{App, Rule, Text, new_app, rule_of, with_rule};
 ghost use Rattle.clap.specs.declared.builder.value_parser.ValueParser.TheVariants.{NonEmptyString};
-ghost use Rattle.command_line.specs.Grammar.{IsCommand, at_port, json, numbered, optional, over_files, over_trace, port, shown_after, strict, trace, until, valued};
+ghost use Rattle.command_line.specs.Grammar.{IsCommand, at_port, json, numbered, optional, over_files, over_trace, port, several, shown_after, strict, trace, until, valued};
 
 use clap::builder::ValueParser;
 use clap::{Arg, ArgAction, Command, value_parser};
@@ -63,6 +63,19 @@ pub(super) fn optional<'a>(
         .value_name(value)
         .action(ArgAction::Set)
         .value_parser(parser)
+        .help(help)
+}
+
+/// An option that may be given several times, with a text that isn't empty.
+pub(super) fn several<'a>(alloc: Global, name: &'a str, value: &'a str, help: &'a str) -> Arg<'a>
+    ensures rule { rule_of result ≡ several name.entry.now }
+    ensures local { result.global ≡ false }
+{
+    Arg::new(alloc, name)
+        .long(name)
+        .value_name(value)
+        .action(ArgAction::Append)
+        .value_parser(ValueParser::NonEmptyString)
         .help(help)
 }
 

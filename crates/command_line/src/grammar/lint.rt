@@ -1,8 +1,9 @@
 //! The words of `lint`.
 ghost use Rattle.command_line.specs.Grammar.{IsCommand, lint};
 
-use crate::grammar::common::shown_after;
+use crate::grammar::common::{optional, several, shown_after, with_arg};
 use clap::Command;
+use clap::builder::ValueParser;
 use std::alloc::{AllocError, Global};
 
 pub(super) fn lint<'a>(alloc: Global) -> Result<Command<'a>, AllocError>
@@ -10,6 +11,22 @@ pub(super) fn lint<'a>(alloc: Global) -> Result<Command<'a>, AllocError>
 {
     let alone = Command::new(alloc, "lint")
         .about("Say what is suspect in a trace and in the entities after it")
-        .after_help("Example: onuctl lint --trace up.script");
-    shown_after(alloc, alone)
+        .after_help(
+            "Kinds and their severities: onuctl help findings\nStatus: 3 where a finding is of the severity of --fail-on, or worse\nExample: onuctl lint --trace up.script\nExample: onuctl lint --trace up.script --ignore not-reached --fail-on warning",
+        );
+    let ignore = several(
+        alloc,
+        "ignore",
+        "KIND",
+        "Leave findings of this kind out; may be given several times [example: not-reached]",
+    );
+    let fail_on = optional(
+        alloc,
+        "fail-on",
+        "SEVERITY",
+        "Severity from which on findings give status 3: error, warning or note; error without it [example: warning]",
+        ValueParser::NonEmptyString,
+    );
+    let with_ignore = with_arg(shown_after(alloc, alone), ignore);
+    with_arg(with_ignore, fail_on)
 }

@@ -1,25 +1,11 @@
 //! The words of `record`.
 ghost use Rattle.std.specs.Prelude.{◌≡◌, false};
 ghost use Rattle.clap.specs.Words.{rule_of};
-ghost use Rattle.command_line.specs.Grammar.{IsCommand, milliseconds, of_captures, recording, several};
+ghost use Rattle.command_line.specs.Grammar.{IsCommand, milliseconds, of_captures, recording};
 
-use crate::grammar::common::{optional, with_arg};
-use clap::builder::ValueParser;
-use clap::{Arg, ArgAction, Command, value_parser};
+use crate::grammar::common::{optional, several, with_arg};
+use clap::{Arg, Command, value_parser};
 use std::alloc::{AllocError, Global};
-
-/// An option that may be given several times, with a text that isn't empty.
-fn several<'a>(alloc: Global, name: &'a str, value: &'a str, help: &'a str) -> Arg<'a>
-    ensures rule { rule_of result ≡ several name.entry.now }
-    ensures local { result.global ≡ false }
-{
-    Arg::new(alloc, name)
-        .long(name)
-        .value_name(value)
-        .action(ArgAction::Append)
-        .value_parser(ValueParser::NonEmptyString)
-        .help(help)
-}
 
 /// An option with a number of milliseconds, which may be left out.
 fn milliseconds<'a>(alloc: Global, name: &'a str, help: &'a str) -> Arg<'a>
