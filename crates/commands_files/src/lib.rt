@@ -8,8 +8,10 @@ mod files;
 mod outputs;
 mod pieces;
 mod reports;
+mod script_input;
 mod traces;
 mod unread;
+mod written;
 
 pub use captures::{
     Naming, cut_frames, explain_fault, next_frame, open_frames, packets_of, report_capture,
@@ -19,5 +21,7 @@ pub use files::{open_named, read_whole, refuse_twice, report_file, report_unread
 pub use outputs::{Output, Taken, create_output};
 pub use pieces::{Capture, History, read_capture, read_history};
 pub use reports::{report_decoding, report_text, report_value, without_memory};
-pub use traces::{Linted, apply_linted, apply_trace};
+pub use script_input::{ScriptInput, open_script};
+pub use traces::{Linted, apply_linted, apply_trace, read_trace, report_bad_line};
 pub use unread::{Silenced, Unread, Watched};
+pub use written::{line_of, script_of};

@@ -9,6 +9,7 @@ use std::os::unix::fs::FileExt;
 use std::rt::Files;
 use std::thread::Threads;
 use std::{io, thread};
+use text_encode::without_mark;
 
 /// From how many bytes on a file is read by several threads.
 const LARGE: u64 = 1 << 23;
@@ -119,6 +120,14 @@ pub enum History {
     Whole(Vec<u8>),
 }
 
+/// Drops the byte order mark in front of a text.
+fn drop_mark(text: &mut Vec<u8>) {
+    let len = text.len();
+    let left = without_mark(text).len().min(len);
+    text.copy_within(len - left..len, 0);
+    text.truncate(left);
+}
+
 /// The history in a file. It is opened once too.
 pub fn read_history<R: Files<File = File> + Alloc<A = Global> + Threads + Sync>(
     rt: &R,
@@ -126,7 +135,10 @@ pub fn read_history<R: Files<File = File> + Alloc<A = Global> + Threads + Sync>(
 ) -> io::Result<History> {
     let mut file = open_named(rt, path)?;
     if is_large(&file)? {
-        let parts = read_parts(rt, &file)?;
+        let mut parts = read_parts(rt, &file)?;
+        if let Some(first) = parts.first_mut() {
+            drop_mark(first);
+        }
         let pieces = bench_history::Pieces::join(rt.alloc(), parts)?;
         return Ok(History::InPieces(pieces));
     }

@@ -1,11 +1,14 @@
 //! A script as the trace of a command: its messages are carried out, and those that weren't are counted.
 use crate::files::{read_whole, report_unread};
 use crate::reports::without_memory;
+use crate::written::{line_of, script_of};
 use command_words::TraceWords;
 use script_trace::{Applied, Faulty, Refused, ScriptFault, apply_script};
 use std::alloc::{AllocError, Global};
 use std::io::Write;
 use std::rt::Files;
+use text_encode::without_mark;
+use text_messages::find_script_mistake;
 use text_writing::{LookFault, Status, report_look};
 
 /// How many lines are named at most.
@@ -103,19 +106,22 @@ pub struct Linted {
     pub applied: Applied,
 }
 
-/// Reads a trace whole, or gives the status where it can't be read.
-fn read_trace<R: Files + Alloc<A = Global>, E: Write>(
+/// The trace in a file: a script, or what words in it ask for; or the status where it can't be had. Why is written to `err`.
+pub fn read_trace<R: Files + Alloc<A = Global>, E: Write>(
     rt: &R,
-    words: &TraceWords<'_>,
+    name: &str,
     err: &mut E,
 ) -> Result<Vec<u8>, Status> {
-    match read_whole(rt, words.file) {
-        Ok(script) => {
-            report_until(&script, words, err);
-            Ok(script)
-        }
-        Err(error) => Err(report_unread(&error, b"cannot read trace\n", words.file, err)),
+    match read_whole(rt, name) {
+        Ok(text) => script_of(rt.alloc(), text, err),
+        Err(error) => Err(report_unread(&error, b"cannot read trace\n", name, err)),
     }
+}
+
+/// Says what is wrong in a line of a trace, by its number from 1.
+pub fn report_bad_line<E: Write>(script: &[u8], number: u64, err: &mut E) {
+    let mistake = find_script_mistake(line_of(script, number));
+    let _ = writeln!(err, "{mistake}");
 }
 
 /// Carries out the messages of a script, and gives what they leave, or the status where a line is bad.
@@ -125,9 +131,14 @@ fn apply_read<E: Write>(
     words: &TraceWords<'_>,
     err: &mut E,
 ) -> Result<Applied, Status> {
+    report_until(script, words, err);
     match apply_script(alloc, script, words.until.map(u64::from)) {
         Ok(applied) => Ok(applied),
-        Err(ScriptFault::BadLine(line)) => Err(report_look(&Err(LookFault::BadTrace(line)), err)),
+        Err(ScriptFault::BadLine(line)) => {
+            let status = report_look(&Err(LookFault::BadTrace(line)), err);
+            report_bad_line(script, line, err);
+            Err(status)
+        }
         Err(ScriptFault::NoMemory) => Err(without_memory(err)),
     }
 }
@@ -139,7 +150,7 @@ pub fn apply_trace<R: Files + Alloc<A = Global>, E: Write>(
     words: &TraceWords<'_>,
     err: &mut E,
 ) -> Result<Applied, Status> {
-    let script = read_trace(rt, words, err)?;
+    let script = read_trace(rt, words.file, err)?;
     apply_saying(rt.alloc(), &script, words, "; onuctl lint says why", err)
 }
 
@@ -149,7 +160,7 @@ pub fn apply_linted<R: Files + Alloc<A = Global>, E: Write>(
     words: &TraceWords<'_>,
     err: &mut E,
 ) -> Result<Linted, Status> {
-    let script = read_trace(rt, words, err)?;
+    let script = read_trace(rt, words.file, err)?;
     let applied = apply_saying(rt.alloc(), &script, words, "", err)?;
     Ok(Linted { script, applied })
 }

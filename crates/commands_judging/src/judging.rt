@@ -1,13 +1,15 @@
 //! Whether a right unit may have done what a history says.
+use crate::mistakes::find_history_mistake;
 use crate::progress::Shown;
 use bench_judge::{JudgeFault, JudgeSettings, Judgement, judge_pieces, judge_watched};
 use command_words::JudgeWords;
-use commands_files::{History, read_history, report_unread};
+use commands_files::{History, read_history, read_whole, report_unread};
 use std::alloc::Global;
 use std::fs::File;
 use std::io::{ErrorKind, IsTerminal, Read, Write};
 use std::rt::Files;
 use std::thread::Threads;
+use text_encode::without_mark;
 use text_judgements::{write_judgement, write_judgement_json};
 use text_writing::{LookFault, Status, TextFault, report_look};
 
@@ -77,7 +79,7 @@ fn judge_shown<'a, E: Write + IsTerminal>(
     };
     let mut shown = Shown::new(err);
     let found = match history {
-        History::Whole(text) => judge_watched(alloc, text, &settings, &mut shown),
+        History::Whole(text) => judge_watched(alloc, without_mark(text), &settings, &mut shown),
         History::InPieces(pieces) => judge_pieces(alloc, pieces, &settings, &mut shown),
     };
     shown.end();
@@ -103,6 +105,29 @@ fn judge_text<O: Write, E: Write + IsTerminal>(
     }
 }
 
+/// Says what is wrong in a bad line of a history. One that is held in pieces is read again, if it can be.
+fn report_bad_line<R: Files + Alloc<A = Global>, E: Write>(
+    rt: &R,
+    words: &JudgeWords,
+    history: &History,
+    line: u64,
+    err: &mut E,
+) {
+    let read = match (history, words.file) {
+        (History::Whole(text), _) => {
+            let mistake = find_history_mistake(text, line);
+            let _ = writeln!(err, "{mistake}");
+            return;
+        }
+        (History::InPieces(_), Some(path)) => read_whole(rt, path),
+        (History::InPieces(_), None) => return,
+    };
+    if let Ok(text) = read {
+        let mistake = find_history_mistake(&text, line);
+        let _ = writeln!(err, "{mistake}");
+    }
+}
+
 /// Reads a history whole, from its file or from `input`, and writes what it shows to `out`, and why nothing, or not all, to `err`. It
 /// gives the status.
 pub fn judge_history<
@@ -117,6 +142,12 @@ pub fn judge_history<
     };
     match judge_text(rt.alloc(), words, &history, out, err) {
         Ok(status) => status,
-        Err(fault) => report_look(&Err(fault), err),
+        Err(fault) => {
+            let status = report_look(&Err(fault), err);
+            if let LookFault::BadLine(line) = fault {
+                report_bad_line(rt, words, &history, line, err);
+            }
+            status
+        }
     }
 }

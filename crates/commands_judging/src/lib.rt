@@ -4,6 +4,7 @@
 #![tactic(auto)]
 
 mod judging;
+mod mistakes;
 mod progress;
 
 pub use judging::judge_history;

@@ -1,11 +1,15 @@
 //! What the lines of a script mean.
 use command_words::DecodeWords;
-use commands_files::report_decoding;
+use commands_files::{open_script, report_decoding};
 use std::alloc::Global;
 use std::io::{Read, Write};
 use text_encode::decode_source;
 use text_messages::{decode, decode_json};
 use text_writing::Status;
+
+/// What is said of two options that don't go together, in the form of the other words that are refused.
+const TOGETHER: &[u8] =
+    b"error: the argument '--source' cannot be used with '--json'\n\nFor more information, try '--help'.\n";
 
 /// Writes what each line of the script on the input means to `out`, as text, as JSON or in the words that `encode` reads, and why not
 /// all of them to `err`. It gives the status.
@@ -16,12 +20,20 @@ pub fn decode_script<I: Read, O: Write, E: Write>(
     out: &mut O,
     err: &mut E,
 ) -> Status {
+    if words.source && words.json {
+        let _ = err.write_all(TOGETHER);
+        return Status::Failed;
+    }
+    let mut script = match open_script(alloc, input, err) {
+        Ok(script) => script,
+        Err(status) => return status,
+    };
     let outcome = if words.source {
-        decode_source(alloc, input, out)
+        decode_source(alloc, &mut script, out)
     } else if words.json {
-        decode_json(alloc, input, out)
+        decode_json(alloc, &mut script, out)
     } else {
-        decode(alloc, input, out)
+        decode(alloc, &mut script, out)
     };
     report_decoding(outcome, err)
 }

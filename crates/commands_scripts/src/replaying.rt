@@ -1,9 +1,9 @@
 //! A script answered.
-use commands_files::report_decoding;
+use commands_files::{ScriptInput, open_script, report_decoding};
 use script_replay::{ReplayFault, replay, report_replay};
 use std::alloc::Global;
 use std::io::{Read, Write};
-use text_messages::decode_json;
+use text_messages::{decode_json, find_script_mistake};
 use text_writing::Status;
 
 /// Answers the script on the input, and writes the answers to `out`, as lines or as an object each, and why not all to `err`. It gives
@@ -15,30 +15,43 @@ pub fn replay_script<I: Read, O: Write, E: Write>(
     out: &mut O,
     err: &mut E,
 ) -> Status {
+    let mut script = match open_script(alloc, input, err) {
+        Ok(script) => script,
+        Err(status) => return status,
+    };
     if json {
-        return replay_as_json(alloc, input, out, err);
+        return replay_as_json(alloc, &mut script, out, err);
     }
-    let outcome = replay(alloc, input, out);
-    report_end(&outcome, err)
+    let outcome = replay(alloc, &mut script, out);
+    report_end(&outcome, &script, err)
 }
 
-/// Says how a replay ended, if it didn't end well, and gives the status.
-fn report_end<E: Write>(outcome: &Result<(), ReplayFault>, err: &mut E) -> Status {
-    Status::of(report_replay(outcome, err))
+/// Says how the replay of a script ended, if it didn't end well, and what is wrong in a bad line, and gives the status.
+fn report_end<I: Read, E: Write>(
+    outcome: &Result<(), ReplayFault>,
+    script: &ScriptInput<'_, I>,
+    err: &mut E,
+) -> Status {
+    let status = Status::of(report_replay(outcome, err));
+    if let (Err(ReplayFault::BadLine(_)), Some(line)) = (outcome, script.bad_line()) {
+        let mistake = find_script_mistake(line);
+        let _ = writeln!(err, "{mistake}");
+    }
+    status
 }
 
 /// Writes an object for each answer. The answers are held until the script ends.
 fn replay_as_json<I: Read, O: Write, E: Write>(
     alloc: Global,
-    reader: &mut I,
+    script: &mut ScriptInput<'_, I>,
     out: &mut O,
     err: &mut E,
 ) -> Status {
     let mut answers = Vec::new(alloc);
-    let outcome = replay(alloc, reader, &mut answers);
+    let outcome = replay(alloc, script, &mut answers);
     let mut lines: &[u8] = &answers;
     let written = report_decoding(decode_json(alloc, &mut lines, out), err);
-    match report_end(&outcome, err) {
+    match report_end(&outcome, script, err) {
         Status::Done => written,
         status => status,
     }
