@@ -6,9 +6,9 @@ Answer OMCI messages and forward Ethernet frames, as an optical network unit doe
 Usage: onuctl <COMMAND>
 
 Commands:
-  replay   Answer the script on standard input, line by line, on standard output
+  replay   Answer a script, line by line, on standard output
   run      Forward the frames of a capture on several lanes while a trace is applied
-  decode   Say what each line of the script or of the answers on standard input means
+  decode   Say what each line of a script or of its answers means
   mib      Show the managed entities after a trace
   rules    Show the VLAN tagging table in force at a port after a trace
   explain  Say step by step what becomes of one frame after a trace
@@ -29,22 +29,26 @@ Numbers in words: onuctl help reasons, onuctl help results, onuctl help faults, 
 # Of each command.
 COMMANDS = {
     "replay": """\
-Answer the script on standard input, line by line, on standard output
+Answer a script, line by line, on standard output
 
-Usage: onuctl replay [OPTIONS]
+Usage: onuctl replay [OPTIONS] [FILE]
+
+Arguments:
+  [FILE]  Script, or words for one, a file; standard input without it [example: up.script]
 
 Options:
       --json  Show it as JSON, for other programs; has no value [example: --json]
   -h, --help  Print help
 
-Example: onuctl replay < examples/replay/one_frame.script""",
+Status: 0, 1 or 2; onuctl help statuses says when
+Example: onuctl replay examples/replay/one_frame.script""",
     "run": """\
 Forward the frames of a capture on several lanes while a trace is applied
 
 Usage: onuctl run [OPTIONS] --trace <FILE> --frames <FILE> --port <PORT> --lanes <COUNT> --batch <FRAMES>
 
 Options:
-      --trace <FILE>    Script whose messages are applied, a file [example: up.script]
+      --trace <FILE>    Script, or words for one, whose messages are applied, a file [example: up.script]
       --frames <FILE>   Capture of the frames, a file in libpcap's classic format or in pcapng [example: up.pcap]
       --port <PORT>     Port at which frames come in, 0 to 65535 [example: 257]
       --lanes <COUNT>   Lanes that forward side by side, 1 to 16 [example: 4]
@@ -55,28 +59,33 @@ Options:
 
 Example: onuctl run --trace up.script --frames up.pcap --port 257 --lanes 4 --batch 1024""",
     "decode": """\
-Say what each line of the script or of the answers on standard input means
+Say what each line of a script or of its answers means
 
-Usage: onuctl decode [OPTIONS]
+Usage: onuctl decode [OPTIONS] [FILE]
+
+Arguments:
+  [FILE]  Script, or words for one, a file; standard input without it [example: up.script]
 
 Options:
       --source  Write the lines of a script in the words that encode reads; has no value [example: --source]
       --json    Show it as JSON, for other programs; has no value [example: --json]
   -h, --help    Print help
 
-Example: onuctl decode < examples/replay/one_frame.script""",
+Status: 0, 1 or 2; onuctl help statuses says when
+Example: onuctl decode examples/replay/one_frame.script""",
     "mib": """\
 Show the managed entities after a trace
 
 Usage: onuctl mib [OPTIONS] --trace <FILE>
 
 Options:
-      --trace <FILE>  Script whose messages are applied, a file [example: up.script]
+      --trace <FILE>  Script, or words for one, whose messages are applied, a file [example: up.script]
       --until <LINE>  Stop behind this line of the trace, from 1 [example: 20]
       --strict        Stop where a message of the trace has a fault or is refused; has no value [example: --strict]
       --json          Show it as JSON, for other programs; has no value [example: --json]
   -h, --help          Print help
 
+Status: 0, 1 or 2; onuctl help statuses says when
 Example: onuctl mib --trace up.script""",
     "rules": """\
 Show the VLAN tagging table in force at a port after a trace
@@ -84,13 +93,14 @@ Show the VLAN tagging table in force at a port after a trace
 Usage: onuctl rules [OPTIONS] --trace <FILE> --port <PORT>
 
 Options:
-      --trace <FILE>  Script whose messages are applied, a file [example: up.script]
+      --trace <FILE>  Script, or words for one, whose messages are applied, a file [example: up.script]
       --until <LINE>  Stop behind this line of the trace, from 1 [example: 20]
       --strict        Stop where a message of the trace has a fault or is refused; has no value [example: --strict]
       --json          Show it as JSON, for other programs; has no value [example: --json]
       --port <PORT>   Port at which frames come in, 0 to 65535 [example: 257]
   -h, --help          Print help
 
+Status: 0, 1 or 2; onuctl help statuses says when
 Example: onuctl rules --trace up.script --port 257""",
     "explain": """\
 Say step by step what becomes of one frame after a trace
@@ -101,7 +111,7 @@ Arguments:
   [HEX]  Bytes of the frame, from the destination address on, in hexadecimal digits
 
 Options:
-      --trace <FILE>    Script whose messages are applied, a file [example: up.script]
+      --trace <FILE>    Script, or words for one, whose messages are applied, a file [example: up.script]
       --until <LINE>    Stop behind this line of the trace, from 1 [example: 20]
       --strict          Stop where a message of the trace has a fault or is refused; has no value [example: --strict]
       --json            Show it as JSON, for other programs; has no value [example: --json]
@@ -112,6 +122,7 @@ Options:
   -h, --help            Print help
 
 The frame is given by its bytes, or by a capture and its number there.
+Status: 0, 1 or 2; onuctl help statuses says when
 Example: onuctl explain --trace up.script --port 257 0200000000010200000000028100a0640800
 Example: onuctl explain --trace up.script --port 257 --frames up.pcap --frame 7""",
     "lint": """\
@@ -120,7 +131,7 @@ Say what is suspect in a trace and in the entities after it
 Usage: onuctl lint [OPTIONS] --trace <FILE>
 
 Options:
-      --trace <FILE>        Script whose messages are applied, a file [example: up.script]
+      --trace <FILE>        Script, or words for one, whose messages are applied, a file [example: up.script]
       --until <LINE>        Stop behind this line of the trace, from 1 [example: 20]
       --strict              Stop where a message of the trace has a fault or is refused; has no value [example: --strict]
       --json                Show it as JSON, for other programs; has no value [example: --json]
@@ -138,12 +149,13 @@ Draw how the managed entities after a trace point to each other, for Graphviz
 Usage: onuctl graph [OPTIONS] --trace <FILE>
 
 Options:
-      --trace <FILE>  Script whose messages are applied, a file [example: up.script]
+      --trace <FILE>  Script, or words for one, whose messages are applied, a file [example: up.script]
       --until <LINE>  Stop behind this line of the trace, from 1 [example: 20]
       --strict        Stop where a message of the trace has a fault or is refused; has no value [example: --strict]
       --port <PORT>   Port whose entities are shown, 0 to 65535; all without it [example: 257]
   -h, --help          Print help
 
+Status: 0, 1 or 2; onuctl help statuses says when
 Example: onuctl graph --trace up.script | dot -Tsvg""",
     "judge": """\
 Say whether a right unit may have done what a history says
@@ -159,7 +171,7 @@ Options:
       --json       Show it as JSON, for other programs; has no value [example: --json]
   -h, --help       Print help
 
-Status: 0 if it may, 3 if not, 2 for a bad line; onuctl help statuses says the others
+Status: 0 if it may, 3 if not, 1 or 2; onuctl help statuses says when
 Example: onuctl judge bench.history""",
     "forward": """\
 Forward the frames of a capture after a trace, and say what becomes of each
@@ -167,7 +179,7 @@ Forward the frames of a capture after a trace, and say what becomes of each
 Usage: onuctl forward [OPTIONS] --trace <FILE> --frames <FILE> --port <PORT>
 
 Options:
-      --trace <FILE>     Script whose messages are applied, a file [example: up.script]
+      --trace <FILE>     Script, or words for one, whose messages are applied, a file [example: up.script]
       --frames <FILE>    Capture of the frames, a file in libpcap's classic format or in pcapng [example: up.pcap]
       --port <PORT>      Port at which frames come in, 0 to 65535 [example: 257]
       --out <FILE>       Write the frames that leave to this file, as pcapng; - is standard output [example: left.pcapng]
@@ -193,6 +205,7 @@ Options:
   -h, --help               Print help
 
 Captures are files in libpcap's classic format or in pcapng. Each of --omci, --into, --out-of and --tpid may be given several times.
+Status: 0, 1 or 2; onuctl help statuses says when
 Example: onuctl record --omci omci.pcap --into 257=up.pcap --out-of 1024=gem.pcap | onuctl judge""",
     "encode": """\
 Make a script of a text in words
@@ -214,9 +227,10 @@ A line in words is a line of the script; `#` begins a remark. Numbers are decima
   frame PORT dst=MAC src=MAC tag=TPID:PRIORITY:DEI:VID type=TYPE dscp=N length=N payload=HEX
   o HEX | f PORT HEX | raw HEX
 Classes are gem-port, interwork, mapper, vlan, onu-data. A message takes id=N and quiet.
-FILTER: tags=0|1|2, default, pcp=, vid=, tpid=, dei=, outer(..), inner(..), type=
+FILTER: tags=0|1|2, default, predefined, pcp=, vid=, tpid=, dei=, outer(..), inner(..), type=
 TREATMENT: drop, or remove=N outer(pcp= vid= tpid= dei=) inner(..)
-Status: 0, or 2 where the text has mistakes, each said with line and column; then no script is written.
+A text with mistakes, each said with line and column, makes no script.
+Status: 0, 1 or 2; onuctl help statuses says when
 Example: onuctl encode up.onu | onuctl replay""",
 }
 

@@ -111,8 +111,16 @@ history = record (new_rule (codes "history")) {
   parser = Some NonEmptyString;
 }
 
+-- a file with a script, which may be left out
+abbrev pub script : Rule
+script = record (new_rule (codes "script")) {
+  action = Some Set;
+  value_names = 1;
+  parser = Some NonEmptyString;
+}
+
 abbrev pub replay : App
-replay = with_rule (new_app (codes "replay")) json
+replay = with_rule (with_rule (new_app (codes "replay")) json) script
 
 -- what names the two files and a port
 abbrev pub over_files : Text → App
@@ -132,7 +140,7 @@ abbrev pub source : Rule
 source = flag (codes "source")
 
 abbrev pub decode : App
-decode = with_rule (with_rule (new_app (codes "decode")) source) json
+decode = with_rule (with_rule (with_rule (new_app (codes "decode")) source) json) script
 
 -- what names a trace, how far it is read, and whether each message has to be carried out
 abbrev pub over_trace : Text → App

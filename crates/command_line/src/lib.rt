@@ -1,6 +1,7 @@
 //! The words of the command line: the grammar that they follow, and what they ask for by it.
 #![tactic(auto)]
 
+mod forms;
 mod grammar;
 mod parsing;
 mod version;
@@ -10,4 +11,5 @@ pub use command_words::{
     LintWords, MibWords, NumberedFile, RecordWords, ReplayWords, RulesWords, RunWords, TraceWords,
     Words, read_numbered, read_tpid, report_words,
 };
+pub use forms::usual_words;
 pub use parsing::read_words;

@@ -40,6 +40,7 @@ pub record IsFlag (name : Text) (rows : List Row) (given : Bool) : Type 0 where
 
 -- those behind `replay`
 pub record IsReplay (rows : List Row) (words : ReplayWords) : Type 0 where
+  pub file : first_of (codes "script") rows ≡ option_map (λ (name : _). name.now) words.file
   pub json : IsFlag (codes "json") rows words.json
 
 -- the values of the options behind `run`
@@ -123,6 +124,7 @@ pub record IsRecord (rows : List Row) (words : RecordWords) : Type 0 where
 
 -- those behind `decode`
 pub record IsDecode (rows : List Row) (words : DecodeWords) : Type 0 where
+  pub file : first_of (codes "script") rows ≡ option_map (λ (name : _). name.now) words.file
   pub source : IsFlag (codes "source") rows words.source
   pub json : IsFlag (codes "json") rows words.json
 

@@ -25,10 +25,11 @@ use run_settings::RunSettings;
 use std::alloc::{AllocError, Global};
 
 /// What the words behind `replay` ask for.
-fn read_replay(given: &ArgMatches<'_>) -> ReplayWords
+fn read_replay<'a>(given: &ArgMatches<'a>) -> ReplayWords<'a>
     ensures { IsReplay (rows_of (found_of given.now)) result }
 {
     ReplayWords {
+        file: given.get_str("script"),
         json: given.get_flag("json"),
     }
 }
@@ -202,10 +203,11 @@ fn read_judge<'a>(given: &ArgMatches<'a>) -> JudgeWords<'a>
 }
 
 /// What the words behind `decode` ask for.
-fn read_decode(given: &ArgMatches<'_>) -> DecodeWords
+fn read_decode<'a>(given: &ArgMatches<'a>) -> DecodeWords<'a>
     ensures { IsDecode (rows_of (found_of given.now)) result }
 {
     DecodeWords {
+        file: given.get_str("script"),
         source: given.get_flag("source"),
         json: given.get_flag("json"),
     }

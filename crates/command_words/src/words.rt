@@ -4,12 +4,12 @@ use run_settings::RunSettings;
 /// What the words of the command line ask for. The names of files lie in the words.
 #[derive(Drop)]
 pub enum Words<'a> {
-    /// A replay of the script on standard input.
-    Replay(ReplayWords),
+    /// A replay of a script.
+    Replay(ReplayWords<'a>),
     /// A run over two files.
     Run(RunWords<'a>),
-    /// What each line on standard input means.
-    Decode(DecodeWords),
+    /// What each line of a script or of answers means.
+    Decode(DecodeWords<'a>),
     /// The managed entities after a trace.
     Mib(MibWords<'a>),
     /// The table in force at a port after a trace.
@@ -32,14 +32,18 @@ pub enum Words<'a> {
 
 /// How `replay` is to answer.
 #[derive(Clone, Copy)]
-pub struct ReplayWords {
+pub struct ReplayWords<'a> {
+    /// The file with the script, or None for standard input.
+    pub file: Option<&'a str>,
     /// Whether the answers are shown as JSON.
     pub json: bool,
 }
 
 /// How `decode` is to say what lines mean.
 #[derive(Clone, Copy)]
-pub struct DecodeWords {
+pub struct DecodeWords<'a> {
+    /// The file with the lines, or None for standard input.
+    pub file: Option<&'a str>,
     /// Whether it says them in the words that `encode` reads.
     pub source: bool,
     /// Whether it says them as JSON.

@@ -3,8 +3,8 @@ use bench_capture::{CaptureFileFault, NextFrameFault};
 use bench_pcapng::is_pcapng;
 use command_words::RunWords;
 use commands_files::{
-    Capture, Naming, cut_frames, explain_fault, packets_of, read_capture, read_whole,
-    refuse_twice, report_capture, report_cut, report_text, report_unread,
+    Capture, Naming, cut_frames, explain_fault, packets_of, read_capture, read_trace, refuse_twice,
+    report_bad_line, report_capture, report_cut, report_text, report_unread,
 };
 use omci_msg::Request;
 use run_capture::{FrameSource, RunFault, report_run, run_frames};
@@ -15,6 +15,7 @@ use std::io::{IsTerminal, Write};
 use std::rt::{Clock, Files};
 use std::sync::Wait;
 use std::thread::Threads;
+use text_encode::without_mark;
 use text_runs::write_run_json;
 use text_writing::Status;
 
@@ -33,12 +34,15 @@ fn report<E: Write>(outcome: &Result<(), RunFault>, path: &str, err: &mut E) -> 
 }
 
 /// Says why a trace isn't run, and gives the status.
-fn report_trace<E: Write>(fault: ScriptFault, err: &mut E) -> Status {
-    let why = match fault {
-        ScriptFault::BadLine(line) => RunFault::BadTrace(line),
-        ScriptFault::NoMemory => RunFault::NoMemory,
-    };
-    report_end(&Err(why), err)
+fn report_trace<E: Write>(fault: ScriptFault, trace: &[u8], err: &mut E) -> Status {
+    match fault {
+        ScriptFault::BadLine(line) => {
+            let status = report_end(&Err(RunFault::BadTrace(line)), err);
+            report_bad_line(trace, line, err);
+            status
+        }
+        ScriptFault::NoMemory => report_end(&Err(RunFault::NoMemory), err),
+    }
 }
 
 /// Says why the packets of a capture aren't run over, and gives the status.
@@ -118,17 +122,18 @@ fn run_lines<
     if let Err(status) = refuse_twice(&[words.trace, words.frames], err) {
         return status;
     }
-    let trace = match read_whole(rt, words.trace) {
+    let trace = match read_trace(rt, words.trace, err) {
         Ok(trace) => trace,
-        Err(error) => return report_unread(&error, b"cannot read trace\n", words.trace, err),
+        Err(status) => return status,
     };
     let capture = match read_capture(rt, words.frames) {
         Ok(capture) => capture,
         Err(error) => return report_unread(&error, b"cannot read frames\n", words.frames, err),
     };
-    let requests = match read_requests(rt.alloc(), &trace) {
+    let script = without_mark(&trace);
+    let requests = match read_requests(rt.alloc(), script) {
         Ok(requests) => requests,
-        Err(fault) => return report_trace(fault, err),
+        Err(fault) => return report_trace(fault, script, err),
     };
     let status = run_over_capture(rt, words, &requests, &capture, out, err);
     if status == Status::Done && err.is_terminal() {

@@ -1,14 +1,33 @@
 //! A script answered.
-use commands_files::{ScriptInput, open_script, report_decoding};
+use command_words::ReplayWords;
+use commands_files::{ScriptInput, open_named, open_script, report_decoding, report_file};
 use script_replay::{ReplayFault, replay, report_replay};
 use std::alloc::Global;
 use std::io::{Read, Write};
+use std::rt::Files;
 use text_messages::{decode_json, find_script_mistake};
 use text_writing::Status;
 
-/// Answers the script on the input, and writes the answers to `out`, as lines or as an object each, and why not all to `err`. It gives
-/// the status.
-pub fn replay_script<I: Read, O: Write, E: Write>(
+/// Answers the script in a file, or on the input, and writes the answers to `out`, as lines or as an object each, and why not all to
+/// `err`. It gives the status.
+pub fn replay_script<R: Files + Alloc<A = Global>, I: Read, O: Write, E: Write>(
+    rt: &R,
+    words: &ReplayWords,
+    input: &mut I,
+    out: &mut O,
+    err: &mut E,
+) -> Status {
+    let Some(path) = words.file else {
+        return replay_read(rt.alloc(), words.json, input, out, err);
+    };
+    match open_named(rt, path) {
+        Ok(mut file) => replay_read(rt.alloc(), words.json, &mut file, out, err),
+        Err(error) => report_file(error.kind(), "read", path, err),
+    }
+}
+
+/// The same of a script that is read.
+fn replay_read<I: Read, O: Write, E: Write>(
     alloc: Global,
     json: bool,
     input: &mut I,

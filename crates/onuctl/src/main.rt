@@ -1,7 +1,7 @@
 //! onuctl answers OMCI messages, and forwards Ethernet frames upstream, as an optical network unit does.
 #![tactic(auto)]
 
-use command_line::{Words, read_words, report_words};
+use command_line::{Words, read_words, report_words, usual_words};
 use commands_captures::{forward, record};
 use commands_files::Unread;
 use commands_judging::judge_history;
@@ -18,13 +18,13 @@ use std::thread::Threads;
 use std::{env, io};
 use text_writing::Status;
 
-/// The words of the command line, the program's name first.
+/// The words of the command line, the program's name first, as its grammar has them.
 fn words(rt: &(impl Env + Alloc<A = Global>)) -> io::Result<Vec<String>> {
     let mut words = Vec::new(rt.alloc());
     for word in env::args(rt)? {
         words.push(word)?;
     }
-    Ok(words)
+    Ok(usual_words(rt.alloc(), &words)?)
 }
 
 /// The same, lent.
@@ -53,11 +53,10 @@ fn obey<
     O: Write,
     E: Write + IsTerminal + Send,
 >(rt: &R, words: &Words<'_>, input: &mut I, out: &mut O, err: &mut E) -> Status {
-    let alloc = rt.alloc();
     match words {
-        Words::Replay(words) => replay_script(alloc, words.json, input, out, err),
+        Words::Replay(words) => replay_script(rt, words, input, out, err),
         Words::Run(words) => run(rt, words, out, err),
-        Words::Decode(words) => decode_script(alloc, words, input, out, err),
+        Words::Decode(words) => decode_script(rt, words, input, out, err),
         Words::Encode(words) => encode_text(rt, words, input, out, err),
         Words::Mib(words) => show_mib(rt, words, out, err),
         Words::Rules(words) => show_rules(rt, words, out, err),

@@ -34,7 +34,7 @@ fn run_of<'w>(words: Words<'w>) -> Option<(&'w str, &'w str, RunSettings)> {
 #[test]
 fn words_ask_for_a_replay_or_a_run(rt: HostRuntime) -> Result<(), Fail> {
     let replay = read_words(rt.alloc(), &["onuctl", "replay"])?;
-    holds!(rt; matches!(replay, Words::Replay(ReplayWords { json: false })));
+    holds!(rt; matches!(replay, Words::Replay(ReplayWords { file: None, json: false })));
     for (words, port, lanes, batch, after) in [
         (&run_words("257", "2", "4")[..], 257, 2, 4, false),
         (&run_words("0", "1", "1")[..], 0, 1, 1, false),

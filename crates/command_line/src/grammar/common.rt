@@ -2,7 +2,7 @@
 ghost use Rattle.std.specs.Prelude.{◌≡◌, Ok, false};
 ghost use Rattle.clap.specs.Words.{App, Rule, Text, new_app, rule_of, with_rule};
 ghost use Rattle.clap.specs.declared.builder.value_parser.ValueParser.TheVariants.{NonEmptyString};
-ghost use Rattle.command_line.specs.Grammar.{IsCommand, at_port, json, numbered, optional, over_files, over_trace, port, several, shown_after, strict, trace, until, valued};
+ghost use Rattle.command_line.specs.Grammar.{IsCommand, at_port, json, numbered, optional, over_files, over_trace, port, script, several, shown_after, strict, trace, until, valued};
 
 use clap::builder::ValueParser;
 use clap::{Arg, ArgAction, Command, value_parser};
@@ -96,8 +96,20 @@ pub(super) fn trace<'a>(alloc: Global) -> Arg<'a>
     file(
         alloc,
         "trace",
-        "Script whose messages are applied, a file [example: up.script]",
+        "Script, or words for one, whose messages are applied, a file [example: up.script]",
     )
+}
+
+/// The file with a script, for a command that reads standard input without it.
+pub(super) fn script<'a>(alloc: Global) -> Arg<'a>
+    ensures rule { rule_of result ≡ script }
+    ensures local { result.global ≡ false }
+{
+    Arg::new(alloc, "script")
+        .value_name("FILE")
+        .action(ArgAction::Set)
+        .value_parser(ValueParser::NonEmptyString)
+        .help("Script, or words for one, a file; standard input without it [example: up.script]")
 }
 
 pub(super) fn port<'a>(alloc: Global) -> Arg<'a>

@@ -3,7 +3,7 @@ ghost use Rattle.std.specs.Prelude.{◌≡◌, false};
 ghost use Rattle.clap.specs.Words.{rule_of};
 ghost use Rattle.command_line.specs.Grammar.{IsCommand, decode, source};
 
-use crate::grammar::common::{json, with_arg};
+use crate::grammar::common::{json, script, with_arg};
 use clap::{Arg, ArgAction, Command};
 use std::alloc::{AllocError, Global};
 
@@ -24,8 +24,11 @@ pub(super) fn decode<'a>(alloc: Global) -> Result<Command<'a>, AllocError>
     ensures { IsCommand result decode }
 {
     let alone = Command::new(alloc, "decode")
-        .about("Say what each line of the script or of the answers on standard input means")
-        .after_help("Example: onuctl decode < examples/replay/one_frame.script");
+        .about("Say what each line of a script or of its answers means")
+        .after_help(
+            "Status: 0, 1 or 2; onuctl help statuses says when\nExample: onuctl decode examples/replay/one_frame.script",
+        );
     let of_words = with_arg(Ok(alone), source(alloc));
-    with_arg(of_words, json(alloc))
+    let shown = with_arg(of_words, json(alloc));
+    with_arg(shown, script(alloc))
 }

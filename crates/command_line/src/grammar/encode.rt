@@ -45,9 +45,10 @@ const LANGUAGE: &str =
   frame PORT dst=MAC src=MAC tag=TPID:PRIORITY:DEI:VID type=TYPE dscp=N length=N payload=HEX
   o HEX | f PORT HEX | raw HEX
 Classes are gem-port, interwork, mapper, vlan, onu-data. A message takes id=N and quiet.
-FILTER: tags=0|1|2, default, pcp=, vid=, tpid=, dei=, outer(..), inner(..), type=
+FILTER: tags=0|1|2, default, predefined, pcp=, vid=, tpid=, dei=, outer(..), inner(..), type=
 TREATMENT: drop, or remove=N outer(pcp= vid= tpid= dei=) inner(..)
-Status: 0, or 2 where the text has mistakes, each said with line and column; then no script is written.
+A text with mistakes, each said with line and column, makes no script.
+Status: 0, 1 or 2; onuctl help statuses says when
 Example: onuctl encode up.onu | onuctl replay";
 
 pub(super) fn encode<'a>(alloc: Global) -> Result<Command<'a>, AllocError>

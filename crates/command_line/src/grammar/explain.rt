@@ -38,7 +38,7 @@ fn of_bytes<'a>(alloc: Global) -> Result<Command<'a>, AllocError>
     let alone = Command::new(alloc, "explain")
         .about("Say step by step what becomes of one frame after a trace")
         .after_help(
-            "The frame is given by its bytes, or by a capture and its number there.\nExample: onuctl explain --trace up.script --port 257 0200000000010200000000028100a0640800\nExample: onuctl explain --trace up.script --port 257 --frames up.pcap --frame 7",
+            "The frame is given by its bytes, or by a capture and its number there.\nStatus: 0, 1 or 2; onuctl help statuses says when\nExample: onuctl explain --trace up.script --port 257 0200000000010200000000028100a0640800\nExample: onuctl explain --trace up.script --port 257 --frames up.pcap --frame 7",
         );
     let each = with_arg(at_port(alloc, alone), all(alloc));
     with_arg(each, bytes(alloc))

@@ -27,6 +27,8 @@ pub(super) fn graph<'a>(alloc: Global) -> Result<Command<'a>, AllocError>
 {
     let alone = Command::new(alloc, "graph")
         .about("Draw how the managed entities after a trace point to each other, for Graphviz")
-        .after_help("Example: onuctl graph --trace up.script | dot -Tsvg");
+        .after_help(
+            "Status: 0, 1 or 2; onuctl help statuses says when\nExample: onuctl graph --trace up.script | dot -Tsvg",
+        );
     with_arg(over_trace(alloc, alone), any_port(alloc))
 }

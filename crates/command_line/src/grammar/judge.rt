@@ -52,7 +52,7 @@ pub(super) fn judge<'a>(alloc: Global) -> Result<Command<'a>, AllocError>
     let alone = Command::new(alloc, "judge")
         .about("Say whether a right unit may have done what a history says")
         .after_help(
-            "Status: 0 if it may, 3 if not, 2 for a bad line; onuctl help statuses says the others\nExample: onuctl judge bench.history",
+            "Status: 0 if it may, 3 if not, 1 or 2; onuctl help statuses says when\nExample: onuctl judge bench.history",
         );
     let of_model = with_arg(Ok(alone), modelled(alloc));
     let of_order = with_arg(of_model, unordered(alloc));

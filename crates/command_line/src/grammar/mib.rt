@@ -10,6 +10,8 @@ pub(super) fn mib<'a>(alloc: Global) -> Result<Command<'a>, AllocError>
 {
     let alone = Command::new(alloc, "mib")
         .about("Show the managed entities after a trace")
-        .after_help("Example: onuctl mib --trace up.script");
+        .after_help(
+            "Status: 0, 1 or 2; onuctl help statuses says when\nExample: onuctl mib --trace up.script",
+        );
     shown_after(alloc, alone)
 }

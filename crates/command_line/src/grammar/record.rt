@@ -23,7 +23,7 @@ fn of_captures<'a>(alloc: Global) -> Result<Command<'a>, AllocError>
     let alone = Command::new(alloc, "record")
         .about("Write the history that captures of one clock show, for judge")
         .after_help(
-            "Captures are files in libpcap's classic format or in pcapng. Each of --omci, --into, --out-of and --tpid may be given several times.\nExample: onuctl record --omci omci.pcap --into 257=up.pcap --out-of 1024=gem.pcap | onuctl judge",
+            "Captures are files in libpcap's classic format or in pcapng. Each of --omci, --into, --out-of and --tpid may be given several times.\nStatus: 0, 1 or 2; onuctl help statuses says when\nExample: onuctl record --omci omci.pcap --into 257=up.pcap --out-of 1024=gem.pcap | onuctl judge",
         );
     let omci = several(
         alloc,

@@ -10,6 +10,8 @@ pub(super) fn rules<'a>(alloc: Global) -> Result<Command<'a>, AllocError>
 {
     let alone = Command::new(alloc, "rules")
         .about("Show the VLAN tagging table in force at a port after a trace")
-        .after_help("Example: onuctl rules --trace up.script --port 257");
+        .after_help(
+            "Status: 0, 1 or 2; onuctl help statuses says when\nExample: onuctl rules --trace up.script --port 257",
+        );
     at_port(alloc, alone)
 }
