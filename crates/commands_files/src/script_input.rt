@@ -27,6 +27,9 @@ pub struct ScriptInput<'r, I> {
 fn says_something(front: &[u8]) -> bool {
     let mut rest = without_mark(front);
     for _ in 0..front.len() {
+        if rest.is_empty() {
+            break;
+        }
         let (line, behind) = first_line(rest);
         if line.len() == rest.len() {
             return false;

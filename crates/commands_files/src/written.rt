@@ -10,7 +10,13 @@ use text_writing::{LookFault, Status, report_look};
 pub fn line_of(text: &[u8], number: u64) -> &[u8] {
     let mut rest = without_mark(text);
     for _ in 1..number {
+        if rest.is_empty() {
+            break;
+        }
         rest = first_line(rest).1;
+    }
+    if rest.is_empty() {
+        return rest;
     }
     first_line(rest).0
 }

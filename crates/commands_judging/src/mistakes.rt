@@ -122,6 +122,9 @@ fn lines_above(text: &[u8], line: u64, frame: Option<u64>) -> Above {
     };
     let mut rest = text;
     for number in 1..line {
+        if rest.is_empty() {
+            break;
+        }
         let (found, behind) = first_line(rest);
         match found {
             [b'f', ..] => above.frames = above.frames.saturating_add(1),
@@ -220,7 +223,13 @@ fn in_wait(content: &[u8], text: &[u8], line: u64) -> HistoryMistake {
 fn line_of(text: &[u8], number: u64) -> &[u8] {
     let mut rest = text;
     for _ in 1..number {
+        if rest.is_empty() {
+            break;
+        }
         rest = first_line(rest).1;
+    }
+    if rest.is_empty() {
+        return rest;
     }
     first_line(rest).0
 }
