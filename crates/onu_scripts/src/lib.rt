@@ -8,7 +8,6 @@ mod decoding;
 mod encoding;
 mod looking;
 mod making;
-mod tracing;
 
 pub use decoding::decode_into;
 pub use encoding::encode_into;

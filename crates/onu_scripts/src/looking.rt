@@ -1,7 +1,6 @@
 //! What the messages of a trace leave.
 ghost use Rattle.onu_scripts.specs.Looking.{LooksInto};
 
-use crate::tracing::trace_findings;
 use explain_findings::findings;
 use onu_cell::{BAD_LINE, NO_MEMORY, SMALL};
 use onu_texts::put;
@@ -9,7 +8,7 @@ use script_trace::{Applied, ScriptFault, apply_script};
 use std::alloc::Global;
 use text_entities::write_mib_json;
 use text_explanations::{Traced, write_rules_json};
-use text_findings::write_findings_json;
+use text_findings::{trace_findings, with_kinds, write_findings_json};
 use text_writing::TextFault;
 
 /// What is shown after a trace.
@@ -24,10 +23,15 @@ enum Look {
 }
 
 /// Writes what is wrong with the managed entities, and with the messages that led to them.
-fn write_lint(alloc: Global, applied: &Applied, text: &mut Vec<u8>) -> Result<(), TextFault> {
+fn write_lint(
+    alloc: Global,
+    trace: &[u8],
+    applied: &Applied,
+    text: &mut Vec<u8>,
+) -> Result<(), TextFault> {
     let mib = &applied.mib;
-    let found = findings(alloc, mib)?;
-    let of_trace = trace_findings(alloc, applied)?;
+    let found = with_kinds(alloc, mib, &findings(alloc, mib)?)?;
+    let of_trace = trace_findings(alloc, trace, None)?;
     write_findings_json(alloc, mib, &found, &of_trace, text)
 }
 
@@ -35,6 +39,7 @@ fn write_lint(alloc: Global, applied: &Applied, text: &mut Vec<u8>) -> Result<()
 fn write_look(
     alloc: Global,
     look: Look,
+    trace: &[u8],
     applied: &Applied,
     text: &mut Vec<u8>,
 ) -> Result<(), TextFault> {
@@ -44,7 +49,7 @@ fn write_look(
     };
     match look {
         Look::Mib => write_mib_json(alloc, &applied.mib, text),
-        Look::Findings => write_lint(alloc, applied, text),
+        Look::Findings => write_lint(alloc, trace, applied, text),
         Look::Rules(port) => write_rules_json(alloc, &traced, port, text),
     }
 }
@@ -71,7 +76,7 @@ fn look_into(
         Err(ScriptFault::NoMemory) => return NO_MEMORY,
     };
     let mut text = Vec::new(alloc);
-    if write_look(alloc, look, &applied, &mut text).is_err() {
+    if write_look(alloc, look, trace, &applied, &mut text).is_err() {
         return NO_MEMORY;
     }
     if put(&text, room, written) { 0 } else { SMALL }
