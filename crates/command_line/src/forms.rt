@@ -9,7 +9,7 @@ const NUMBERED: &[&str] = &["--port", "--id"];
 const OVER_TRACES: &[&str] = &["mib", "rules", "graph", "lint"];
 
 /// The options of these that have a value, in the word behind them.
-const VALUED: &[&str] = &["--trace", "--until", "--port"];
+const VALUED: &[&str] = &["--trace", "--until", "--port", "--ignore", "--fail-on"];
 
 /// The commands whose file stands without an option, and the option that it may have.
 const OVER_FILES: &[(&str, &str)] = &[
