@@ -94,7 +94,7 @@ class Helps:
         own = ask("--help")
         self.program = Help(own)
         self.commands = {name: Help(ask("help", name)) for name in self.program.commands}
-        topics = [line for line in own.splitlines() if line.startswith("Numbers in words: ")]
+        topics = [line for line in own.splitlines() if line.startswith(("Numbers in words: ", "Kinds of findings: "))]
         self.topics = {name: Topic(ask("help", name)) for line in topics for name in TOPIC.findall(line)}
         self.version = ask("--version").rstrip("\n")
 

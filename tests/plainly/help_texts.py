@@ -24,7 +24,8 @@ Options:
   -h, --help     Print help
   -V, --version  Print version
 
-Numbers in words: onuctl help reasons, onuctl help results, onuctl help faults, onuctl help statuses"""
+Numbers in words: onuctl help reasons, onuctl help results, onuctl help faults, onuctl help statuses
+Kinds of findings: onuctl help findings"""
 
 # Of each command.
 COMMANDS = {

@@ -41,7 +41,7 @@ pub fn onuctl<'a>(alloc: Global) -> Result<Command<'a>, AllocError>
         .version(VERSION)
         .about("Answer OMCI messages and forward Ethernet frames, as an optical network unit does")
         .after_help(
-            "Numbers in words: onuctl help reasons, onuctl help results, onuctl help faults, onuctl help statuses",
+            "Numbers in words: onuctl help reasons, onuctl help results, onuctl help faults, onuctl help statuses\nKinds of findings: onuctl help findings",
         )
         .subcommand_required(true)
         .arg_required_else_help(true);
