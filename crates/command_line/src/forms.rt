@@ -82,17 +82,22 @@ fn stands_alone(before: &str, word: &str) -> bool {
     !VALUED.contains(&before) && (word == "-" || !word.starts_with('-') && !word.is_empty())
 }
 
+/// Whether a word is this one.
+fn is_word(word: &str, wanted: &str) -> bool {
+    word == wanted
+}
+
 /// A file behind the option that it may have, where its command has it without.
 fn file_form(alloc: Global, command: &str, word: &str) -> Result<Form, AllocError> {
     for (name, option) in OVER_FILES {
         if *name != command {
             continue;
         }
-        if word == *option {
+        if is_word(word, option) {
             return Ok(Form::Nothing);
         }
-        if let Some(rest) = word.strip_prefix(option)
-            && let Some(file) = rest.strip_prefix("=")
+        if let Some((given, file)) = word.split_once("=")
+            && is_word(given, option)
         {
             return joined(alloc, file, "");
         }
