@@ -493,7 +493,7 @@ static void words_become_a_script(void) {
 
 static void a_script_is_decoded(void) {
     is_made(onu_decode, "# remark\nd 5\n-\n", 0,
-            "{\"format\":1,\"line\":1,\"kind\":\"remark\"}\n"
+            "{\"format\":1,\"line\":1,\"kind\":\"remark\",\"text\":\"# remark\"}\n"
             "{\"format\":1,\"line\":2,\"kind\":\"dropped\",\"reason\":5,\"words\":\"the port has no mapper\"}\n"
             "{\"format\":1,\"line\":3,\"kind\":\"no_answer\"}\n");
     is_made(onu_decode, "# remark\nf 257 0g\nx\n", 1, "line 2, column 8: found 'g', expected a hexadecimal digit\n");
@@ -522,7 +522,8 @@ static void what_a_trace_leaves_is_shown(void) {
     is_shown(onu_mib, "f 257 00\n",
              "{\"format\":1,\"mib_data_sync\":0,\"entities\":["
              "{\"class\":2,\"class_name\":\"ONUdata\",\"instance\":0,\"attributes\":{\"MIBdatasync\":0}}]}");
-    is_shown(onu_lint, "", "{\"format\":1,\"findings\":[]}");
+    is_shown(onu_lint, "",
+             "{\"format\":1,\"findings\":[{\"kind\":\"empty-trace\",\"severity\":\"warning\",\"words\":\"ithasnomessage\"}]}");
     is_shown(rules_at_257, "", "{\"format\":1,\"port\":257,\"table\":{\"points_to\":\"none\"},\"entries\":[]}");
     /* Each message counts: four are accepted, and one more is refused. */
     trace[0] = 0;

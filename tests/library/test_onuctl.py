@@ -434,9 +434,9 @@ class GivenTest(unittest.TestCase):
             self.assertEqual(replay(kind(b"f 257 00\n")), b"d 1\n")
             self.assertTrue(judge(kind(b"# remark\n")).explained)
             self.assertEqual(encode(kind(b"# remark\n")), "# remark\n")
-            self.assertEqual(decode(kind(b"# remark\n")), [{"format": 1, "line": 1, "kind": "remark"}])
+            self.assertEqual(decode(kind(b"# remark\n")), [{"format": 1, "line": 1, "kind": "remark", "text": "# remark"}])
             self.assertEqual(mib(kind(b"# remark\n"))["mib_data_sync"], 0)
-            self.assertEqual(lint(kind(b"# remark\n")), [])
+            self.assertEqual([each["kind"] for each in lint(kind(b"# remark\n"))], ["empty-trace"])
             self.assertEqual(rules(kind(b"# remark\n"), 257)["entries"], [])
             self.unit.message(message("00094f0a00020000"))
 
