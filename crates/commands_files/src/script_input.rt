@@ -11,6 +11,9 @@ use text_writing::{LookFault, Status, report_look};
 /// The bytes in which the first word of a script is looked for.
 const FRONT: usize = 65_536;
 
+/// The room for what is held: it is taken before the first read. More is held only where a reader asks for more at once.
+const HELD: usize = 1 << 18;
+
 /// A script that is read. It gives what its reader gives, or the script that words ask for. What was read last is held, up from the
 /// beginning of a line, so that a line that is bad can be shown.
 #[derive(Drop)]
@@ -21,6 +24,8 @@ pub struct ScriptInput<'r, I> {
     /// How many bytes of that are given.
     given: usize,
     held: Vec<u8>,
+    /// Whether a part couldn't be held for want of memory.
+    lost: bool,
 }
 
 /// Whether the front of a script has the whole of a line that says something.
@@ -86,11 +91,15 @@ pub fn open_script<'r, I: Read, E: Write>(
         front = script_of(alloc, front, err)?;
     }
     let given = front.len().saturating_sub(without_mark(&front).len());
+    let Ok(held) = Vec::with_capacity(alloc, HELD) else {
+        return Err(without_memory(err));
+    };
     Ok(ScriptInput {
         reader,
         front,
         given,
-        held: Vec::new(alloc),
+        held,
+        lost: false,
     })
 }
 
@@ -107,6 +116,9 @@ impl<I> ScriptInput<'_, I> {
 
     /// The first line of those held that is bad, without its line feed.
     pub fn bad_line(&self) -> Option<&[u8]> {
+        if self.lost {
+            return None;
+        }
         let mut buffer = [0; MOST_SPELLED];
         let mut rest = self.held.as_slice();
         for _ in 0..self.held.len() {
@@ -136,7 +148,9 @@ impl<I: Read> Read for ScriptInput<'_, I> {
             self.given = self.given.saturating_add(count);
             count
         };
-        self.hold(buffer.get(..count).unwrap_or(&[]))?;
+        if self.hold(buffer.get(..count).unwrap_or(&[])).is_err() {
+            self.lost = true;
+        }
         Ok(count)
     }
 }
