@@ -200,18 +200,18 @@ class GemPort(Step):
     instance: int
     port_id: int
     direction: int
-    direction_words: str
+    direction_words: Optional[str]
 
 
 class Verdict(Step):
-    """What becomes of the frame: it leaves by a GEM port, or is dropped for a reason. ``line`` is what a replay answers."""
+    """What becomes of the frame: it leaves by a GEM port, or is dropped for a reason. ``answer`` is the line that a replay answers."""
 
     verdict: Literal["forward", "drop"]
     gem: Optional[int]
     frame: Optional[str]
     reason: Optional[int]
     words: Optional[str]
-    line: str
+    answer: str
 
 
 CLASSES: Dict[str, Type[Step]] = {

@@ -350,7 +350,7 @@ static void a_frame_is_explained(void) {
     CHECK(room[written] == 0xee);
     room[written] = 0;
     CHECK(strstr((char *)room, "\"step\":\"table\"") != NULL);
-    CHECK(strstr((char *)room, "\"line\":\"g 1024 " AD "8100006408004500\"") != NULL);
+    CHECK(strstr((char *)room, "\"answer\":\"g 1024 " AD "8100006408004500\"") != NULL);
     /* In a room of just its size, and in one that is a byte too small. */
     memset(other, 0xee, sizeof other);
     CHECK(onu_explain(&cell, 257, bytes, n, other, written, &needed) == 0 && needed == written);

@@ -182,7 +182,7 @@ class UnitTest(unittest.TestCase):
         self.unit.message(message(TO_100))
         said = self.unit.explain(257, frame("0800 4500"))
         self.assertEqual(said[0]["step"], "table")
-        self.assertEqual(said[-1]["line"], "g 1024 " + ADDRESSES + "8100006408004500")
+        self.assertEqual(said[-1]["answer"], "g 1024 " + ADDRESSES + "8100006408004500")
         # A long explanation: a table of 100 entries of which none is for the frame.
         for vid in range(1, 100):
             entry = (15 << 28 | 8 << 24).to_bytes(4, "big") + (8 << 28 | vid << 15).to_bytes(4, "big") + bytes.fromhex("400f000000080644")
@@ -400,7 +400,7 @@ class StepTest(unittest.TestCase):
     def test_a_step_is_a_dict(self) -> None:
         with Unit() as unit:
             last = unit.explain(257, frame("0800 4500"))[-1]
-        wanted = {"step": "verdict", "verdict": "drop", "reason": 5, "words": "the port has no mapper", "line": "d 5"}
+        wanted = {"step": "verdict", "verdict": "drop", "reason": 5, "words": "the port has no mapper", "answer": "d 5"}
         self.assertEqual(last, wanted)
         self.assertEqual(json.loads(json.dumps(last)), wanted)
         assert isinstance(last, steps.Verdict)
@@ -430,7 +430,7 @@ class GivenTest(unittest.TestCase):
             left = self.unit.forward(257, kind(sent))
             assert isinstance(left, Forwarded)
             self.assertEqual((left, type(left.frame)), (Forwarded(1024, frame("81000064 0800 4500")), bytes))
-            self.assertEqual(self.unit.explain(257, kind(sent))[-1]["line"], "g 1024 " + ADDRESSES + "8100006408004500")
+            self.assertEqual(self.unit.explain(257, kind(sent))[-1]["answer"], "g 1024 " + ADDRESSES + "8100006408004500")
             self.assertEqual(replay(kind(b"f 257 00\n")), b"d 1\n")
             self.assertTrue(judge(kind(b"# remark\n")).explained)
             self.assertEqual(encode(kind(b"# remark\n")), "# remark\n")

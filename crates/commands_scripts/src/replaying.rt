@@ -1,12 +1,33 @@
 //! A script answered.
 use command_words::ReplayWords;
-use commands_files::{ScriptInput, open_named, open_script, report_decoding, report_file};
+use commands_files::{ScriptInput, open_named, open_script, report_file, report_text};
 use script_replay::{ReplayFault, replay, report_replay};
 use std::alloc::Global;
-use std::io::{Read, Write};
+use std::io::{self, Read, Write};
 use std::rt::Files;
-use text_messages::{decode_json, find_script_mistake};
-use text_writing::Status;
+use text_answers::write_answers_json;
+use text_messages::find_script_mistake;
+use text_writing::{Status, TextFault};
+
+/// A script that is read, with all that was read of it.
+#[derive(Drop)]
+struct KeptScript<'s, 'r, I> {
+    script: &'s mut ScriptInput<'r, I>,
+    kept: Vec<u8>,
+    /// Whether a part couldn't be kept for want of memory.
+    lost: bool,
+}
+
+impl<I: Read> Read for KeptScript<'_, '_, I> {
+    fn read(&mut self, buffer: &mut [u8]) -> io::Result<usize> {
+        let count = self.script.read(buffer)?;
+        let piece = buffer.get(..count).unwrap_or(&[]);
+        if self.kept.extend_from_slice(piece).is_err() {
+            self.lost = true;
+        }
+        Ok(count)
+    }
+}
 
 /// Answers the script in a file, or on the input, and writes the answers to `out`, as lines or as an object each, and why not all to
 /// `err`. It gives the status.
@@ -59,7 +80,7 @@ fn report_end<I: Read, E: Write>(
     status
 }
 
-/// Writes an object for each answer. The answers are held until the script ends.
+/// Writes an object for each answer. The script and its answers are held until the script ends.
 fn replay_as_json<I: Read, O: Write, E: Write>(
     alloc: Global,
     script: &mut ScriptInput<'_, I>,
@@ -67,10 +88,18 @@ fn replay_as_json<I: Read, O: Write, E: Write>(
     err: &mut E,
 ) -> Status {
     let mut answers = Vec::new(alloc);
-    let outcome = replay(alloc, script, &mut answers);
-    let mut lines: &[u8] = &answers;
-    let written = report_decoding(decode_json(alloc, &mut lines, out), err);
-    match report_end(&outcome, script, err) {
+    let mut reading = KeptScript {
+        script,
+        kept: Vec::new(alloc),
+        lost: false,
+    };
+    let outcome = replay(alloc, &mut reading, &mut answers);
+    if reading.lost {
+        return report_text(Err(TextFault::NoMemory), err);
+    }
+    let lines = write_answers_json(alloc, &reading.kept, &answers, out);
+    let written = report_text(lines, err);
+    match report_end(&outcome, reading.script, err) {
         Status::Done => written,
         status => status,
     }

@@ -4,7 +4,7 @@ use frame_meaning::Reason;
 use omci_msg::MsgFault;
 use std::alloc::{AllocError, Global};
 use std::io::Write;
-use text_findings::put_kinds;
+use text_finding_kinds::put_kinds;
 use text_messages::result_name;
 use text_writing::{LookFault, Status, report_look, write_whole};
 

@@ -10,7 +10,7 @@ use Rattle.mib_state.specs.Step.{create, create_in, delete, delete_in, left}
 use Rattle.frame_meaning.specs.declared.reason.Reason.TheVariants.{NoGem, NullPointer}
 use Rattle.frame_meaning.specs.Meaning.{carries_upstream, gem_port_behind, gem_port_of, mapper_at, port_id_of, table_at}
 use Rattle.pmapper.specs.Mapper.{pointer_of}
-use Rattle.explain_findings.specs.declared.finding.Finding.TheVariants.{MissingGemPort, MissingInterwork, NotUpstream, NullPointer as Null, PortDrops, SecondMapper, SharedPortId, UncarriedPriority, Unreached}
+use Rattle.explain_findings.specs.declared.finding.Finding.TheVariants.{MissingGemPort, MissingInterwork, MissingServiceProfile, NotUpstream, NullPointer as Null, PortDrops, SecondMapper, SharedPortId, UncarriedPriority, Unreached}
 use Rattle.explain_findings.specs.Reach.{ports, priorities, reached_gem_ports, reached_mappers, reached_points, reached_tables}
 use Rattle.explain_findings.specs.Drops.{port_drops}
 use Rattle.explain_findings.specs.Findings.{class_findings, findings, instance_findings}
@@ -68,6 +68,18 @@ second : findings (and_then (and_then led (mapper 0x0600 1 0x05 0x99 0x05 0x01))
     ∷ NotUpstream 0x0402 2 ∷ SharedPortId 0x0402 1024 0x0401 ∷ Unreached class.GemPort 0x0402 ∷ []
 unfolding findings class_findings instance_findings port_drops ports reached_mappers reached_tables reached_points reached_gem_ports create create_in mapper_at table_at pointer_of gem_port_of gem_port_behind port_id_of carries_upstream
 second = refl
+
+-- the mapper is gone, to which the point's service profile pointer leads
+unserved : findings (and_then led (request Delete 130 0x0601 []))
+    ≡ MissingServiceProfile 0x0501 0x0601 ∷ Unreached class.Interwork 0x0501 ∷ Unreached class.GemPort 0x0401 ∷ []
+unfolding findings class_findings instance_findings port_drops ports reached_mappers reached_tables reached_points reached_gem_ports create create_in delete delete_in mapper_at table_at pointer_of gem_port_of gem_port_behind port_id_of carries_upstream
+unserved = refl
+
+-- of a point of another option, here MAC bridge service, nothing is said of its service profile pointer
+bridged : findings (and_then (and_then led (request Delete 130 0x0601 [])) (request Create 266 0x0502 (0x04 ∷ 0x01 ∷ 0x01 ∷ 0x06 ∷ 0x01 ∷ [])))
+    ≡ MissingServiceProfile 0x0501 0x0601 ∷ Unreached class.Interwork 0x0501 ∷ Unreached class.Interwork 0x0502 ∷ Unreached class.GemPort 0x0401 ∷ []
+unfolding findings class_findings instance_findings port_drops ports reached_mappers reached_tables reached_points reached_gem_ports create create_in delete delete_in mapper_at table_at pointer_of gem_port_of gem_port_behind port_id_of carries_upstream
+bridged = refl
 
 -- ---- the graph
 

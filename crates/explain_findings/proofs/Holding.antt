@@ -34,7 +34,7 @@ use Rattle.explain_findings.specs.declared.finding.Finding.{Finding}
 use Rattle.explain_findings.specs.declared.finding.Finding.TheVariants as finding
 use Rattle.explain_findings.specs.Reach.{numbers, port_of_mapper, port_of_table, priorities, reached_gem_ports, reached_mappers, reached_points, reached_tables}
 use Rattle.explain_findings.specs.Drops.{common_reason, discards_all, entries_reason, is_discard, lacks_by, lets_none, port_drops, port_drops_by, routes, table_reason, uncarried, by_common}
-use Rattle.explain_findings.specs.Findings.{another, class_findings, drops_at_mapper, drops_at_table, findings, findings_of, first_of_port_id, gem_port_findings, has_port_id, instance_findings, interwork_findings, is_alone_at, is_number, mapper_findings, missing_gem_port, missing_mapper, not_upstream, port_by_table, pointer_finding, priority_finding, second_mapper, second_mapper_by, second_table, second_table_by, shared_by, shared_port_id, table_findings, uncarried_by, unreached, unused_by, unused_entry}
+use Rattle.explain_findings.specs.Findings.{another, class_findings, drops_at_mapper, drops_at_table, findings, findings_of, first_of_port_id, gem_port_findings, has_port_id, instance_findings, interwork_findings, is_alone_at, is_number, mapper_findings, missing_gem_port, missing_mapper, missing_service_profile, not_upstream, option_mapper, port_by_table, pointer_finding, priority_finding, second_mapper, second_mapper_by, second_table, second_table_by, shared_by, shared_port_id, table_findings, uncarried_by, unreached, unused_by, unused_entry}
 use Rattle.explain_findings.specs.Claims.{Claims, DropsBy, drops, holds_rules, is_by}
 use Rattle.explain_findings.proofs.Lists.{all_found, all_given, all_joined, all_mapped, find_all, find_passes, has}
 use Rattle.explain_findings.proofs.Tables.{entry_within}
@@ -258,10 +258,22 @@ module _ (e : Entities) (rules : holds_rules e ≡ true) (i : Instance) where
       where_so (Claims e) (is_none (find (attribute_number 1 i) e.gem_ports)) _ (λ so.
       record { instance = i; found = is; points = refl; missing = none-is (find (attribute_number 1 i) e.gem_ports) so })
 
+  missing_service_profile_holds : find i.number e.interworks ≡ Some i → IfSome (missing_service_profile e i) (Claims e)
+  missing_service_profile_holds is =
+      where_so (Claims e) (attribute_number 2 i == option_mapper && is_none (find (attribute_number 3 i) e.mappers)) _ (λ so.
+      let parts = and_parts (attribute_number 2 i == option_mapper) _ so in
+      record {
+        instance = i;
+        found = is;
+        option = eqb-true (attribute_number 2 i) option_mapper parts.0;
+        points = refl;
+        missing = none-is (find (attribute_number 3 i) e.mappers) parts.1;
+      })
+
   interwork_holds : find i.number e.interworks ≡ Some i → All (Claims e) (interwork_findings e i)
   interwork_holds is =
-      all_found (Claims e) (missing_gem_port e i ∷ unreached class.Interwork i.number (reached_points e) ∷ [])
-      (missing_gem_port_holds is, (unreached_holds e class.Interwork i.number rules, tt))
+      all_found (Claims e) (missing_gem_port e i ∷ missing_service_profile e i ∷ unreached class.Interwork i.number (reached_points e) ∷ [])
+      (missing_gem_port_holds is, (missing_service_profile_holds is, (unreached_holds e class.Interwork i.number rules, tt)))
 
   not_upstream_holds : find i.number e.gem_ports ≡ Some i → IfSome (not_upstream i) (Claims e)
   not_upstream_holds is = by_case (carries_upstream i) refl

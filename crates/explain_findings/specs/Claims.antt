@@ -29,7 +29,7 @@ use Rattle.explain.specs.Steps.{explained, told_used}
 use Rattle.explain_findings.specs.declared.finding.Finding.{Finding}
 use Rattle.explain_findings.specs.declared.finding.Finding.TheVariants as finding
 use Rattle.explain_findings.specs.Reach.{port_of_mapper}
-use Rattle.explain_findings.specs.Findings.{findings, has_port_id, port_by_table}
+use Rattle.explain_findings.specs.Findings.{findings, has_port_id, option_mapper, port_by_table}
 
 -- ---- what is said of entities and frames in general
 
@@ -154,6 +154,14 @@ pub record LacksGemPort (e : Entities) (point pointer : ℕ) : Type 0 where
   pub points : attribute_number 1 instance ≡ pointer
   pub missing : find pointer e.gem_ports ≡ None
 
+-- the interworking option of the point is an 802.1p mapper, and there is none of its service profile pointer
+pub record LacksServiceProfile (e : Entities) (point pointer : ℕ) : Type 0 where
+  pub instance : Instance
+  pub found : find point e.interworks ≡ Some instance
+  pub option : attribute_number 2 instance ≡ option_mapper
+  pub points : attribute_number 3 instance ≡ pointer
+  pub missing : find pointer e.mappers ≡ None
+
 -- the GEM port network CTP has this direction, and carries no frames upstream
 pub record IsNotUpstream (e : Entities) (gem direction : ℕ) : Type 0 where
   pub instance : Instance
@@ -181,6 +189,7 @@ Claims e (finding.UncarriedPriority mapper priority r) = DropsPriority e mapper 
 Claims e (finding.MissingMapper table pointer) = LacksMapper e table pointer
 Claims e (finding.UnusedEntry table place other) = IsUnused e table place other
 Claims e (finding.MissingGemPort point pointer) = LacksGemPort e point pointer
+Claims e (finding.MissingServiceProfile point pointer) = LacksServiceProfile e point pointer
 Claims e (finding.NotUpstream gem direction) = IsNotUpstream e gem direction
 Claims e (finding.SharedPortId gem id first) = SharesPortId e gem id first
 Claims e (finding.Unreached c n) = IsUnreached e c n

@@ -135,9 +135,19 @@ missing_gem_port e point =
     if is_none (find (attribute_number 1 point) e.gem_ports)
     then Some (finding.MissingGemPort point.number (attribute_number 1 point)) else None
 
+-- the interworking option, attribute 2, of a point whose service profile is an 802.1p mapper
+abbrev pub option_mapper : ℕ
+option_mapper = 5
+
+-- its service profile pointer, attribute 3, is that of an 802.1p mapper, and leads to none
+abbrev pub missing_service_profile : Entities → Instance → Option Finding
+missing_service_profile e point =
+    if attribute_number 2 point == option_mapper && is_none (find (attribute_number 3 point) e.mappers)
+    then Some (finding.MissingServiceProfile point.number (attribute_number 3 point)) else None
+
 abbrev pub interwork_findings : Entities → Instance → List Finding
 interwork_findings e point =
-    found (missing_gem_port e point ∷ unreached class.Interwork point.number (reached_points e) ∷ [])
+    found (missing_gem_port e point ∷ missing_service_profile e point ∷ unreached class.Interwork point.number (reached_points e) ∷ [])
 
 -- ---- of a GEM port network CTP (clause 9.2.3)
 

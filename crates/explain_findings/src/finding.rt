@@ -61,6 +61,12 @@ pub enum Finding {
         interwork: u16,
         pointer: u16,
     },
+    /// The interworking option of the GEM interworking termination point is an 802.1p mapper, and its service profile pointer leads
+    /// to none.
+    MissingServiceProfile {
+        interwork: u16,
+        pointer: u16,
+    },
     /// The GEM port network CTP doesn't carry frames upstream: its direction is neither 1 nor 3.
     NotUpstream {
         gem_port: u16,

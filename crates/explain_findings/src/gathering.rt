@@ -17,8 +17,9 @@ use std::alloc::{AllocError, Global};
 /// stand in this order: of a mapper that it stands second, what is found of the port at which it is in force, what is found of
 /// each priority, and that it isn't reached; of a table that it stands second, that its mapper is missing, what is found of its
 /// port where that has no mapper, the entries that are never used in the order in which entries are tried, and that it isn't
-/// reached; of a GEM interworking termination point that its GEM port network CTP is missing, and that it isn't reached; of a GEM
-/// port network CTP its direction, that another has its port-ID, and that it isn't reached. It takes memory for lists alone.
+/// reached; of a GEM interworking termination point that its GEM port network CTP is missing, that its 802.1p mapper is, and that it
+/// isn't reached; of a GEM port network CTP its direction, that another has its port-ID, and that it isn't reached. It takes memory
+/// for lists alone.
 #[tactic(auto, unfolding(crate::specs::Findings::findings))]
 pub fn findings(alloc: Global, mib: &Mib) -> Result<Vec<Finding>, AllocError>
     ensures { IfOk result (λ list. list.items ≡ findings mib.now.entities) }

@@ -2,7 +2,7 @@
 ghost use Rattle.std.specs.Prelude.{◌≡◌, ◌++◌, OnOk};
 ghost use Rattle.managed_entity.specs.Shown.{interwork_instance};
 ghost use Rattle.explain_findings.specs.Reach.{reached};
-ghost use Rattle.explain_findings.specs.Findings.{interwork_findings, missing_gem_port};
+ghost use Rattle.explain_findings.specs.Findings.{interwork_findings, missing_gem_port, missing_service_profile};
 
 use crate::append::{append_all, unreached};
 use crate::finding::Finding;
@@ -11,6 +11,9 @@ use managed_entity::Class;
 use mib_state::Mib;
 use pmapper::Interwork;
 use std::alloc::AllocError;
+
+/// The interworking option of a point whose service profile is an 802.1p mapper.
+const OPTION_MAPPER: u8 = 5;
 
 /// Appends the findings of a GEM interworking termination point.
 #[tactic(auto, unfolding(crate::specs::Reach::reached))]
@@ -26,8 +29,9 @@ pub(crate) fn append_interwork(
         ++ interwork_findings mib.now.entities (interwork_instance number point.now)) }
 {
     let missing = missing_gem_port(mib, number, point);
+    let profile = missing_service_profile(mib, number, point);
     let reached = unreached(Class::Interwork, number, &reach.points);
-    append_all(findings, &[missing, reached])
+    append_all(findings, &[missing, profile, reached])
 }
 
 /// Its pointer leads to no GEM port network CTP.
@@ -42,4 +46,17 @@ fn missing_gem_port(mib: &Mib, number: u16, point: &Interwork) -> Option<Finding
             pointer,
         }),
     }
+}
+
+/// Its service profile pointer is that of an 802.1p mapper, and leads to none.
+fn missing_service_profile(mib: &Mib, number: u16, point: &Interwork) -> Option<Finding>
+    ensures { result
+        ≡ missing_service_profile mib.now.entities (interwork_instance number point.now) }
+{
+    let pointer = point.service_profile_pointer;
+    let is_missing = point.interworking_option == OPTION_MAPPER && mib.mapper(pointer).is_none();
+    is_missing.then_some(Finding::MissingServiceProfile {
+        interwork: number,
+        pointer,
+    })
 }

@@ -55,7 +55,7 @@ fn put_instance(text: &mut String, mib: &Mib, held: &HeldInstance<'_>) -> Result
         let name = description.name;
         if let Some(bytes) = mib.attribute(entity.class, entity.instance, place + 1) {
             let value = ValueWords {
-                kind: description.kind,
+                attribute: description,
                 bytes: &bytes,
             };
             writeln!(text, "  {name}: {value}")?;

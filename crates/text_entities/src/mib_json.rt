@@ -1,7 +1,7 @@
 //! What a MIB holds, as JSON.
 use crate::json_text::{FORMAT, JsonText, put_number, put_text};
 use crate::rule_json::put_table_entry;
-use crate::value::{mapping_of, number_of};
+use crate::value::{mapping_of, number_of, value_word};
 use json::Writer;
 use managed_entity::{AttributeKind, Class, Description, class_name, descriptions_of};
 use mib_state::{HeldInstance, Mib, VlanConfig};
@@ -13,8 +13,9 @@ use text_writing::TextFault;
 const MOST_INSTANCES: usize = 256;
 
 /// Writes what a MIB holds as one object of JSON (RFC 8259): `format`, 1; `mib_data_sync`; and `entities`, an array with an object for each
-/// instance on a line of its own, by ascending class and number. Its members are `class`, `class_name`, `instance` and
-/// `attributes`, an object whose members are the attributes by their names. A number, a pointer or a TPID is a number, a DSCP to
+/// instance on a line of its own, by ascending class and number. Its members are `class`, `class_name`, `instance`,
+/// `attributes`, an object whose members are the attributes by their names, and `attribute_words`, the words of those values that
+/// have one. A number, a pointer or a TPID is a number, a DSCP to
 /// P-bit mapping an array of 64 priorities, and a table an array with an object for each entry: `place` from 0, `rank`, `entry`
 /// in hexadecimal, and its rule as [`put_rule`](crate::put_rule) puts it.
 pub fn write_mib_json<W: Write>(alloc: Global, mib: &Mib, writer: &mut W) -> Result<(), TextFault> {
@@ -68,7 +69,48 @@ fn put_instance(
             put_attribute(alloc, object, mib, held, place + 1, description)?;
         }
     }
-    object.end_object()
+    object.end_object()?;
+    put_value_words(object, mib, held)
+}
+
+/// Puts `attribute_words`, an object with the words of those values that have one, by the attributes' names; nothing where none has.
+fn put_value_words(
+    object: &mut Writer,
+    mib: &Mib,
+    held: &HeldInstance<'_>,
+) -> Result<(), AllocError> {
+    let descriptions = descriptions_of(held.class());
+    let mut has_begun = false;
+    for place in 0..16 {
+        if let Some(description) = descriptions.get(usize::from(place))
+            && let Some(bytes) = mib.attribute(held.class(), held.number(), place + 1)
+        {
+            put_value_word(object, &mut has_begun, description, &bytes)?;
+        }
+    }
+    if has_begun {
+        object.end_object()
+    } else {
+        Ok(())
+    }
+}
+
+/// Puts the word of an attribute's value, if it has one, into `attribute_words`, which it begins where none stands there yet.
+pub fn put_value_word(
+    object: &mut Writer,
+    has_begun: &mut bool,
+    description: &Description,
+    bytes: &[u8],
+) -> Result<(), AllocError> {
+    let Some(word) = value_word(description, bytes) else {
+        return Ok(());
+    };
+    if !*has_begun {
+        object.key("attribute_words")?;
+        object.begin_object()?;
+        *has_begun = true;
+    }
+    put_text(object, description.name, word)
 }
 
 /// Puts an attribute.

@@ -2,33 +2,49 @@
 use crate::bytes::HexWords;
 use crate::dscp::DscpMapWords;
 use crate::entry::EntryWords;
-use managed_entity::AttributeKind;
+use managed_entity::{AttributeKind, Description};
 use std::fmt::{self, Display};
 use tag_view::DscpMap;
 use vlan_rule::Entry;
 
-/// The value of an attribute in words, from its kind and its bytes: numbers in decimal, pointers and TPIDs in hexadecimal, a
-/// mapping by the DSCPs whose priority isn't 0. Of a table it is one entry, 16 bytes, or its size, four.
+/// The value of an attribute in words, from its bytes: numbers in decimal, pointers and TPIDs in hexadecimal, each with its word behind
+/// it where it has one, as `3 (both)`; a mapping by the DSCPs whose priority isn't 0. Of a table it is one entry, 16 bytes, or its size,
+/// four.
 #[derive(Clone, Copy)]
 pub struct ValueWords<'a> {
-    pub kind: AttributeKind,
+    pub attribute: &'a Description,
     pub bytes: &'a [u8],
+}
+
+/// The word of an attribute's value, given by its bytes, or None where it has none.
+pub fn value_word(attribute: &Description, bytes: &[u8]) -> Option<&'static str> {
+    let number = number_of(bytes);
+    for named in attribute.values {
+        if u64::from(named.value) == number {
+            return Some(named.word);
+        }
+    }
+    None
 }
 
 impl fmt::Display for ValueWords<'_> {
     fn fmt<W: fmt::Write>(&self, f: &mut fmt::Formatter<W>) -> fmt::Result {
         let number = number_of(self.bytes);
-        match self.kind {
-            AttributeKind::Number => write!(f, "{number}"),
-            AttributeKind::Pointer | AttributeKind::Tpid => write!(f, "0x{number:04x}"),
+        match self.attribute.kind {
+            AttributeKind::Number => write!(f, "{number}")?,
+            AttributeKind::Pointer | AttributeKind::Tpid => write!(f, "0x{number:04x}")?,
             AttributeKind::DscpMapping => match mapping_of(self.bytes) {
-                Some(map) => DscpMapWords(&map).fmt(f),
-                None => HexWords(self.bytes).fmt(f),
+                Some(map) => DscpMapWords(&map).fmt(f)?,
+                None => HexWords(self.bytes).fmt(f)?,
             },
             AttributeKind::Table => match entry_of(self.bytes) {
-                Some(entry) => EntryWords(&entry).fmt(f),
-                None => write!(f, "{number} bytes"),
+                Some(entry) => EntryWords(&entry).fmt(f)?,
+                None => write!(f, "{number} bytes")?,
             },
+        }
+        match value_word(self.attribute, self.bytes) {
+            Some(word) => write!(f, " ({word})"),
+            None => Ok(()),
         }
     }
 }

@@ -3,7 +3,7 @@ use crate::failures::failures_of;
 use crate::rules::put_force;
 use crate::traced::{PortEntries, Traced};
 use crate::verdict::VerdictWords;
-use crate::words::{MismatchWords, OriginWords, direction_words, entity_of};
+use crate::words::{DirectionWords, MismatchWords, OriginWords, entity_of};
 use explain::{OutgoingTag, PriorityOrigin, Step, TagOrigin, explain};
 use frame_meaning::Verdict;
 use managed_entity::Class;
@@ -218,7 +218,7 @@ fn put_route(text: &mut String, step: &Step<'_>) -> Result<(), AllocError> {
             direction,
         } => {
             let gem_port = entity_of(Class::GemPort, *instance);
-            let direction = direction_words(*direction);
+            let direction = DirectionWords(*direction);
             writeln!(text, "GEM port: {gem_port}, port-ID {port_id}, {direction}")
         }
         _ => Ok(()),

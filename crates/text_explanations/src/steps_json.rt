@@ -3,7 +3,7 @@ use crate::failures::failures_of;
 use crate::steps::{Incoming, dscp_of, is_of_dscp};
 use crate::traced::{PortEntries, Traced};
 use crate::verdict::{FrameDigits, VerdictWords};
-use crate::words::{MismatchWords, OriginWords, direction_words, mismatch_name};
+use crate::words::{MismatchWords, OriginWords, direction_word, mismatch_name};
 use explain::{OutgoingTag, PriorityOrigin, Step, TableInForce, TagOrigin, explain};
 use frame_meaning::Verdict;
 use json::Writer;
@@ -28,7 +28,7 @@ struct Scene<'a> {
 /// Writes why a frame that comes in at a port goes where it goes as one object of JSON (RFC 8259): `format`, 1; `port`; `failures`, an array
 /// of how many entries fail by which field; and `steps`, an array with an object for each step, on a line of its own, whose member `step` is
 /// the name of the step: `table`, `read`, `failed`, `used`, `tags`, `mapper`, `priority`, `pointer`, `interworking`, `gem_port` and, always
-/// the last, `verdict`. Its other members are what the step says; the verdict has `line`, as a replay answers it.
+/// the last, `verdict`. Its other members are what the step says; the verdict has `answer`, the line that a replay answers.
 pub fn write_explanation_json<W: Write>(
     alloc: Global,
     traced: &Traced<'_>,
@@ -281,7 +281,10 @@ fn put_route(object: &mut Writer, step: &Step<'_>) -> Result<(), AllocError> {
             put_number(object, "instance", u64::from(*instance))?;
             put_number(object, "port_id", u64::from(*port_id))?;
             put_number(object, "direction", u64::from(*direction))?;
-            put_text(object, "direction_words", direction_words(*direction))
+            match direction_word(*direction) {
+                Some(word) => put_text(object, "direction_words", word),
+                None => Ok(()),
+            }
         }
         _ => Ok(()),
     }
@@ -305,5 +308,5 @@ fn put_verdict(
             put_words(alloc, object, "words", reason)?;
         }
     }
-    put_words(alloc, object, "line", &VerdictWords(verdict))
+    put_words(alloc, object, "answer", &VerdictWords(verdict))
 }

@@ -1,16 +1,28 @@
 //! The parts of an explanation in words.
 use explain::{Mismatch, TagField, TagOrigin};
-use managed_entity::Class;
+use managed_entity::{Class, descriptions_of};
 use std::fmt;
-use text_entities::{AddedTagWords, EntityWords};
+use text_entities::{AddedTagWords, EntityWords, value_word};
+
+/// The place of the direction among the attributes of a GEM port network CTP.
+const DIRECTION: usize = 2;
 
 /// Which way a GEM port carries frames (ITU-T G.988, clause 9.2.3).
-pub(crate) fn direction_words(direction: u8) -> &'static str {
-    match direction {
-        1 => "direction 1 (upstream)",
-        2 => "direction 2 (downstream)",
-        3 => "direction 3 (both)",
-        _ => "no direction",
+pub(crate) fn direction_word(direction: u8) -> Option<&'static str> {
+    let description = descriptions_of(Class::GemPort.number()).get(DIRECTION)?;
+    value_word(description, &[direction])
+}
+
+/// A direction by its number and its word: `direction 3 (both)`, or `no direction`.
+#[derive(Clone, Copy)]
+pub(crate) struct DirectionWords(pub(crate) u8);
+
+impl fmt::Display for DirectionWords {
+    fn fmt<W: fmt::Write>(&self, f: &mut fmt::Formatter<W>) -> fmt::Result {
+        match direction_word(self.0) {
+            Some(word) => write!(f, "direction {} ({word})", self.0),
+            None => f.write_str("no direction"),
+        }
     }
 }
 

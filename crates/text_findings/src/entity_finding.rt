@@ -1,19 +1,30 @@
 //! A finding about managed entities with its kind.
-use crate::kind::Kind;
-use crate::priorities::can_come;
+use crate::idle::{IdleGemPort, idle_gem_ports};
+use crate::priorities::at_mapper;
 use explain_findings::Finding;
 use mib_state::Mib;
 use std::alloc::{AllocError, Global};
+use text_finding_kinds::Kind;
 use vlan_rule::{Entry, RuleTable};
+
+/// What is found of the managed entities.
+#[derive(Clone, Copy)]
+pub(crate) enum Found {
+    /// What a finding claims.
+    Claimed(Finding),
+    /// A GEM port that no frame comes by, though a mapper leads to it.
+    Idle(IdleGemPort),
+}
 
 /// A finding about managed entities with its kind.
 #[derive(Clone, Copy)]
 pub struct EntityFinding {
     pub kind: Kind,
-    pub finding: Finding,
+    pub(crate) found: Found,
 }
 
-/// Findings with their kinds, in the same order, but for null pointers of priorities that no frame can have.
+/// Findings with their kinds, in the same order, but for null pointers of priorities that no frame can have; and behind them the GEM
+/// ports that mappers lead to by such priorities alone.
 pub fn with_kinds(
     alloc: Global,
     mib: &Mib,
@@ -25,16 +36,28 @@ pub fn with_kinds(
         let finding = *finding;
         if !is_idle(mib, finding) {
             let kind = kind_of(mib, &predefined, finding);
-            all.push(EntityFinding { kind, finding })?;
+            let found = Found::Claimed(finding);
+            all.push(EntityFinding { kind, found })?;
         }
     }
+    append_idle(alloc, mib, &mut all)?;
     Ok(all)
+}
+
+/// Appends the GEM ports that no frame comes by.
+fn append_idle(alloc: Global, mib: &Mib, all: &mut Vec<EntityFinding>) -> Result<(), AllocError> {
+    for idle in &idle_gem_ports(alloc, mib)? {
+        let found = Found::Idle(*idle);
+        let kind = Kind::WITHOUT_FRAMES;
+        all.push(EntityFinding { kind, found })?;
+    }
+    Ok(())
 }
 
 /// Whether it is a null pointer of a priority that no frame can have.
 fn is_idle(mib: &Mib, finding: Finding) -> bool {
     match finding {
-        Finding::NullPointer { mapper, priority } => !can_come(mib, mapper, priority),
+        Finding::NullPointer { mapper, priority } => !at_mapper(mib, mapper).has(priority),
         _ => false,
     }
 }
@@ -48,7 +71,8 @@ fn kind_of(mib: &Mib, predefined: &RuleTable, finding: Finding) -> Kind {
         Finding::NullPointer { .. } => Kind::NULL_POINTER,
         Finding::MissingInterwork { .. }
         | Finding::MissingMapper { .. }
-        | Finding::MissingGemPort { .. } => Kind::POINTER_TO_NOTHING,
+        | Finding::MissingGemPort { .. }
+        | Finding::MissingServiceProfile { .. } => Kind::POINTER_TO_NOTHING,
         Finding::UncarriedPriority { .. } => Kind::PRIORITY_NOT_CARRIED,
         Finding::UnusedEntry { table, place, .. } => match entry_at(mib, table, place) {
             Some(entry) if holds(predefined, &entry) => Kind::PREDEFINED_NEVER_USED,

@@ -1,11 +1,11 @@
 //! Findings as text.
 use crate::entity_finding::EntityFinding;
 use crate::subject::subject_of;
-use crate::trace::TraceFinding;
-use crate::words::FindingWords;
+use crate::words::FoundWords;
 use mib_state::Mib;
 use std::alloc::Global;
 use std::io::Write;
+use text_trace_findings::TraceFinding;
 use text_writing::{TextFault, write_whole};
 
 /// Writes a line for each finding, `SEVERITY CLASS NUMBER KIND: WORDS`, and then one for each finding of a trace, `SEVERITY line
@@ -33,10 +33,10 @@ fn write_finding<W: Write>(
     each: &EntityFinding,
     writer: &mut W,
 ) -> Result<(), TextFault> {
-    let (finding, kind) = (each.finding, each.kind);
-    let subject = subject_of(mib, finding);
+    let (found, kind) = (each.found, each.kind);
+    let subject = subject_of(mib, found);
     let (severity, word) = (kind.severity, kind.word);
-    let words = FindingWords { mib, finding };
+    let words = FoundWords { mib, found };
     let text = format!(in alloc; "{severity} {subject} {word}: {words}\n")?;
     write_whole(writer, text.as_bytes())?;
     Ok(())

@@ -1,17 +1,20 @@
 //! Findings as JSON.
-use crate::entity_finding::EntityFinding;
-use crate::kind::Kind;
+use crate::entity_finding::{EntityFinding, Found};
+use crate::idle::IdleGemPort;
 use crate::subject::subject_of;
-use crate::trace::{Head, Missing, TraceFault, TraceFinding};
-use crate::words::{FindingWords, entry_number};
+use crate::words::{FoundWords, entry_number};
 use explain_findings::Finding;
+use frame_meaning::Reason;
 use json::Writer;
+use managed_entity::{Class, descriptions_of};
 use mib_state::Mib;
 use omci_msg::Action;
 use std::alloc::{AllocError, Global};
 use std::io::Write;
-use text_entities::{JsonText, put_number, put_text, put_words, standard_class_name};
+use text_entities::{JsonText, put_number, put_text, put_words, standard_class_name, value_word};
+use text_finding_kinds::Kind;
 use text_messages::{action_name, result_name};
+use text_trace_findings::{Head, Missing, TraceFault, TraceFinding};
 use text_writing::TextFault;
 
 /// Writes the findings as one object of JSON (RFC 8259): `format`, which is 1, and `findings`, an array with an object for each, on
@@ -46,13 +49,43 @@ fn put_finding(
     mib: &Mib,
     each: &EntityFinding,
 ) -> Result<(), AllocError> {
-    let finding = each.finding;
-    let subject = subject_of(mib, finding);
+    let found = each.found;
+    let subject = subject_of(mib, found);
     put_number(object, "class", u64::from(subject.class.number()))?;
     put_number(object, "instance", u64::from(subject.instance))?;
     put_kind(object, each.kind)?;
-    put_numbers(object, mib, finding)?;
-    put_words(alloc, object, "words", &FindingWords { mib, finding })
+    match found {
+        Found::Claimed(finding) => put_numbers(alloc, object, mib, finding)?,
+        Found::Idle(idle) => put_idle(object, &idle)?,
+    }
+    put_words(alloc, object, "words", &FoundWords { mib, found })
+}
+
+/// Puts the mapper that leads to a GEM port that no frame comes by, and the priorities by which it does.
+fn put_idle(object: &mut Writer, idle: &IdleGemPort) -> Result<(), AllocError> {
+    put_number(object, "mapper", u64::from(idle.mapper))?;
+    object.key("priorities")?;
+    object.begin_array()?;
+    for priority in 0..8 {
+        if idle.priorities.has(priority) {
+            object.u64(u64::from(priority))?;
+        }
+    }
+    object.end_array()
+}
+
+/// Puts a pointer: its number, and the name of its attribute, that at a place of a class.
+fn put_pointer(
+    object: &mut Writer,
+    class: Class,
+    place: usize,
+    pointer: u16,
+) -> Result<(), AllocError> {
+    put_number(object, "pointer", u64::from(pointer))?;
+    match descriptions_of(class.number()).get(place) {
+        Some(description) => put_text(object, "attribute", description.name),
+        None => Ok(()),
+    }
 }
 
 /// Puts a kind and its severity.
@@ -62,7 +95,12 @@ fn put_kind(object: &mut Writer, kind: Kind) -> Result<(), AllocError> {
 }
 
 /// Puts the numbers that a finding names.
-fn put_numbers(object: &mut Writer, mib: &Mib, finding: Finding) -> Result<(), AllocError> {
+fn put_numbers(
+    alloc: Global,
+    object: &mut Writer,
+    mib: &Mib,
+    finding: Finding,
+) -> Result<(), AllocError> {
     match finding {
         Finding::SecondMapper { port, in_force, .. }
         | Finding::SecondTable { port, in_force, .. } => {
@@ -71,14 +109,22 @@ fn put_numbers(object: &mut Writer, mib: &Mib, finding: Finding) -> Result<(), A
         }
         Finding::PortDrops { port, reason } => {
             put_number(object, "port", u64::from(port))?;
-            put_number(object, "reason", u64::from(reason.code()))
+            put_reason(alloc, object, reason)
         }
         Finding::PortCarriesNone { port } => put_number(object, "port", u64::from(port)),
-        Finding::MissingMapper { pointer, .. } | Finding::MissingGemPort { pointer, .. } => {
-            put_number(object, "pointer", u64::from(pointer))
+        Finding::MissingMapper { pointer, .. } => put_pointer(object, Class::Vlan, 6, pointer),
+        Finding::MissingGemPort { pointer, .. } => put_pointer(
+            object,
+            Class::Interwork,
+            0,
+            pointer,
+        ),
+        Finding::MissingServiceProfile { pointer, .. } => {
+            put_pointer(object, Class::Interwork, 2, pointer)
         }
         Finding::NotUpstream { direction, .. } => {
-            put_number(object, "direction", u64::from(direction))
+            put_number(object, "direction", u64::from(direction))?;
+            put_direction_words(object, direction)
         }
         Finding::SharedPortId { port_id, first, .. } => {
             put_number(object, "port_id", u64::from(port_id))?;
@@ -89,16 +135,33 @@ fn put_numbers(object: &mut Writer, mib: &Mib, finding: Finding) -> Result<(), A
             place,
             shadow,
         } => put_unused(object, mib, table, place, shadow),
-        _ => put_priority(object, finding),
+        _ => put_priority(alloc, object, finding),
+    }
+}
+
+/// Puts the reason for which frames are dropped, and it in words.
+fn put_reason(alloc: Global, object: &mut Writer, reason: Reason) -> Result<(), AllocError> {
+    put_number(object, "reason", u64::from(reason.code()))?;
+    put_words(alloc, object, "reason_words", &reason)
+}
+
+/// Puts the word of a GEM port network CTP's direction, its third attribute, if it has one.
+fn put_direction_words(object: &mut Writer, direction: u8) -> Result<(), AllocError> {
+    match descriptions_of(Class::GemPort.number()).get(2) {
+        Some(description) => match value_word(description, &[direction]) {
+            Some(word) => put_text(object, "direction_words", word),
+            None => Ok(()),
+        },
+        None => Ok(()),
     }
 }
 
 /// Puts the numbers of a finding about a priority.
-fn put_priority(object: &mut Writer, finding: Finding) -> Result<(), AllocError> {
+fn put_priority(alloc: Global, object: &mut Writer, finding: Finding) -> Result<(), AllocError> {
     match finding {
         Finding::NullPointer { priority, .. } => {
             put_number(object, "priority", u64::from(priority))?;
-            put_number(object, "reason", 6)
+            put_reason(alloc, object, Reason::NullPointer)
         }
         Finding::MissingInterwork {
             priority,
@@ -106,8 +169,9 @@ fn put_priority(object: &mut Writer, finding: Finding) -> Result<(), AllocError>
             ..
         } => {
             put_number(object, "priority", u64::from(priority))?;
-            put_number(object, "pointer", u64::from(pointer))?;
-            put_number(object, "reason", 7)
+            let place = usize::from(priority).saturating_add(1);
+            put_pointer(object, Class::Mapper, place, pointer)?;
+            put_reason(alloc, object, Reason::NoInterwork)
         }
         Finding::UncarriedPriority {
             priority,
@@ -115,7 +179,7 @@ fn put_priority(object: &mut Writer, finding: Finding) -> Result<(), AllocError>
             ..
         } => {
             put_number(object, "priority", u64::from(priority))?;
-            put_number(object, "reason", u64::from(reason.code()))
+            put_reason(alloc, object, reason)
         }
         _ => Ok(()),
     }

@@ -1,4 +1,5 @@
 //! The instance that a finding is about.
+use crate::entity_finding::Found;
 use explain_findings::Finding;
 use managed_entity::Class;
 use mib_state::Mib;
@@ -19,7 +20,14 @@ impl fmt::Display for Subject {
 }
 
 /// The instance that a finding stands with; of a port its mapper, or the table that points to it where it has none.
-pub(crate) fn subject_of(mib: &Mib, finding: Finding) -> Subject {
+pub(crate) fn subject_of(mib: &Mib, found: Found) -> Subject {
+    match found {
+        Found::Claimed(finding) => of_finding(mib, finding),
+        Found::Idle(idle) => of(Class::GemPort, idle.gem_port),
+    }
+}
+
+fn of_finding(mib: &Mib, finding: Finding) -> Subject {
     match finding {
         Finding::SecondMapper { mapper, .. }
         | Finding::NullPointer { mapper, .. }
@@ -28,7 +36,8 @@ pub(crate) fn subject_of(mib: &Mib, finding: Finding) -> Subject {
         Finding::SecondTable { table, .. }
         | Finding::MissingMapper { table, .. }
         | Finding::UnusedEntry { table, .. } => of(Class::Vlan, table),
-        Finding::MissingGemPort { interwork, .. } => of(Class::Interwork, interwork),
+        Finding::MissingGemPort { interwork, .. }
+        | Finding::MissingServiceProfile { interwork, .. } => of(Class::Interwork, interwork),
         Finding::NotUpstream { gem_port, .. } | Finding::SharedPortId { gem_port, .. } => {
             of(Class::GemPort, gem_port)
         }

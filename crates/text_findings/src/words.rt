@@ -1,8 +1,9 @@
 //! A finding in words.
+use crate::entity_finding::Found;
 use explain::number_of;
 use explain_findings::Finding;
 use mib_state::Mib;
-use std::fmt;
+use std::fmt::{self, Display};
 
 /// The number of the entry at a place of a table, in the order in which entries are tried.
 pub(crate) fn entry_number(mib: &Mib, table: u16, place: usize) -> Option<usize> {
@@ -10,11 +11,30 @@ pub(crate) fn entry_number(mib: &Mib, table: u16, place: usize) -> Option<usize>
     number_of(&vlan.table, place)
 }
 
+/// What is found in words.
+#[derive(Clone, Copy)]
+pub(crate) struct FoundWords<'m> {
+    pub(crate) mib: &'m Mib,
+    pub(crate) found: Found,
+}
+
+impl fmt::Display for FoundWords<'_> {
+    fn fmt<W: fmt::Write>(&self, f: &mut fmt::Formatter<W>) -> fmt::Result {
+        match self.found {
+            Found::Claimed(finding) => {
+                let mib = self.mib;
+                FindingWords { mib, finding }.fmt(f)
+            }
+            Found::Idle(idle) => write!(f, "{idle}"),
+        }
+    }
+}
+
 /// A finding in words.
 #[derive(Clone, Copy)]
-pub(crate) struct FindingWords<'m> {
-    pub(crate) mib: &'m Mib,
-    pub(crate) finding: Finding,
+struct FindingWords<'m> {
+    mib: &'m Mib,
+    finding: Finding,
 }
 
 impl fmt::Display for FindingWords<'_> {
@@ -37,6 +57,10 @@ impl fmt::Display for FindingWords<'_> {
                     "there is no gem-port 0x{pointer:04x}, to which it points"
                 )
             }
+            Finding::MissingServiceProfile { pointer, .. } => write!(
+                f,
+                "there is no mapper 0x{pointer:04x}, its service profile, as option 5 asks for one"
+            ),
             Finding::NotUpstream { direction, .. } => write!(
                 f,
                 "direction {direction} doesn't carry frames upstream, as 1 and 3 do"

@@ -1,7 +1,8 @@
 //! Attributes of a class, by a mask.
-use managed_entity::{Access, AttributeKind, descriptions_of, layout_of, names};
+use managed_entity::{Access, descriptions_of, layout_of, names};
 use std::alloc::AllocError;
-use text_entities::{HexWords, ValueWords};
+use text_entities::{EntryWords, HexWords, ValueWords};
+use vlan_rule::Entry;
 
 /// What stands for a table among values.
 #[derive(Clone, Copy)]
@@ -55,7 +56,7 @@ fn put_value<'a>(
     }
     let (front, rest) = bytes.split_at(width);
     let value = ValueWords {
-        kind: description.kind,
+        attribute: description,
         bytes: front,
     };
     writeln!(text, "  {name}: {value}")?;
@@ -125,11 +126,8 @@ fn put_name(text: &mut String, class: u16, place: usize, is_known: bool) -> Resu
 }
 
 /// Puts a line for an entry of a table, by its place.
-pub(crate) fn put_entry(text: &mut String, place: u32, entry: &[u8]) -> Result<(), AllocError> {
-    let rule = ValueWords {
-        kind: AttributeKind::Table,
-        bytes: entry,
-    };
+pub(crate) fn put_entry(text: &mut String, place: u32, entry: &Entry) -> Result<(), AllocError> {
+    let rule = EntryWords(entry);
     writeln!(text, "    {place}: {rule}")
 }
 

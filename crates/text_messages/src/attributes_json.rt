@@ -4,7 +4,8 @@ use json::Writer;
 use managed_entity::{AttributeKind, class_name, descriptions_of, names};
 use std::alloc::{AllocError, Global};
 use text_entities::{
-    HexWords, put_entry_json, put_number, put_text, put_value_json, put_words, standard_class_name,
+    HexWords, put_entry_json, put_number, put_text, put_value_json, put_value_word, put_words,
+    standard_class_name,
 };
 
 /// Puts an instance: `class`, `class_name` where the class is a common one, and `instance`.
@@ -42,7 +43,37 @@ pub(crate) fn put_values_json(
             rest = put_value(alloc, object, class, place, table, rest)?;
         }
     }
-    object.end_object()
+    object.end_object()?;
+    put_value_words(object, class, mask, table, bytes)
+}
+
+/// Puts `attribute_words`, an object with the words of those values that have one, if one has.
+fn put_value_words(
+    object: &mut Writer,
+    class: u16,
+    mask: u16,
+    table: TableValue,
+    bytes: &[u8],
+) -> Result<(), AllocError> {
+    let mut rest = bytes;
+    let mut has_begun = false;
+    for place in 0..16 {
+        if names(mask, place)
+            && let Some(description) = descriptions_of(class).get(place)
+        {
+            let width = width_at(class, place, table).unwrap_or(0);
+            let (front, behind) = rest.split_at(width.min(rest.len()));
+            if front.len() == width {
+                put_value_word(object, &mut has_begun, description, front)?;
+            }
+            rest = behind;
+        }
+    }
+    if has_begun {
+        object.end_object()
+    } else {
+        Ok(())
+    }
 }
 
 /// Puts the attribute at a place, from the first of the bytes, and gives those behind it. One that isn't whole has no member.

@@ -49,7 +49,7 @@ fn decode_line<W: Write>(
     object.begin_object()?;
     put_number(&mut object, "format", 1)?;
     put_number(&mut object, "line", number)?;
-    put_line(alloc, &mut object, &read)?;
+    put_line_json(alloc, &mut object, &read)?;
     put_remark(&mut object, line)?;
     object.end_object()?;
     write_whole(writer, &object.into_inner())?;
@@ -66,8 +66,12 @@ fn put_remark(object: &mut Writer, line: &[u8]) -> Result<(), AllocError> {
     }
 }
 
-/// Puts what a line says.
-fn put_line(alloc: Global, object: &mut Writer, line: &ScriptLine<'_>) -> Result<(), AllocError> {
+/// Puts what a line says: `kind`, and what [`decode_json`] writes of a line of that kind.
+pub fn put_line_json(
+    alloc: Global,
+    object: &mut Writer,
+    line: &ScriptLine<'_>,
+) -> Result<(), AllocError> {
     match line {
         ScriptLine::Message(bytes) => put_message(alloc, object, bytes),
         ScriptLine::Reply(bytes) => put_answer(alloc, object, bytes),

@@ -24,7 +24,7 @@ mod request;
 mod table_parts;
 
 pub use decoding::decode;
-pub use decoding_json::decode_json;
+pub use decoding_json::{decode_json, put_line_json};
 pub use frame::{put_frame, put_view};
 pub use frame_json::{put_tag_json, put_view_json};
 pub use line::{ScriptLine, read_script_line};

@@ -6,6 +6,7 @@ use byteorder::{BigEndian, ByteOrder};
 use managed_entity::{layout_of, names};
 use omci_msg::{Action, Reply, Request};
 use std::alloc::AllocError;
+use vlan_rule::Entry;
 
 /// How many bytes of a table a Get next returns.
 const PART: u32 = 29;
@@ -210,6 +211,6 @@ impl TableParts {
         if !is_of_table {
             return Ok(());
         }
-        put_entry(text, at / 16, &self.begun)
+        put_entry(text, at / 16, &Entry(self.begun))
     }
 }

@@ -1,7 +1,7 @@
 //! What is found of the messages of a trace.
-use crate::kind::Kind;
 use crate::why::Why;
 use omci_msg::{Action, MsgFault};
+use text_finding_kinds::Kind;
 
 /// What a message says of itself: its action, its class and its instance, as far as it has bytes for them.
 #[derive(Clone, Copy)]
