@@ -285,6 +285,7 @@ What lint finds, the most severe first: `--ignore KIND` leaves findings of a kin
   message-refused (error): a message of the trace is refused
   not-upstream (warning): a GEM port's direction carries no frames upstream
   not-reached (warning): the frames of no port come by an instance
+  without-frames (warning): a mapper leads to a GEM port by priorities alone that no frame has
   entry-not-held (warning): a message removes an entry that the table doesn't hold
   entry-overwritten (warning): a message overwrites an entry that the trace set before
   copy-of-no-tag (warning): an entry for frames without tags copies from a received tag

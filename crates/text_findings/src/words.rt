@@ -59,7 +59,7 @@ impl fmt::Display for FindingWords<'_> {
             }
             Finding::MissingServiceProfile { pointer, .. } => write!(
                 f,
-                "there is no mapper 0x{pointer:04x}, its service profile, as option 5 asks for one"
+                "there is no mapper 0x{pointer:04x}, to which its service profile pointer leads"
             ),
             Finding::NotUpstream { direction, .. } => write!(
                 f,
