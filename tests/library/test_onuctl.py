@@ -555,6 +555,7 @@ class ScriptTest(unittest.TestCase):
         self.assertEqual([each["line"] for each in said], list(range(1, 8)))
         self.assertEqual((said[0]["action"], said[0]["class"], said[0]["instance"]), ("Create", 268, 1025))
         self.assertEqual(said[0]["attributes"]["Port-ID"], 1024)
+        self.assertEqual((said[0]["attributes"]["Direction"], said[0]["attribute_words"]["Direction"]), (3, "both"))
         self.assertEqual((said[4]["port"], said[4]["ethertype"], said[4]["rest"]), (257, 0x0800, "08004500"))
         self.assertEqual((said[5]["reason"], said[5]["words"]), (5, "the port has no mapper"))
         self.assertEqual(decode(b""), [])
@@ -573,6 +574,7 @@ class ScriptTest(unittest.TestCase):
         wanted = [(2, 0), (130, 0x0601), (171, 0x0701), (266, 0x0501), (268, 0x0401)]
         self.assertEqual([(each["class"], each["instance"]) for each in shown["entities"]], wanted)
         self.assertEqual(shown["entities"][-1]["attributes"]["Port-ID"], 1024)
+        self.assertEqual(shown["entities"][-1]["attribute_words"]["Direction"], "both")
         self.assertEqual([each["class"] for each in mib("")["entities"]], [2])
 
     def test_findings_are_listed(self) -> None:
