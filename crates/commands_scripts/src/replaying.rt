@@ -9,18 +9,18 @@ use text_answers::write_answers_json;
 use text_messages::find_script_mistake;
 use text_writing::{Status, TextFault};
 
-/// A script that is read, with all that was read of it.
+/// A reader, with all that was read of it.
 #[derive(Drop)]
-struct KeptScript<'s, 'r, I> {
-    script: &'s mut ScriptInput<'r, I>,
+struct KeptReader<'r, R> {
+    reader: &'r mut R,
     kept: Vec<u8>,
     /// Whether a part couldn't be kept for want of memory.
     lost: bool,
 }
 
-impl<I: Read> Read for KeptScript<'_, '_, I> {
+impl<R: Read> Read for KeptReader<'_, R> {
     fn read(&mut self, buffer: &mut [u8]) -> io::Result<usize> {
-        let count = self.script.read(buffer)?;
+        let count = self.reader.read(buffer)?;
         let piece = buffer.get(..count).unwrap_or(&[]);
         if self.kept.extend_from_slice(piece).is_err() {
             self.lost = true;
@@ -88,8 +88,8 @@ fn replay_as_json<I: Read, O: Write, E: Write>(
     err: &mut E,
 ) -> Status {
     let mut answers = Vec::new(alloc);
-    let mut reading = KeptScript {
-        script,
+    let mut reading = KeptReader {
+        reader: script,
         kept: Vec::new(alloc),
         lost: false,
     };
@@ -99,7 +99,7 @@ fn replay_as_json<I: Read, O: Write, E: Write>(
     }
     let lines = write_answers_json(alloc, &reading.kept, &answers, out);
     let written = report_text(lines, err);
-    match report_end(&outcome, reading.script, err) {
+    match report_end(&outcome, reading.reader, err) {
         Status::Done => written,
         status => status,
     }
