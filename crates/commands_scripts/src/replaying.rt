@@ -99,7 +99,7 @@ fn replay_as_json<I: Read, O: Write, E: Write>(
     }
     let lines = write_answers_json(alloc, &reading.kept, &answers, out);
     let written = report_text(lines, err);
-    match report_end(&outcome, reading.reader, err) {
+    match report_end(&outcome, &*reading.reader, err) {
         Status::Done => written,
         status => status,
     }
