@@ -12,7 +12,7 @@ returns-clause-asked c =
       files = c.in_ok-files.ensures;
       some = λ e.
           let bad : false ≡ true =
-              sym c.if-is_empty.false ∙ c.is_empty.ensures ∙ ap (λ n. n == 0) (c.in_ok-files.files.ok.0 ∙ ap (λ (items : List (Bor Text)). length items) e) in
+          sym c.if-is_empty.false ∙ c.is_empty.ensures ∙ ap (λ n. n == 0) (c.in_ok-files.files.ok.0 ∙ ap (λ (items : List (Bor Text)). length items) e) in
           absurd (cc);
       until = c.in-Some.ensures.asked;
       strict = record {
