@@ -57,9 +57,14 @@ def zsh_option(name, option):
     return f" \\\n            '{'*' if is_repeated else ''}{option.long}[{zsh_quoted(option.help)}]{action}'"
 
 
+def zsh_argument(place, argument):
+    action = "_files" if argument.takes_file() else " "
+    return f" \\\n            '{'*' if argument.is_repeated() else place}:{argument.value().lower()}:{action}'"
+
+
 def zsh_words(name, said):
     """What stands behind `_arguments`."""
-    arguments = "" if name == "help" else "".join(f" \\\n            '*:{argument.name.lower()}:_files'" for argument in said.arguments)
+    arguments = "" if name == "help" else "".join(zsh_argument(place, argument) for place, argument in enumerate(said.arguments, 1))
     return arguments + "".join(zsh_option(name, option) for option in said.options)
 
 
@@ -105,7 +110,7 @@ def behind(name):
 
 def fish_words(name, said):
     for argument in said.arguments:
-        if "FILE" in argument.name:
+        if argument.takes_file():
             yield f"{behind(name)} -F"
     for option in said.options:
         takes = "" if not option.value else " -r -F" if option.takes_file() else " -x"

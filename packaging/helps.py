@@ -10,8 +10,19 @@ TOPIC = re.compile(r"onuctl help ([a-z]+)")
 
 
 class Argument(NamedTuple):
+    """A word that no option's name stands before, as the help shows it: in brackets, and with three points where there may be several."""
+
     name: str
     help: str
+
+    def value(self):
+        return self.name.strip("[<>].")
+
+    def is_repeated(self):
+        return self.name.endswith("...")
+
+    def takes_file(self):
+        return self.value() in ("FILE", "TRACE")
 
 
 class Option(NamedTuple):

@@ -46,10 +46,12 @@ Example: onuctl replay examples/replay/one_frame.script""",
     "run": """\
 Forward the frames of a capture on several lanes while a trace is applied
 
-Usage: onuctl run [OPTIONS] --trace <FILE> --frames <FILE> --port <PORT> --lanes <COUNT> --batch <FRAMES>
+Usage: onuctl run [OPTIONS] --frames <FILE> --port <PORT> --lanes <COUNT> --batch <FRAMES> <TRACE>
+
+Arguments:
+  <TRACE>  Script, or words for one, whose messages are applied, a file; also behind --trace [example: up.script]
 
 Options:
-      --trace <FILE>    Script, or words for one, whose messages are applied, a file [example: up.script]
       --frames <FILE>   Capture of the frames, a file in libpcap's classic format or in pcapng [example: up.pcap]
       --port <PORT>     Port at which frames come in, 0 to 65535 [example: 257]
       --lanes <COUNT>   Lanes that forward side by side, 1 to 16 [example: 4]
@@ -58,61 +60,68 @@ Options:
       --json            Show it as JSON, for other programs; has no value [example: --json]
   -h, --help            Print help
 
-Example: onuctl run --trace up.script --frames up.pcap --port 257 --lanes 4 --batch 1024""",
+Example: onuctl run up.script --frames up.pcap --port 257 --lanes 4 --batch 1024""",
     "decode": """\
 Say what each line of a script or of its answers means
 
-Usage: onuctl decode [OPTIONS] [FILE]
+Usage: onuctl decode [OPTIONS] [FILE]...
 
 Arguments:
-  [FILE]  Script, or words for one, a file; standard input without it [example: up.script]
+  [FILE]...  Scripts, or words for them, a file each; standard input without one [example: up.script]
 
 Options:
       --source  Write the lines of a script in the words that encode reads; has no value [example: --source]
       --json    Show it as JSON, for other programs; has no value [example: --json]
   -h, --help    Print help
 
+The lines of several files have the file's name in front; --source writes it as a remark.
 Status: 0, 1 or 2; onuctl help statuses says when
 Example: onuctl decode examples/replay/one_frame.script""",
     "mib": """\
 Show the managed entities after a trace
 
-Usage: onuctl mib [OPTIONS] --trace <FILE>
+Usage: onuctl mib [OPTIONS] <TRACE>...
+
+Arguments:
+  <TRACE>...  Scripts, or words for them, whose messages are applied, a file each; also behind --trace [example: up.script]
 
 Options:
-      --trace <FILE>  Script, or words for one, whose messages are applied, a file [example: up.script]
       --until <LINE>  Stop behind this line of the trace, from 1 [example: 20]
       --strict        Stop where a message of the trace has a fault or is refused; has no value [example: --strict]
       --json          Show it as JSON, for other programs; has no value [example: --json]
   -h, --help          Print help
 
+The lines of several traces have the file's name in front.
 Status: 0, 1 or 2; onuctl help statuses says when
-Example: onuctl mib --trace up.script""",
+Example: onuctl mib up.script""",
     "rules": """\
 Show the VLAN tagging table in force at a port after a trace
 
-Usage: onuctl rules [OPTIONS] --trace <FILE> --port <PORT>
+Usage: onuctl rules [OPTIONS] --port <PORT> <TRACE>...
+
+Arguments:
+  <TRACE>...  Scripts, or words for them, whose messages are applied, a file each; also behind --trace [example: up.script]
 
 Options:
-      --trace <FILE>  Script, or words for one, whose messages are applied, a file [example: up.script]
       --until <LINE>  Stop behind this line of the trace, from 1 [example: 20]
       --strict        Stop where a message of the trace has a fault or is refused; has no value [example: --strict]
       --json          Show it as JSON, for other programs; has no value [example: --json]
       --port <PORT>   Port at which frames come in, 0 to 65535 [example: 257]
   -h, --help          Print help
 
+The lines of several traces have the file's name in front.
 Status: 0, 1 or 2; onuctl help statuses says when
-Example: onuctl rules --trace up.script --port 257""",
+Example: onuctl rules up.script --port 257""",
     "explain": """\
 Say step by step what becomes of one frame after a trace
 
-Usage: onuctl explain [OPTIONS] --trace <FILE> --port <PORT> [HEX]
+Usage: onuctl explain [OPTIONS] --port <PORT> <TRACE> [HEX]
 
 Arguments:
-  [HEX]  Bytes of the frame, from the destination address on, in hexadecimal digits
+  <TRACE>  Script, or words for one, whose messages are applied, a file; also behind --trace [example: up.script]
+  [HEX]    Bytes of the frame, from the destination address on, in hexadecimal digits
 
 Options:
-      --trace <FILE>    Script, or words for one, whose messages are applied, a file [example: up.script]
       --until <LINE>    Stop behind this line of the trace, from 1 [example: 20]
       --strict          Stop where a message of the trace has a fault or is refused; has no value [example: --strict]
       --json            Show it as JSON, for other programs; has no value [example: --json]
@@ -124,15 +133,17 @@ Options:
 
 The frame is given by its bytes, or by a capture and its number there.
 Status: 0, 1 or 2; onuctl help statuses says when
-Example: onuctl explain --trace up.script --port 257 0200000000010200000000028100a0640800
-Example: onuctl explain --trace up.script --port 257 --frames up.pcap --frame 7""",
+Example: onuctl explain up.script --port 257 0200000000010200000000028100a0640800
+Example: onuctl explain up.script --port 257 --frames up.pcap --frame 7""",
     "lint": """\
 Say what is suspect in a trace and in the entities after it
 
-Usage: onuctl lint [OPTIONS] --trace <FILE>
+Usage: onuctl lint [OPTIONS] <TRACE>...
+
+Arguments:
+  <TRACE>...  Scripts, or words for them, whose messages are applied, a file each; also behind --trace [example: up.script]
 
 Options:
-      --trace <FILE>        Script, or words for one, whose messages are applied, a file [example: up.script]
       --until <LINE>        Stop behind this line of the trace, from 1 [example: 20]
       --strict              Stop where a message of the trace has a fault or is refused; has no value [example: --strict]
       --json                Show it as JSON, for other programs; has no value [example: --json]
@@ -140,24 +151,27 @@ Options:
       --fail-on <SEVERITY>  Severity from which on findings give status 3: error, warning or note; error without it [example: warning]
   -h, --help                Print help
 
+The lines of several traces have the file's name in front.
 Kinds and their severities: onuctl help findings
 Status: 3 where a finding is of the severity of --fail-on, or worse
-Example: onuctl lint --trace up.script
-Example: onuctl lint --trace up.script --ignore not-reached --fail-on warning""",
+Example: onuctl lint up.script
+Example: onuctl lint up.script up.onu --ignore not-reached --fail-on warning""",
     "graph": """\
 Draw how the managed entities after a trace point to each other, for Graphviz
 
-Usage: onuctl graph [OPTIONS] --trace <FILE>
+Usage: onuctl graph [OPTIONS] <TRACE>
+
+Arguments:
+  <TRACE>  Script, or words for one, whose messages are applied, a file; also behind --trace [example: up.script]
 
 Options:
-      --trace <FILE>  Script, or words for one, whose messages are applied, a file [example: up.script]
       --until <LINE>  Stop behind this line of the trace, from 1 [example: 20]
       --strict        Stop where a message of the trace has a fault or is refused; has no value [example: --strict]
       --port <PORT>   Port whose entities are shown, 0 to 65535; all without it [example: 257]
   -h, --help          Print help
 
 Status: 0, 1 or 2; onuctl help statuses says when
-Example: onuctl graph --trace up.script | dot -Tsvg""",
+Example: onuctl graph up.script | dot -Tsvg""",
     "judge": """\
 Say whether a right unit may have done what a history says
 
@@ -177,20 +191,22 @@ Example: onuctl judge bench.history""",
     "forward": """\
 Forward the frames of a capture after a trace, and say what becomes of each
 
-Usage: onuctl forward [OPTIONS] --trace <FILE> --frames <FILE> --port <PORT>
+Usage: onuctl forward [OPTIONS] --frames <FILE> --port <PORT> <TRACE>
+
+Arguments:
+  <TRACE>  Script, or words for one, whose messages are applied, a file; also behind --trace [example: up.script]
 
 Options:
-      --trace <FILE>     Script, or words for one, whose messages are applied, a file [example: up.script]
       --frames <FILE>    Capture of the frames, a file in libpcap's classic format or in pcapng [example: up.pcap]
       --port <PORT>      Port at which frames come in, 0 to 65535 [example: 257]
       --out <FILE>       Write the frames that leave to this file, as pcapng; - is standard output [example: left.pcapng]
-      --verdicts <FILE>  Write a line for each frame to this file: its GEM port or why it is dropped [example: up.verdicts]
+      --verdicts <FILE>  Write a line for each frame to this file: its GEM port or why it is dropped; - is standard output [example: up.verdicts]
       --until <LINE>     Stop behind this line of the trace, from 1 [example: 20]
       --strict           Stop where a message of the trace has a fault or is refused; has no value [example: --strict]
       --json             Show it as JSON, for other programs; has no value [example: --json]
   -h, --help             Print help
 
-Example: onuctl forward --trace up.script --frames up.pcap --port 257 --out left.pcapng""",
+Example: onuctl forward up.script --frames up.pcap --port 257 --out left.pcapng""",
     "record": """\
 Write the history that captures of one clock show, for judge
 

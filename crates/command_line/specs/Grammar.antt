@@ -28,8 +28,23 @@ valued name parser = record (new_rule name) {
 abbrev pub file : Text → Rule
 file name = valued name NonEmptyString
 
+-- the file with a trace, which no option's name stands before
 abbrev pub trace : Rule
-trace = file (codes "trace")
+trace = record (new_rule (codes "trace")) {
+  action = Some Set;
+  value_names = 1;
+  parser = Some NonEmptyString;
+  required = true;
+}
+
+-- the files with traces, at least one
+abbrev pub traces : Rule
+traces = record (new_rule (codes "trace")) {
+  action = Some Append;
+  value_names = 1;
+  parser = Some NonEmptyString;
+  required = true;
+}
 
 -- an option without a value
 abbrev pub flag : Text → Rule
@@ -119,6 +134,14 @@ script = record (new_rule (codes "script")) {
   parser = Some NonEmptyString;
 }
 
+-- the same, of which there may be several
+abbrev pub scripts : Rule
+scripts = record (new_rule (codes "script")) {
+  action = Some Append;
+  value_names = 1;
+  parser = Some NonEmptyString;
+}
+
 abbrev pub replay : App
 replay = with_rule (with_rule (new_app (codes "replay")) json) script
 
@@ -140,25 +163,21 @@ abbrev pub source : Rule
 source = flag (codes "source")
 
 abbrev pub decode : App
-decode = with_rule (with_rule (with_rule (new_app (codes "decode")) source) json) script
+decode = with_rule (with_rule (with_rule (new_app (codes "decode")) source) json) scripts
 
 -- what names a trace, how far it is read, and whether each message has to be carried out
 abbrev pub over_trace : Text → App
 over_trace name = with_rule (with_rule (with_rule (new_app name) trace) until) strict
 
--- whether objects are shown, too
-abbrev pub shown_after : Text → App
-shown_after name = with_rule (over_trace name) json
+-- what names several, and how each is read; and whether objects are shown
+abbrev pub over_traces : Text → App
+over_traces name = with_rule (with_rule (with_rule (with_rule (new_app name) traces) until) strict) json
 
 abbrev pub mib : App
-mib = shown_after (codes "mib")
-
--- what names a port, too
-abbrev pub at_port : Text → App
-at_port name = with_rule (shown_after name) port
+mib = over_traces (codes "mib")
 
 abbrev pub rules : App
-rules = at_port (codes "rules")
+rules = with_rule (over_traces (codes "rules")) port
 
 -- whether each entry is shown that fails
 abbrev pub all : Rule
@@ -166,13 +185,13 @@ all = flag (codes "all")
 
 -- what names a frame by its bytes
 abbrev pub of_bytes : App
-of_bytes = with_rule (with_rule (at_port (codes "explain")) all) bytes
+of_bytes = with_rule (with_rule (with_rule (with_rule (over_trace (codes "explain")) json) port) all) bytes
 
 abbrev pub explain : App
 explain = with_rule (with_rule of_bytes (optional (codes "frames") NonEmptyString)) (numbered (codes "frame"))
 
 abbrev pub lint : App
-lint = with_rule (with_rule (shown_after (codes "lint")) (several (codes "ignore"))) (optional (codes "fail-on") NonEmptyString)
+lint = with_rule (with_rule (over_traces (codes "lint")) (several (codes "ignore"))) (optional (codes "fail-on") NonEmptyString)
 
 -- a port that may be left out
 abbrev pub any_port : Rule

@@ -1,22 +1,26 @@
-//! The words of a command line in other forms than its grammar has them: a port in hexadecimal digits, and the file that a command reads
-//! with its option or without.
+//! The words of a command line in other forms than its grammar has them: a port in hexadecimal digits, and the files that a command reads
+//! behind an option.
 use std::alloc::{AllocError, Global};
 
 /// The options with a number that may be hexadecimal.
 const NUMBERED: &[&str] = &["--port", "--id"];
 
-/// The commands whose trace may stand without its option.
-const OVER_TRACES: &[&str] = &["mib", "rules", "graph", "lint"];
+/// The option of a trace.
+const TRACE: &str = "--trace";
 
-/// The options of these that have a value, in the word behind them.
-const VALUED: &[&str] = &["--trace", "--until", "--port", "--ignore", "--fail-on"];
-
-/// The commands whose file stands without an option, and the option that it may have.
+/// The commands whose files stand without an option, and the option that each may have.
 const OVER_FILES: &[(&str, &str)] = &[
     ("replay", "--script"),
     ("decode", "--script"),
     ("encode", "--text"),
     ("judge", "--history"),
+    ("mib", TRACE),
+    ("rules", TRACE),
+    ("explain", TRACE),
+    ("forward", TRACE),
+    ("run", TRACE),
+    ("lint", TRACE),
+    ("graph", TRACE),
 ];
 
 /// What becomes of a word.
@@ -77,14 +81,15 @@ fn given_number(alloc: Global, word: &str) -> Result<Form, AllocError> {
     Ok(Form::Same)
 }
 
-/// Whether a word is no option and no value of one.
-fn stands_alone(before: &str, word: &str) -> bool {
-    !VALUED.contains(&before) && (word == "-" || !word.starts_with('-') && !word.is_empty())
-}
-
 /// Whether a word is this one.
 fn is_word(word: &str, wanted: &str) -> bool {
     word == wanted
+}
+
+/// A file without its option. One that begins with a hyphen, as an option does, gets its folder in front.
+fn file_alone(alloc: Global, file: &str) -> Result<Form, AllocError> {
+    let is_option = file.starts_with('-') && !is_word(file, "-");
+    joined(alloc, if is_option { "./" } else { "" }, file)
 }
 
 /// A file behind the option that it may have, where its command has it without.
@@ -99,7 +104,7 @@ fn file_form(alloc: Global, command: &str, word: &str) -> Result<Form, AllocErro
         if let Some((given, file)) = word.split_once("=")
             && is_word(given, option)
         {
-            return joined(alloc, file, "");
+            return file_alone(alloc, file);
         }
     }
     Ok(Form::Same)
@@ -110,24 +115,67 @@ fn form_of(alloc: Global, command: &str, before: &str, word: &str) -> Result<For
     if NUMBERED.contains(&before) {
         return number_form(alloc, "", word);
     }
-    if OVER_TRACES.contains(&command) && stands_alone(before, word) {
-        return joined(alloc, "--trace=", word);
-    }
     match given_number(alloc, word)? {
         Form::Same => file_form(alloc, command, word),
         form => Ok(form),
     }
 }
 
-/// The words of a command line, the program's name first, as the grammar has them: a port or an identifier is decimal, a trace stands
-/// behind `--trace`, and the only file of a command without an option.
+/// How many words are in front of those of a command: the program's name and the command's.
+const IN_FRONT: usize = 2;
+
+/// Whether a word is the option of a trace, alone or with its value.
+fn names_trace(word: &str) -> bool {
+    word.strip_prefix(TRACE)
+        .is_some_and(|rest| rest.is_empty() || rest.starts_with('='))
+}
+
+/// Splits words behind the option of a trace that they begin with, if they do, and its value.
+fn split_trace(words: &[String]) -> (&[String], &[String]) {
+    let count = match words.first() {
+        Some(word) if is_word(word.as_str(), TRACE) => 2,
+        Some(word) if names_trace(word.as_str()) => 1,
+        _ => 0,
+    };
+    words.split_at(words.len().min(count))
+}
+
+/// Adds words, lent.
+fn lend<'w>(lent: &mut Vec<&'w str>, words: &'w [String]) -> Result<(), AllocError> {
+    for word in words {
+        lent.push(word.as_str())?;
+    }
+    Ok(())
+}
+
+/// The words in the order of the grammar: of `explain` the trace that an option names stands in front of the frame.
+fn ordered<'w>(alloc: Global, words: &'w [String]) -> Result<Vec<&'w str>, AllocError> {
+    let (front, given) = words.split_at(words.len().min(IN_FRONT));
+    let named = match front.get(1) {
+        Some(command) if is_word(command.as_str(), "explain") => {
+            given.iter().position(|word| names_trace(word.as_str()))
+        }
+        _ => None,
+    };
+    let (before, from) = given.split_at(named.unwrap_or(0).min(given.len()));
+    let (trace, behind) = split_trace(from);
+    let mut lent = Vec::with_capacity(alloc, words.len())?;
+    lend(&mut lent, front)?;
+    lend(&mut lent, trace)?;
+    lend(&mut lent, before)?;
+    lend(&mut lent, behind)?;
+    Ok(lent)
+}
+
+/// The words of a command line, the program's name first, as the grammar has them: a port or an identifier is decimal, and the files of
+/// a command stand without an option.
 pub fn usual_words(alloc: Global, words: &[String]) -> Result<Vec<String>, AllocError> {
+    let ordered = ordered(alloc, words)?;
     let mut usual = Vec::new(alloc);
-    let command = words.get(1).map_or("", |word| word.as_str());
+    let command = ordered.get(1).map_or("", |word| *word);
     let mut before = "";
-    for (place, word) in words.iter().enumerate() {
-        let text = word.as_str();
-        let form = if place < 2 {
+    for (place, text) in ordered.iter().enumerate() {
+        let form = if place < IN_FRONT {
             Form::Same
         } else {
             form_of(alloc, command, before, text)?

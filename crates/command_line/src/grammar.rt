@@ -58,3 +58,22 @@ pub fn onuctl<'a>(alloc: Global) -> Result<Command<'a>, AllocError>
     let linting = with_sub(encoding, lint::lint(alloc));
     with_sub(linting, graph::graph(alloc))
 }
+
+/// The command of this name alone, or the program where there is none.
+pub fn named<'a>(alloc: Global, name: &str) -> Result<Command<'a>, AllocError> {
+    match name {
+        "replay" => replay::replay(alloc),
+        "run" => run::run(alloc),
+        "decode" => decode::decode(alloc),
+        "mib" => mib::mib(alloc),
+        "rules" => rules::rules(alloc),
+        "explain" => explain::explain(alloc),
+        "judge" => judge::judge(alloc),
+        "forward" => forward::forward(alloc),
+        "record" => record::recording(alloc),
+        "encode" => encode::encode(alloc),
+        "lint" => lint::lint(alloc),
+        "graph" => graph::graph(alloc),
+        _ => onuctl(alloc),
+    }
+}

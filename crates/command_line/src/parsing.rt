@@ -7,11 +7,30 @@ ghost use Rattle.command_words.specs.Range.{IsInRange};
 ghost use Rattle.command_line.specs.Grammar.{onuctl};
 ghost use Rattle.command_line.specs.Refused.{IsRightlyRefused};
 
-use crate::grammar::onuctl;
+use crate::grammar::{named, onuctl};
 use clap::error::ErrorKind;
-use clap::{Command, Error};
+use clap::{ArgMatches, Command, Error};
 use command_words::{Words, complaint, read_matches};
-use std::alloc::Global;
+use std::alloc::{AllocError, Global};
+
+/// The name by which the program was called, without its folder.
+fn called<'w>(words: &'w [&'w str]) -> &'w str {
+    let word = words.first().map_or("onuctl", |word| *word);
+    match word.rsplit_once('/') {
+        Some((_, name)) if !name.is_empty() => name,
+        _ => word,
+    }
+}
+
+/// Why words that clap takes are refused, with the usage of their command.
+fn refusal(alloc: Global, words: &[&str], matches: &ArgMatches<'_>) -> Result<Error, AllocError> {
+    let name = matches.subcommand_name().unwrap_or("");
+    let mut usage = String::new(alloc);
+    let program = called(words);
+    write!(usage, "{program} {name}")?;
+    let mut command = named(alloc, name)?.bin_name(usage.as_str())?;
+    command.error(ErrorKind::ValueValidation, complaint(matches))
+}
 
 /// What these words ask for, as a command takes them apart that has the program's grammar.
 fn read_by<'a>(
@@ -27,7 +46,7 @@ fn read_by<'a>(
     let matches = command.try_get_matches_from_mut(words)?;
     match read_matches(alloc, &matches)? {
         Some(asked) => Ok(asked),
-        None => Err(command.error(ErrorKind::ValueValidation, complaint(&matches))?),
+        None => Err(refusal(alloc, words, &matches)?),
     }
 }
 

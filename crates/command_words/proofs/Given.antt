@@ -92,7 +92,7 @@ module _ (f : Found) where
       out (subst (λ n. AreInLimits n batch) few (subst (λ n. AreInLimits words.settings.lanes n) short fits.limits))
 
   pub rules_unread : ((text : Text) → one_text f (codes "port") ≡ Some text → ReadsOne (Reads 16) text None)
-      → (words : RulesWords) → IsRules (rows_of f) words → words.port ≤ 65535 → IsLine words.trace.until → ⊥
+      → (words : RulesWords) → IsRules (rows_of f) words → words.port ≤ 65535 → IsLine words.traces.until → ⊥
   rules_unread value words is fits line = number_unread 16 f (codes "port") words.port value is.port (omega (arith, fits))
 
   pub explain_unread : ((text : Text) → one_text f (codes "port") ≡ Some text → ReadsOne (Reads 16) text None)

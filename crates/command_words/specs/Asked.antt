@@ -1,5 +1,5 @@
 -- What the words ask for.
-use Rattle.std.specs.Prelude.{◌≡◌, ℕ, Bool, true, false, List, [], Option, Some, None, codes, map, option_map}
+use Rattle.std.specs.Prelude.{◌≡◌, ◌≢◌, ℕ, Bool, true, false, List, [], Option, Some, None, codes, map, option_map}
 use Rattle.std.specs.Borrow.{Bor}
 use Rattle.std.specs.Str.Parse.{IsNumeral, digits_value, without_leading_plus}
 use Rattle.clap.specs.Words.{Row, Text, all_of, first_of, one_of}
@@ -11,6 +11,7 @@ use Rattle.command_words.specs.declared.words.JudgeWords.{JudgeWords}
 use Rattle.command_words.specs.declared.words.FrameWords.{FrameWords}
 use Rattle.command_words.specs.declared.words.FrameWords.TheVariants.{Bytes, Captured}
 use Rattle.command_words.specs.declared.words.TraceWords.{TraceWords}
+use Rattle.command_words.specs.declared.words.TracesWords.{TracesWords}
 use Rattle.command_words.specs.declared.words.ForwardWords.{ForwardWords}
 use Rattle.command_words.specs.declared.words.RecordWords.{RecordWords}
 use Rattle.command_words.specs.declared.words.ReplayWords.{ReplayWords}
@@ -59,14 +60,29 @@ pub record IsTrace (rows : List Row) (words : TraceWords) : Type 0 where
   pub until : IsOptionalNumber (codes "until") rows words.until
   pub strict : IsFlag (codes "strict") rows words.strict
 
+-- the texts of what may be given several times, in order
+abbrev pub texts_given : Option (List Text) → List Text
+texts_given None = []
+texts_given (Some texts) = texts
+
+abbrev pub AreTexts : Text → List Row → List (Bor Text) → Type 0
+AreTexts name rows texts = map (λ (text : Bor Text). text.now) texts ≡ texts_given (all_of name rows)
+
+-- the same of several files, at least one
+pub record IsTraces (rows : List Row) (words : TracesWords) : Type 0 where
+  pub files : AreTexts (codes "trace") rows words.files.items
+  pub some : words.files.items ≢ []
+  pub until : IsOptionalNumber (codes "until") rows words.until
+  pub strict : IsFlag (codes "strict") rows words.strict
+
 -- those behind `mib`
 pub record IsMib (rows : List Row) (words : MibWords) : Type 0 where
-  pub trace : IsTrace rows words.trace
+  pub traces : IsTraces rows words.traces
   pub json : IsFlag (codes "json") rows words.json
 
 -- those behind `rules`
 pub record IsRules (rows : List Row) (words : RulesWords) : Type 0 where
-  pub trace : IsTrace rows words.trace
+  pub traces : IsTraces rows words.traces
   pub port : IsNumber (codes "port") rows words.port
   pub json : IsFlag (codes "json") rows words.json
 
@@ -105,14 +121,6 @@ pub record IsForward (rows : List Row) (words : ForwardWords) : Type 0 where
   pub verdicts : first_of (codes "verdicts") rows ≡ option_map (λ (name : _). name.now) words.verdicts
   pub json : IsFlag (codes "json") rows words.json
 
--- the texts of an option that may be given several times, in order
-abbrev pub texts_given : Option (List Text) → List Text
-texts_given None = []
-texts_given (Some texts) = texts
-
-abbrev pub AreTexts : Text → List Row → List (Bor Text) → Type 0
-AreTexts name rows texts = map (λ (text : Bor Text). text.now) texts ≡ texts_given (all_of name rows)
-
 -- those behind `record`
 pub record IsRecord (rows : List Row) (words : RecordWords) : Type 0 where
   pub omci : AreTexts (codes "omci") rows words.omci.items
@@ -124,13 +132,13 @@ pub record IsRecord (rows : List Row) (words : RecordWords) : Type 0 where
 
 -- those behind `decode`
 pub record IsDecode (rows : List Row) (words : DecodeWords) : Type 0 where
-  pub file : first_of (codes "script") rows ≡ option_map (λ (name : _). name.now) words.file
+  pub files : AreTexts (codes "script") rows words.files.items
   pub source : IsFlag (codes "source") rows words.source
   pub json : IsFlag (codes "json") rows words.json
 
 -- those behind `lint`
 pub record IsLint (rows : List Row) (words : LintWords) : Type 0 where
-  pub trace : IsTrace rows words.trace
+  pub traces : IsTraces rows words.traces
   pub ignored : AreTexts (codes "ignore") rows words.ignored.items
   pub fail_on : first_of (codes "fail-on") rows ≡ option_map (λ (name : _). name.now) words.fail_on
   pub json : IsFlag (codes "json") rows words.json
@@ -161,13 +169,13 @@ IsAskedBy (Some (name, rows)) (Encode words) = (name ≡ codes "encode") × IsEn
 IsAskedBy (Some (name, rows)) (Lint words) = (name ≡ codes "lint") × IsLint rows words
 IsAskedBy (Some (name, rows)) (Graph words) = (name ≡ codes "graph") × IsGraph rows words
 
--- all but `record` and `lint`, which have options that may be given several times
+-- all but what names files or options several times
 abbrev pub HasNoList : Words → Type 0
 HasNoList (Replay words) = Unit {0}
 HasNoList (Run words) = Unit {0}
-HasNoList (Decode words) = Unit {0}
-HasNoList (Mib words) = Unit {0}
-HasNoList (Rules words) = Unit {0}
+HasNoList (Decode words) = ⊥
+HasNoList (Mib words) = ⊥
+HasNoList (Rules words) = ⊥
 HasNoList (Explain words) = Unit {0}
 HasNoList (Judge words) = Unit {0}
 HasNoList (Forward words) = Unit {0}
@@ -176,13 +184,13 @@ HasNoList (Encode words) = Unit {0}
 HasNoList (Lint words) = ⊥
 HasNoList (Graph words) = Unit {0}
 
--- what shows the entities after a trace
+-- what shows where the frames of a port go
 abbrev pub IsLook : Words → Type 0
 IsLook (Replay words) = ⊥
 IsLook (Run words) = ⊥
 IsLook (Decode words) = ⊥
-IsLook (Mib words) = Unit {0}
-IsLook (Rules words) = Unit {0}
+IsLook (Mib words) = ⊥
+IsLook (Rules words) = ⊥
 IsLook (Explain words) = Unit {0}
 IsLook (Judge words) = ⊥
 IsLook (Forward words) = ⊥

@@ -30,12 +30,12 @@ abbrev pub IsInRange : Words → Type 0
 IsInRange (Replay words) = Unit {0}
 IsInRange (Run words) = AreInRange words.settings
 IsInRange (Decode words) = Unit {0}
-IsInRange (Mib words) = IsLine words.trace.until
-IsInRange (Rules words) = (words.port ≤ 65535) × IsLine words.trace.until
+IsInRange (Mib words) = IsLine words.traces.until
+IsInRange (Rules words) = (words.port ≤ 65535) × IsLine words.traces.until
 IsInRange (Explain words) = (words.port ≤ 65535) × IsFrameInRange words.frame × IsLine words.trace.until
 IsInRange (Judge words) = Unit {0}
 IsInRange (Forward words) = (words.port ≤ 65535) × IsLine words.trace.until
 IsInRange (Record words) = IsLine words.wait × IsLine words.lost
 IsInRange (Encode words) = IsShort words.identifier
-IsInRange (Lint words) = IsLine words.trace.until
+IsInRange (Lint words) = IsLine words.traces.until
 IsInRange (Graph words) = IsShort words.port × IsLine words.trace.until

@@ -11,5 +11,6 @@ pub use reading::{complaint, read_matches};
 pub use report::report_words;
 pub use words::{
     DecodeWords, EncodeWords, ExplainWords, ForwardWords, FrameWords, GraphWords, JudgeWords,
-    LintWords, MibWords, RecordWords, ReplayWords, RulesWords, RunWords, TraceWords, Words,
+    LintWords, MibWords, RecordWords, ReplayWords, RulesWords, RunWords, TraceWords, TracesWords,
+    Words,
 };

@@ -1,7 +1,7 @@
 //! What the words ask for.
 ghost use Rattle.std.specs.Prelude.{◌≡◌, ◌≤◌, ℕ, Option, codes, IfErr, IfNone, IfOk, IfSome};
 ghost use Rattle.clap.specs.Words.{found_of, rows_of, subcommand_rows_of};
-ghost use Rattle.command_words.specs.Asked.{AreTexts, IsAskedBy, IsDecode, IsEncode, IsExplain, IsForward, IsFrame, IsGraph, IsJudge, IsLint, IsLook, IsMib, HasNoList, IsOptionalNumber, IsRecord, IsReplay, IsRules, IsRun, IsTrace};
+ghost use Rattle.command_words.specs.Asked.{AreTexts, IsAskedBy, IsDecode, IsEncode, IsExplain, IsForward, IsFrame, IsGraph, IsJudge, IsLint, IsLook, IsMib, HasNoList, IsOptionalNumber, IsRecord, IsReplay, IsRules, IsRun, IsTrace, IsTraces};
 ghost use Rattle.command_words.specs.declared.words.Words.{Words};
 ghost use Rattle.command_words.specs.declared.words.RecordWords.{RecordWords};
 ghost use Rattle.command_words.specs.declared.words.RunWords.{RunWords};
@@ -14,11 +14,13 @@ ghost use Rattle.command_words.specs.declared.words.EncodeWords.{EncodeWords};
 ghost use Rattle.command_words.specs.declared.words.ForwardWords.{ForwardWords};
 ghost use Rattle.command_words.specs.declared.words.FrameWords.{FrameWords};
 ghost use Rattle.command_words.specs.declared.words.TraceWords.{TraceWords};
+ghost use Rattle.command_words.specs.declared.words.TracesWords.{TracesWords};
 ghost use Rattle.command_words.specs.Range.{AreInRange, IsFrameInRange, IsShort, IsInRange, IsLine};
 
 use crate::words::{
     DecodeWords, EncodeWords, ExplainWords, ForwardWords, FrameWords, GraphWords, JudgeWords,
-    LintWords, MibWords, RecordWords, ReplayWords, RulesWords, RunWords, TraceWords, Words,
+    LintWords, MibWords, RecordWords, ReplayWords, RulesWords, RunWords, TraceWords, TracesWords,
+    Words,
 };
 use clap::ArgMatches;
 use run_settings::RunSettings;
@@ -112,34 +114,6 @@ fn read_trace<'a>(given: &ArgMatches<'a>) -> Option<TraceWords<'a>>
     })
 }
 
-/// What the options behind `mib` ask for; None where one is missing, or the line's number has over 32 bits.
-fn read_mib<'a>(given: &ArgMatches<'a>) -> Option<MibWords<'a>>
-    ensures asked { IfSome result (IsMib (rows_of (found_of given.now))) }
-    ensures range { IfSome result (λ words. IsLine words.trace.until) }
-    ensures none { IfNone result ((words : MibWords) → IsMib (rows_of (found_of given.now)) words
-        → IsLine words.trace.until → ⊥) }
-{
-    Some(MibWords {
-        trace: read_trace(given)?,
-        json: given.get_flag("json"),
-    })
-}
-
-/// What the options behind `rules` ask for; None where one is missing, the port has over 16 bits, or the line's number over 32.
-fn read_rules<'a>(given: &ArgMatches<'a>) -> Option<RulesWords<'a>>
-    ensures asked { IfSome result (IsRules (rows_of (found_of given.now))) }
-    ensures range { IfSome result (λ words. (words.port ≤ 65535) × IsLine words.trace.until) }
-    ensures none { IfNone result ((words : RulesWords)
-        → IsRules (rows_of (found_of given.now)) words
-        → words.port ≤ 65535 → IsLine words.trace.until → ⊥) }
-{
-    Some(RulesWords {
-        trace: read_trace(given)?,
-        port: given.get_one("port")?,
-        json: given.get_flag("json"),
-    })
-}
-
 /// What the words behind `explain` ask for; None where one is missing or too much, the port has over 16 bits, or the line's number over 32.
 fn read_explain<'a>(given: &ArgMatches<'a>) -> Option<ExplainWords<'a>>
     ensures asked { IfSome result (IsExplain (rows_of (found_of given.now))) }
@@ -202,17 +176,6 @@ fn read_judge<'a>(given: &ArgMatches<'a>) -> JudgeWords<'a>
     }
 }
 
-/// What the words behind `decode` ask for.
-fn read_decode<'a>(given: &ArgMatches<'a>) -> DecodeWords<'a>
-    ensures { IsDecode (rows_of (found_of given.now)) result }
-{
-    DecodeWords {
-        file: given.get_str("script"),
-        source: given.get_flag("source"),
-        json: given.get_flag("json"),
-    }
-}
-
 /// What the words behind `encode` ask for; None where the identifier has over 16 bits.
 fn read_encode<'a>(given: &ArgMatches<'a>) -> Option<EncodeWords<'a>>
     ensures asked { IfSome result (IsEncode (rows_of (found_of given.now))) }
@@ -240,18 +203,94 @@ fn texts_of<'a>(
     }
 }
 
-/// What the options behind `lint` ask for; None where the trace is missing, or the line's number has over 32 bits.
+/// What the words behind `decode` ask for.
+fn read_decode<'a>(alloc: Global, given: &ArgMatches<'a>) -> Result<DecodeWords<'a>, AllocError>
+    ensures { IfOk result (IsDecode (rows_of (found_of given.now))) }
+{
+    Ok(DecodeWords {
+        files: texts_of(alloc, given, "script")?,
+        source: given.get_flag("source"),
+        json: given.get_flag("json"),
+    })
+}
+
+/// Which messages of which files are to be applied; None where no file is given, or the line's number has over 32 bits.
+fn read_traces<'a>(
+    alloc: Global,
+    given: &ArgMatches<'a>,
+) -> Result<Option<TracesWords<'a>>, AllocError>
+    ensures asked { IfOk result (λ read. IfSome read (IsTraces (rows_of (found_of given.now)))) }
+    ensures range { IfOk result (λ read. IfSome read (λ words. IsLine words.until)) }
+    ensures none { IfOk result (λ read. IfNone read ((words : TracesWords)
+        → IsTraces (rows_of (found_of given.now)) words → IsLine words.until → ⊥)) }
+{
+    let Some(until) = read_optional(given, "until") else {
+        return Ok(None);
+    };
+    let files = texts_of(alloc, given, "trace")?;
+    if files.is_empty() {
+        return Ok(None);
+    }
+    Ok(Some(TracesWords {
+        files,
+        until,
+        strict: given.get_flag("strict"),
+    }))
+}
+
+/// What the options behind `mib` ask for; None where no trace is given, or the line's number has over 32 bits.
+fn read_mib<'a>(alloc: Global, given: &ArgMatches<'a>) -> Result<Option<MibWords<'a>>, AllocError>
+    ensures asked { IfOk result (λ read. IfSome read (IsMib (rows_of (found_of given.now)))) }
+    ensures range { IfOk result (λ read. IfSome read (λ words. IsLine words.traces.until)) }
+    ensures none { IfOk result (λ read. IfNone read ((words : MibWords)
+        → IsMib (rows_of (found_of given.now)) words → IsLine words.traces.until → ⊥)) }
+{
+    let Some(traces) = read_traces(alloc, given)? else {
+        return Ok(None);
+    };
+    Ok(Some(MibWords {
+        traces,
+        json: given.get_flag("json"),
+    }))
+}
+
+/// What the options behind `rules` ask for; None where no trace is given, the port has over 16 bits, or the line's number over 32.
+fn read_rules<'a>(
+    alloc: Global,
+    given: &ArgMatches<'a>,
+) -> Result<Option<RulesWords<'a>>, AllocError>
+    ensures asked { IfOk result (λ read. IfSome read (IsRules (rows_of (found_of given.now)))) }
+    ensures range { IfOk result (λ read. IfSome read (λ words.
+        (words.port ≤ 65535) × IsLine words.traces.until)) }
+    ensures none { IfOk result (λ read. IfNone read ((words : RulesWords)
+        → IsRules (rows_of (found_of given.now)) words
+        → words.port ≤ 65535 → IsLine words.traces.until → ⊥)) }
+{
+    let Some(port) = given.get_one("port") else {
+        return Ok(None);
+    };
+    let Some(traces) = read_traces(alloc, given)? else {
+        return Ok(None);
+    };
+    Ok(Some(RulesWords {
+        traces,
+        port,
+        json: given.get_flag("json"),
+    }))
+}
+
+/// What the options behind `lint` ask for; None where no trace is given, or the line's number has over 32 bits.
 fn read_lint<'a>(alloc: Global, given: &ArgMatches<'a>) -> Result<Option<LintWords<'a>>, AllocError>
     ensures asked { IfOk result (λ read. IfSome read (IsLint (rows_of (found_of given.now)))) }
-    ensures range { IfOk result (λ read. IfSome read (λ words. IsLine words.trace.until)) }
+    ensures range { IfOk result (λ read. IfSome read (λ words. IsLine words.traces.until)) }
     ensures none { IfOk result (λ read. IfNone read ((words : LintWords)
-        → IsLint (rows_of (found_of given.now)) words → IsLine words.trace.until → ⊥)) }
+        → IsLint (rows_of (found_of given.now)) words → IsLine words.traces.until → ⊥)) }
 {
-    let Some(trace) = read_trace(given) else {
+    let Some(traces) = read_traces(alloc, given)? else {
         return Ok(None);
     };
     Ok(Some(LintWords {
-        trace,
+        traces,
         ignored: texts_of(alloc, given, "ignore")?,
         fail_on: given.get_str("fail-on"),
         json: given.get_flag("json"),
@@ -286,7 +325,7 @@ fn read_record<'a>(
     }))
 }
 
-/// What a parse asks for that shows the entities after a trace; None where it is nothing of that, a value is missing, or no number in
+/// What a parse asks for that shows where a port's frames go; None where it is nothing of that, a value is missing, or no number in
 /// its range.
 fn read_look<'a>(matches: &ArgMatches<'a>) -> Option<Words<'a>>
     ensures asked { IfSome result (IsAskedBy (subcommand_rows_of matches.now)) }
@@ -294,12 +333,6 @@ fn read_look<'a>(matches: &ArgMatches<'a>) -> Option<Words<'a>>
     ensures none { IfNone result ((words : Words) → IsAskedBy (subcommand_rows_of matches.now) words
         → IsInRange words → IsLook words → ⊥) }
 {
-    if let Some(given) = matches.subcommand_matches("mib") {
-        return Some(Words::Mib(read_mib(given)?));
-    }
-    if let Some(given) = matches.subcommand_matches("rules") {
-        return Some(Words::Rules(read_rules(given)?));
-    }
     if let Some(given) = matches.subcommand_matches("explain") {
         return Some(Words::Explain(read_explain(given)?));
     }
@@ -307,7 +340,8 @@ fn read_look<'a>(matches: &ArgMatches<'a>) -> Option<Words<'a>>
     Some(Words::Graph(read_graph(given)?))
 }
 
-/// What a parse asks for, but for `record` and `lint`; None where it is one of these, a value is missing, or no number in its range.
+/// What a parse asks for that names nothing several times; None where it is nothing of that, a value is missing, or no number in its
+/// range.
 fn read_others<'a>(matches: &ArgMatches<'a>) -> Option<Words<'a>>
     ensures asked { IfSome result (IsAskedBy (subcommand_rows_of matches.now)) }
     ensures range { IfSome result IsInRange }
@@ -316,9 +350,6 @@ fn read_others<'a>(matches: &ArgMatches<'a>) -> Option<Words<'a>>
 {
     if let Some(given) = matches.subcommand_matches("replay") {
         return Some(Words::Replay(read_replay(given)));
-    }
-    if let Some(given) = matches.subcommand_matches("decode") {
-        return Some(Words::Decode(read_decode(given)));
     }
     if let Some(given) = matches.subcommand_matches("encode") {
         return Some(Words::Encode(read_encode(given)?));
@@ -345,6 +376,21 @@ pub fn read_matches<'a>(
     ensures none { IfOk result (λ read. IfNone read ((words : Words)
         → IsAskedBy (subcommand_rows_of matches.now) words → IsInRange words → ⊥)) }
 {
+    if let Some(given) = matches.subcommand_matches("decode") {
+        return Ok(Some(Words::Decode(read_decode(alloc, given)?)));
+    }
+    if let Some(given) = matches.subcommand_matches("mib") {
+        return match read_mib(alloc, given)? {
+            Some(words) => Ok(Some(Words::Mib(words))),
+            None => Ok(None),
+        };
+    }
+    if let Some(given) = matches.subcommand_matches("rules") {
+        return match read_rules(alloc, given)? {
+            Some(words) => Ok(Some(Words::Rules(words))),
+            None => Ok(None),
+        };
+    }
     if let Some(given) = matches.subcommand_matches("lint") {
         return match read_lint(alloc, given)? {
             Some(words) => Ok(Some(Words::Lint(words))),
@@ -360,10 +406,23 @@ pub fn read_matches<'a>(
     }
 }
 
+/// Whether a word is hexadecimal digits, as the bytes of a frame are.
+fn is_digits(word: &str) -> bool {
+    word.as_bytes().iter().all(|byte| byte.is_ascii_hexdigit())
+}
+
+/// Whether the only word of `explain` is a frame, so that the trace is missing.
+fn has_no_trace(given: &ArgMatches<'_>) -> bool {
+    given.get_str("bytes").is_none()
+        && given.get_str("frames").is_none()
+        && given.get_str("trace").is_some_and(is_digits)
+}
+
 /// What is said where clap takes words that ask for nothing.
 pub fn complaint(matches: &ArgMatches<'_>) -> &'static str {
-    if matches.subcommand_matches("explain").is_some() {
-        return "give the frame by its bytes alone, or by --frames and --frame";
+    match matches.subcommand_matches("explain") {
+        Some(given) if has_no_trace(given) => "give the trace too, in front of the frame",
+        Some(_) => "give the frame by its bytes alone, or by --frames and --frame",
+        None => "a value is missing or out of its range",
     }
-    "a value is missing or out of its range"
 }

@@ -40,10 +40,10 @@ pub struct ReplayWords<'a> {
 }
 
 /// How `decode` is to say what lines mean.
-#[derive(Clone, Copy)]
+#[derive(Drop)]
 pub struct DecodeWords<'a> {
-    /// The file with the lines, or None for standard input.
-    pub file: Option<&'a str>,
+    /// The files with the lines, or none for standard input.
+    pub files: Vec<&'a str>,
     /// Whether it says them in the words that `encode` reads.
     pub source: bool,
     /// Whether it says them as JSON.
@@ -73,19 +73,19 @@ pub struct RunWords<'a> {
 }
 
 /// What `mib` is to show.
-#[derive(Clone, Copy)]
+#[derive(Drop)]
 pub struct MibWords<'a> {
-    /// The messages that are applied.
-    pub trace: TraceWords<'a>,
+    /// The messages that are applied, those of each file by themselves.
+    pub traces: TracesWords<'a>,
     /// Whether it is shown as JSON.
     pub json: bool,
 }
 
 /// What `rules` is to show.
-#[derive(Clone, Copy)]
+#[derive(Drop)]
 pub struct RulesWords<'a> {
-    /// The messages that are applied.
-    pub trace: TraceWords<'a>,
+    /// The messages that are applied, those of each file by themselves.
+    pub traces: TracesWords<'a>,
     /// The port whose table is shown.
     pub port: u16,
     /// Whether it is shown as JSON.
@@ -124,8 +124,8 @@ pub struct ExplainWords<'a> {
 /// What `lint` is to look at, and what it finds.
 #[derive(Drop)]
 pub struct LintWords<'a> {
-    /// The messages that are applied.
-    pub trace: TraceWords<'a>,
+    /// The messages that are applied, those of each file by themselves.
+    pub traces: TracesWords<'a>,
     /// The words of the kinds whose findings are left out, as they were given.
     pub ignored: Vec<&'a str>,
     /// The word of the severity from which on a finding ends the command with status 3, as it was given; None for errors alone.
@@ -167,6 +167,17 @@ pub struct TraceWords<'a> {
     pub strict: bool,
 }
 
+/// The same of several files, of which each is applied by itself.
+#[derive(Drop)]
+pub struct TracesWords<'a> {
+    /// The files with them, scripts, in order; at least one.
+    pub files: Vec<&'a str>,
+    /// The last line that is read of each, from 1, or None for all.
+    pub until: Option<u32>,
+    /// Whether a message that is refused, or has a fault, is an error.
+    pub strict: bool,
+}
+
 /// What `forward` is to forward, and what it writes.
 #[derive(Clone, Copy)]
 pub struct ForwardWords<'a> {
@@ -178,7 +189,7 @@ pub struct ForwardWords<'a> {
     pub port: u16,
     /// The file for the frames that leave, `-` for standard output, or None where they aren't wanted.
     pub out: Option<&'a str>,
-    /// The file for a line a frame, or None where none is wanted.
+    /// The file for a line a frame, `-` for standard output, or None where none is wanted.
     pub verdicts: Option<&'a str>,
     /// Whether the totals are shown as JSON.
     pub json: bool,

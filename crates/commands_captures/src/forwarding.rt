@@ -13,6 +13,10 @@ use std::rt::Files;
 use text_forwarding::{write_totals, write_totals_json};
 use text_writing::{LookFault, Status, TextFault, report_look};
 
+/// What is said of two outputs that are standard output.
+const OUTPUT_TWICE: &[u8] =
+    b"cannot write --verdicts -: it is the same output as --out -, standard output\n";
+
 /// Says why not all frames of a capture were forwarded, and how many were, and gives the status.
 fn report_forward<E: Write>(
     fault: ForwardFault,
@@ -223,6 +227,31 @@ fn forward_to_output<R: Files + Alloc<A = Global>, O: Write, E: Write>(
     Ok(report_beside(rt.alloc(), &totals, job.words.json, err))
 }
 
+/// Forwards frames whose verdicts are written to `out`, and writes the totals to `err`.
+fn judge_to_output<R: Files + Alloc<A = Global>, O: Write, E: Write>(
+    rt: &R,
+    job: &Job<'_, '_>,
+    frames: &mut FrameReader<R::File>,
+    out: &mut O,
+    err: &mut E,
+) -> Result<Status, Status> {
+    let words = job.words;
+    let Ok(verdicts) = Output::direct(rt.alloc(), "standard output", &mut *out) else {
+        return Err(without_memory(err));
+    };
+    let inputs = [words.trace.file, words.frames];
+    let packets = match words.out {
+        Some(name) => Some(create_output(rt, name, &inputs, None, err)?),
+        None => None,
+    };
+    let mut outputs = Outputs {
+        packets,
+        verdicts: Some(verdicts),
+    };
+    let totals = forward_open(rt, job, frames, &mut outputs, err)?;
+    Ok(report_beside(rt.alloc(), &totals, words.json, err))
+}
+
 /// Forwards frames that are written to files, if at all, and writes the totals to `out`.
 fn forward_to_files<R: Files + Alloc<A = Global>, O: Write, E: Write>(
     rt: &R,
@@ -242,7 +271,7 @@ fn forward_to_files<R: Files + Alloc<A = Global>, O: Write, E: Write>(
 }
 
 /// Forwards the frames of a capture after a trace, and writes what comes of them to the files that the words name, and the totals to `out`.
-/// Where `out` gets the frames, the totals go to `err`, and so does why there are none, or not all. It gives the status.
+/// Where `out` gets the frames or the verdicts, the totals go to `err`, and so does why there are none, or not all. It gives the status.
 pub fn forward<R: Files + Alloc<A = Global>, O: Write, E: Write>(
     rt: &R,
     words: &ForwardWords<'_>,
@@ -251,6 +280,10 @@ pub fn forward<R: Files + Alloc<A = Global>, O: Write, E: Write>(
 ) -> Status {
     if let Err(status) = refuse_twice(&[words.trace.file, words.frames], err) {
         return status;
+    }
+    if matches!((words.out, words.verdicts), (Some("-"), Some("-"))) {
+        let _ = err.write_all(OUTPUT_TWICE);
+        return Status::Failed;
     }
     let applied = match apply_trace(rt, &words.trace, err) {
         Ok(applied) => applied,
@@ -263,8 +296,9 @@ pub fn forward<R: Files + Alloc<A = Global>, O: Write, E: Write>(
     };
     let mib = &applied.mib;
     let job = Job { words, mib };
-    let status = match words.out {
-        Some("-") => forward_to_output(rt, &job, &mut frames, out, err),
+    let status = match (words.out, words.verdicts) {
+        (Some("-"), _) => forward_to_output(rt, &job, &mut frames, out, err),
+        (_, Some("-")) => judge_to_output(rt, &job, &mut frames, out, err),
         _ => forward_to_files(rt, &job, &mut frames, out, err),
     };
     match status {

@@ -5,10 +5,12 @@
 
 mod captures;
 mod files;
+mod fronted;
 mod outputs;
 mod pieces;
 mod reports;
 mod script_input;
+mod several;
 mod traces;
 mod unread;
 mod written;
@@ -18,10 +20,12 @@ pub use captures::{
     report_cut,
 };
 pub use files::{open_named, read_whole, refuse_twice, report_file, report_unread};
+pub use fronted::Marked;
 pub use outputs::{Output, Taken, create_output};
 pub use pieces::{Capture, History, read_capture, read_history};
 pub use reports::{report_decoding, report_text, report_value, without_memory};
 pub use script_input::{ScriptInput, open_script};
-pub use traces::{Linted, apply_linted, apply_trace, read_trace, report_bad_line};
+pub use several::{OverFile, over_files};
+pub use traces::{Linted, apply_linted, apply_trace, read_trace, report_bad_line, trace_of};
 pub use unread::{Silenced, Unread, Watched};
 pub use written::{line_of, script_of};

@@ -68,6 +68,11 @@ impl<'n, W: Write + Drop> Output<'n, W> {
         self.failed = Some(error.kind());
     }
 
+    /// Whether a write failed.
+    pub(crate) fn has_failed(&self) -> bool {
+        self.failed.is_some()
+    }
+
     /// The file under the name that it has while it is written.
     pub fn taken(&self) -> Option<Taken<'_>> {
         let names = self.names.as_ref()?;

@@ -2,7 +2,7 @@
 use crate::files::{read_whole, report_unread};
 use crate::reports::without_memory;
 use crate::written::{line_of, script_of};
-use command_words::TraceWords;
+use command_words::{TraceWords, TracesWords};
 use script_trace::{Applied, Faulty, Refused, ScriptFault, apply_script};
 use std::alloc::{AllocError, Global};
 use std::io::Write;
@@ -96,6 +96,15 @@ fn report_until<E: Write>(script: &[u8], words: &TraceWords<'_>, err: &mut E) {
             "{} has {lines} lines, and --until asks for {until}",
             words.file
         );
+    }
+}
+
+/// Which messages of one of several files are applied.
+pub fn trace_of<'w>(words: &TracesWords<'_>, file: &'w str) -> TraceWords<'w> {
+    TraceWords {
+        file,
+        until: words.until,
+        strict: words.strict,
     }
 }
 

@@ -1,7 +1,9 @@
 //! What is wrong with a configuration, and its picture.
+use crate::looking::marked;
 use command_words::{GraphWords, LintWords};
 use commands_files::{
-    Linted, apply_linted, apply_trace, report_text, report_value, without_memory,
+    Linted, OverFile, apply_linted, apply_trace, over_files, report_text, report_value, trace_of,
+    without_memory,
 };
 use explain_findings::findings;
 use std::alloc::Global;
@@ -94,7 +96,7 @@ fn write_lint<O: Write>(
     out: &mut O,
 ) -> Result<bool, TextFault> {
     let mib = &linted.applied.mib;
-    let until = words.trace.until.map(u64::from);
+    let until = words.traces.until.map(u64::from);
     let found = Found::of(alloc, linted, until, choice)?;
     let (of_entities, of_trace) = (&found.of_entities, &found.of_trace);
     if words.json {
@@ -105,8 +107,31 @@ fn write_lint<O: Write>(
     Ok(found.reaches(choice.least))
 }
 
-/// Writes the findings about the managed entities after a trace, and about its messages, to `out`, and why not all to `err`. It gives the
-/// status.
+/// What `lint` does with each of its traces.
+#[derive(Drop)]
+struct Linting<'w, R> {
+    rt: &'w R,
+    words: &'w LintWords<'w>,
+    choice: &'w Choice,
+}
+
+impl<R: Files + Alloc<A = Global>> OverFile for Linting<'_, R> {
+    fn of_file<O: Write, E: Write>(&self, name: &str, out: &mut O, err: &mut E) -> Status {
+        let (rt, words) = (self.rt, self.words);
+        let linted = match apply_linted(rt, &trace_of(&words.traces, name), err) {
+            Ok(linted) => linted,
+            Err(status) => return status,
+        };
+        match write_lint(rt.alloc(), words, &linted, self.choice, out) {
+            Ok(true) => Status::Found,
+            Ok(false) => Status::Done,
+            Err(fault) => report_text(Err(fault), err),
+        }
+    }
+}
+
+/// Writes the findings about the managed entities after each trace, and about its messages, to `out`, and why not all to `err`. It gives
+/// the status.
 pub fn lint<R: Files + Alloc<A = Global>, O: Write, E: Write>(
     rt: &R,
     words: &LintWords<'_>,
@@ -118,15 +143,19 @@ pub fn lint<R: Files + Alloc<A = Global>, O: Write, E: Write>(
         Ok(choice) => choice,
         Err(status) => return status,
     };
-    let linted = match apply_linted(rt, &words.trace, err) {
-        Ok(linted) => linted,
-        Err(status) => return status,
+    let work = Linting {
+        rt,
+        words,
+        choice: &choice,
     };
-    match write_lint(alloc, words, &linted, &choice, out) {
-        Ok(true) => Status::Found,
-        Ok(false) => Status::Done,
-        Err(fault) => report_text(Err(fault), err),
-    }
+    over_files(
+        alloc,
+        &work,
+        &words.traces.files,
+        marked(words.json),
+        out,
+        err,
+    )
 }
 
 /// Writes the managed entities after a trace as a graph to `out`, and why not all to `err`. It gives the status.

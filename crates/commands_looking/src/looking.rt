@@ -1,8 +1,8 @@
 //! What looks inside: the managed entities after a trace, a table, and what becomes of one frame.
 use command_words::{ExplainWords, FrameWords, MibWords, RulesWords};
 use commands_files::{
-    apply_trace, next_frame, open_frames, read_whole, refuse_twice, report_cut, report_text,
-    report_unread,
+    Marked, OverFile, apply_trace, next_frame, open_frames, over_files, read_whole, refuse_twice,
+    report_cut, report_text, report_unread, trace_of,
 };
 use mib_state::Mib;
 use script_trace::Applied;
@@ -18,7 +18,7 @@ use text_writing::{LookFault, Status, TextFault, report_look};
 /// Writes managed entities, as text or as JSON.
 fn write_entities<O: Write>(
     alloc: Global,
-    words: &MibWords,
+    words: &MibWords<'_>,
     mib: &Mib,
     out: &mut O,
 ) -> Result<(), TextFault> {
@@ -29,17 +29,44 @@ fn write_entities<O: Write>(
     }
 }
 
-/// Writes the managed entities after a trace to `out`, and why nothing, or not all, to `err`. It gives the status.
+/// Where the name of each of several files stands.
+pub(crate) fn marked(json: bool) -> Marked {
+    if json { Marked::Object } else { Marked::Lines }
+}
+
+/// What `mib` does with each of its traces.
+#[derive(Drop)]
+struct ShowingMib<'w, R> {
+    rt: &'w R,
+    words: &'w MibWords<'w>,
+}
+
+impl<R: Files + Alloc<A = Global>> OverFile for ShowingMib<'_, R> {
+    fn of_file<O: Write, E: Write>(&self, name: &str, out: &mut O, err: &mut E) -> Status {
+        let (rt, words) = (self.rt, self.words);
+        match apply_trace(rt, &trace_of(&words.traces, name), err) {
+            Ok(applied) => report_text(write_entities(rt.alloc(), words, &applied.mib, out), err),
+            Err(status) => status,
+        }
+    }
+}
+
+/// Writes the managed entities after each trace to `out`, and why nothing, or not all, to `err`. It gives the status.
 pub fn show_mib<R: Files + Alloc<A = Global>, O: Write, E: Write>(
     rt: &R,
-    words: &MibWords,
+    words: &MibWords<'_>,
     out: &mut O,
     err: &mut E,
 ) -> Status {
-    match apply_trace(rt, &words.trace, err) {
-        Ok(applied) => report_text(write_entities(rt.alloc(), words, &applied.mib, out), err),
-        Err(status) => status,
-    }
+    let work = ShowingMib { rt, words };
+    over_files(
+        rt.alloc(),
+        &work,
+        &words.traces.files,
+        marked(words.json),
+        out,
+        err,
+    )
 }
 
 /// What a trace left, as texts show it.
@@ -53,7 +80,7 @@ fn traced(applied: &Applied) -> Traced<'_> {
 /// Writes the table in force at a port, as text or as JSON.
 fn write_table<O: Write>(
     alloc: Global,
-    words: &RulesWords,
+    words: &RulesWords<'_>,
     applied: &Applied,
     out: &mut O,
 ) -> Result<(), TextFault> {
@@ -64,17 +91,39 @@ fn write_table<O: Write>(
     }
 }
 
-/// Writes the table in force at a port after a trace to `out`, and why nothing, or not all, to `err`. It gives the status.
+/// What `rules` does with each of its traces.
+#[derive(Drop)]
+struct ShowingRules<'w, R> {
+    rt: &'w R,
+    words: &'w RulesWords<'w>,
+}
+
+impl<R: Files + Alloc<A = Global>> OverFile for ShowingRules<'_, R> {
+    fn of_file<O: Write, E: Write>(&self, name: &str, out: &mut O, err: &mut E) -> Status {
+        let (rt, words) = (self.rt, self.words);
+        match apply_trace(rt, &trace_of(&words.traces, name), err) {
+            Ok(applied) => report_text(write_table(rt.alloc(), words, &applied, out), err),
+            Err(status) => status,
+        }
+    }
+}
+
+/// Writes the table in force at a port after each trace to `out`, and why nothing, or not all, to `err`. It gives the status.
 pub fn show_rules<R: Files + Alloc<A = Global>, O: Write, E: Write>(
     rt: &R,
-    words: &RulesWords,
+    words: &RulesWords<'_>,
     out: &mut O,
     err: &mut E,
 ) -> Status {
-    match apply_trace(rt, &words.trace, err) {
-        Ok(applied) => report_text(write_table(rt.alloc(), words, &applied, out), err),
-        Err(status) => status,
-    }
+    let work = ShowingRules { rt, words };
+    over_files(
+        rt.alloc(),
+        &work,
+        &words.traces.files,
+        marked(words.json),
+        out,
+        err,
+    )
 }
 
 /// The bytes that hexadecimal digits spell, or the status where they spell none; why is written to `err`.

@@ -1,6 +1,8 @@
 //! What the lines of a script mean.
 use command_words::DecodeWords;
-use commands_files::{open_named, open_script, report_decoding, report_file};
+use commands_files::{
+    Marked, OverFile, open_named, open_script, over_files, report_decoding, report_file,
+};
 use std::alloc::Global;
 use std::io::{Read, Write};
 use std::rt::Files;
@@ -12,11 +14,38 @@ use text_writing::Status;
 const TOGETHER: &[u8] =
     b"error: the argument '--source' cannot be used with '--json'\n\nFor more information, try '--help'.\n";
 
-/// Writes what each line of a script in a file, or on the input, means to `out`, as text, as JSON or in the words that `encode` reads, and
-/// why not all of them to `err`. It gives the status.
+/// What `decode` does with each of its files.
+#[derive(Drop)]
+struct Decoding<'w, R> {
+    rt: &'w R,
+    words: &'w DecodeWords<'w>,
+}
+
+impl<R: Files + Alloc<A = Global>> OverFile for Decoding<'_, R> {
+    fn of_file<O: Write, E: Write>(&self, name: &str, out: &mut O, err: &mut E) -> Status {
+        match open_named(self.rt, name) {
+            Ok(mut file) => decode_read(self.rt.alloc(), self.words, &mut file, out, err),
+            Err(error) => report_file(error.kind(), "read", name, err),
+        }
+    }
+}
+
+/// Where the name of each of several files stands.
+fn marked(words: &DecodeWords<'_>) -> Marked {
+    if words.source {
+        Marked::Remark
+    } else if words.json {
+        Marked::Objects
+    } else {
+        Marked::Lines
+    }
+}
+
+/// Writes what each line of the scripts in files, or of one on the input, means to `out`, as text, as JSON or in the words that `encode`
+/// reads, and why not all of them to `err`. It gives the status.
 pub fn decode_script<R: Files + Alloc<A = Global>, I: Read, O: Write, E: Write>(
     rt: &R,
-    words: &DecodeWords,
+    words: &DecodeWords<'_>,
     input: &mut I,
     out: &mut O,
     err: &mut E,
@@ -25,19 +54,17 @@ pub fn decode_script<R: Files + Alloc<A = Global>, I: Read, O: Write, E: Write>(
         let _ = err.write_all(TOGETHER);
         return Status::Failed;
     }
-    let Some(path) = words.file else {
+    if words.files.is_empty() {
         return decode_read(rt.alloc(), words, input, out, err);
-    };
-    match open_named(rt, path) {
-        Ok(mut file) => decode_read(rt.alloc(), words, &mut file, out, err),
-        Err(error) => report_file(error.kind(), "read", path, err),
     }
+    let work = Decoding { rt, words };
+    over_files(rt.alloc(), &work, &words.files, marked(words), out, err)
 }
 
 /// The same of a script that is read.
 fn decode_read<I: Read, O: Write, E: Write>(
     alloc: Global,
-    words: &DecodeWords,
+    words: &DecodeWords<'_>,
     input: &mut I,
     out: &mut O,
     err: &mut E,

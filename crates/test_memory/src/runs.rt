@@ -49,9 +49,9 @@ gem 1024 2
 ";
 
 /// The words that ask for that run.
-const WORDS: [&str; 13] = [
-    "onuctl", "run", "--trace", "T", "--frames", "F", "--port", "257", "--lanes", "2", "--batch",
-    "2", "--after",
+const WORDS: [&str; 12] = [
+    "onuctl", "run", "T", "--frames", "F", "--port", "257", "--lanes", "2", "--batch", "2",
+    "--after",
 ];
 
 /// What a run gave, and what it wrote: so many bytes of these.

@@ -9,10 +9,9 @@ use test_fixtures::{holds, same};
 use text_writing::Status;
 
 /// A run's words, the trace first, with three values that a case gives.
-fn run_words<'w>(port: &'w str, lanes: &'w str, batch: &'w str) -> [&'w str; 12] {
+fn run_words<'w>(port: &'w str, lanes: &'w str, batch: &'w str) -> [&'w str; 11] {
     [
-        "onuctl", "run", "--trace", "t", "--frames", "f", "--port", port, "--lanes", lanes,
-        "--batch", batch,
+        "onuctl", "run", "t", "--frames", "f", "--port", port, "--lanes", lanes, "--batch", batch,
     ]
 }
 
@@ -54,7 +53,7 @@ fn words_ask_for_a_replay_or_a_run(rt: HostRuntime) -> Result<(), Fail> {
                 "--lanes=2",
                 "--port=257",
                 "--frames=f",
-                "--trace=t",
+                "t",
             ][..],
             257,
             2,

@@ -2,7 +2,7 @@
 ghost use Rattle.std.specs.Prelude.{◌≡◌, Ok, false};
 ghost use Rattle.clap.specs.Words.{App, Rule, Text, new_app, rule_of, with_rule};
 ghost use Rattle.clap.specs.declared.builder.value_parser.ValueParser.TheVariants.{NonEmptyString};
-ghost use Rattle.command_line.specs.Grammar.{IsCommand, at_port, json, numbered, optional, over_files, over_trace, port, script, several, shown_after, strict, trace, until, valued};
+ghost use Rattle.command_line.specs.Grammar.{IsCommand, json, numbered, optional, over_files, over_trace, over_traces, port, script, scripts, several, strict, trace, traces, until, valued};
 
 use clap::builder::ValueParser;
 use clap::{Arg, ArgAction, Command, value_parser};
@@ -93,11 +93,29 @@ pub(super) fn trace<'a>(alloc: Global) -> Arg<'a>
     ensures rule { rule_of result ≡ trace }
     ensures local { result.global ≡ false }
 {
-    file(
-        alloc,
-        "trace",
-        "Script, or words for one, whose messages are applied, a file [example: up.script]",
-    )
+    Arg::new(alloc, "trace")
+        .value_name("TRACE")
+        .required(true)
+        .action(ArgAction::Set)
+        .value_parser(ValueParser::NonEmptyString)
+        .help(
+            "Script, or words for one, whose messages are applied, a file; also behind --trace [example: up.script]",
+        )
+}
+
+/// The scripts whose messages are applied, those of each by themselves.
+pub(super) fn traces<'a>(alloc: Global) -> Arg<'a>
+    ensures rule { rule_of result ≡ traces }
+    ensures local { result.global ≡ false }
+{
+    Arg::new(alloc, "trace")
+        .value_name("TRACE")
+        .required(true)
+        .action(ArgAction::Append)
+        .value_parser(ValueParser::NonEmptyString)
+        .help(
+            "Scripts, or words for them, whose messages are applied, a file each; also behind --trace [example: up.script]",
+        )
 }
 
 /// The file with a script, for a command that reads standard input without it.
@@ -110,6 +128,20 @@ pub(super) fn script<'a>(alloc: Global) -> Arg<'a>
         .action(ArgAction::Set)
         .value_parser(ValueParser::NonEmptyString)
         .help("Script, or words for one, a file; standard input without it [example: up.script]")
+}
+
+/// The files with scripts, for a command that reads standard input without one.
+pub(super) fn scripts<'a>(alloc: Global) -> Arg<'a>
+    ensures rule { rule_of result ≡ scripts }
+    ensures local { result.global ≡ false }
+{
+    Arg::new(alloc, "script")
+        .value_name("FILE")
+        .action(ArgAction::Append)
+        .value_parser(ValueParser::NonEmptyString)
+        .help(
+            "Scripts, or words for them, a file each; standard input without one [example: up.script]",
+        )
 }
 
 pub(super) fn port<'a>(alloc: Global) -> Arg<'a>
@@ -187,21 +219,16 @@ pub(super) fn over_trace<'a>(alloc: Global, command: Command<'a>) -> Result<Comm
     with_arg(up_to, strict(alloc))
 }
 
-/// The same, and whether objects are shown.
-pub(super) fn shown_after<'a>(
+/// The command that names traces, how far each is read, whether each message has to be carried out, and whether objects are shown.
+pub(super) fn over_traces<'a>(
     alloc: Global,
     command: Command<'a>,
 ) -> Result<Command<'a>, AllocError>
     ensures { (name : Text) → IsCommand (Ok command.entry) (new_app name)
-        → IsCommand result (shown_after name) }
+        → IsCommand result (over_traces name) }
 {
-    with_arg(over_trace(alloc, command), json(alloc))
-}
-
-/// The same, and a port.
-pub(super) fn at_port<'a>(alloc: Global, command: Command<'a>) -> Result<Command<'a>, AllocError>
-    ensures { (name : Text) → IsCommand (Ok command.entry) (new_app name)
-        → IsCommand result (at_port name) }
-{
-    with_arg(shown_after(alloc, command), port(alloc))
+    let of_traces = with_arg(Ok(command), traces(alloc));
+    let up_to = with_arg(of_traces, until(alloc));
+    let strictly = with_arg(up_to, strict(alloc));
+    with_arg(strictly, json(alloc))
 }

@@ -3,7 +3,7 @@ ghost use Rattle.std.specs.Prelude.{◌≡◌, false};
 ghost use Rattle.clap.specs.Words.{rule_of};
 ghost use Rattle.command_line.specs.Grammar.{IsCommand, decode, source};
 
-use crate::grammar::common::{json, script, with_arg};
+use crate::grammar::common::{json, scripts, with_arg};
 use clap::{Arg, ArgAction, Command};
 use std::alloc::{AllocError, Global};
 
@@ -26,9 +26,9 @@ pub(super) fn decode<'a>(alloc: Global) -> Result<Command<'a>, AllocError>
     let alone = Command::new(alloc, "decode")
         .about("Say what each line of a script or of its answers means")
         .after_help(
-            "Status: 0, 1 or 2; onuctl help statuses says when\nExample: onuctl decode examples/replay/one_frame.script",
+            "The lines of several files have the file's name in front; --source writes it as a remark.\nStatus: 0, 1 or 2; onuctl help statuses says when\nExample: onuctl decode examples/replay/one_frame.script",
         );
     let of_words = with_arg(Ok(alone), source(alloc));
     let shown = with_arg(of_words, json(alloc));
-    with_arg(shown, script(alloc))
+    with_arg(shown, scripts(alloc))
 }

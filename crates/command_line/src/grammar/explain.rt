@@ -3,7 +3,7 @@ ghost use Rattle.std.specs.Prelude.{◌≡◌, false};
 ghost use Rattle.clap.specs.Words.{rule_of};
 ghost use Rattle.command_line.specs.Grammar.{IsCommand, all, bytes, explain, of_bytes};
 
-use crate::grammar::common::{at_port, numbered, optional, with_arg};
+use crate::grammar::common::{json, numbered, optional, over_trace, port, with_arg};
 use clap::builder::ValueParser;
 use clap::{Arg, ArgAction, Command};
 use std::alloc::{AllocError, Global};
@@ -38,9 +38,11 @@ fn of_bytes<'a>(alloc: Global) -> Result<Command<'a>, AllocError>
     let alone = Command::new(alloc, "explain")
         .about("Say step by step what becomes of one frame after a trace")
         .after_help(
-            "The frame is given by its bytes, or by a capture and its number there.\nStatus: 0, 1 or 2; onuctl help statuses says when\nExample: onuctl explain --trace up.script --port 257 0200000000010200000000028100a0640800\nExample: onuctl explain --trace up.script --port 257 --frames up.pcap --frame 7",
+            "The frame is given by its bytes, or by a capture and its number there.\nStatus: 0, 1 or 2; onuctl help statuses says when\nExample: onuctl explain up.script --port 257 0200000000010200000000028100a0640800\nExample: onuctl explain up.script --port 257 --frames up.pcap --frame 7",
         );
-    let each = with_arg(at_port(alloc, alone), all(alloc));
+    let shown = with_arg(over_trace(alloc, alone), json(alloc));
+    let at_port = with_arg(shown, port(alloc));
+    let each = with_arg(at_port, all(alloc));
     with_arg(each, bytes(alloc))
 }
 

@@ -31,7 +31,7 @@ fn verdicts<'a>(alloc: Global) -> Arg<'a>
         alloc,
         "verdicts",
         "FILE",
-        "Write a line for each frame to this file: its GEM port or why it is dropped [example: up.verdicts]",
+        "Write a line for each frame to this file: its GEM port or why it is dropped; - is standard output [example: up.verdicts]",
         ValueParser::NonEmptyString,
     )
 }
@@ -42,7 +42,7 @@ pub(super) fn forward<'a>(alloc: Global) -> Result<Command<'a>, AllocError>
     let alone = Command::new(alloc, "forward")
         .about("Forward the frames of a capture after a trace, and say what becomes of each")
         .after_help(
-            "Example: onuctl forward --trace up.script --frames up.pcap --port 257 --out left.pcapng",
+            "Example: onuctl forward up.script --frames up.pcap --port 257 --out left.pcapng",
         );
     let to_capture = with_arg(over_files(alloc, alone), out(alloc));
     let to_files = with_arg(to_capture, verdicts(alloc));

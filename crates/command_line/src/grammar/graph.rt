@@ -28,7 +28,7 @@ pub(super) fn graph<'a>(alloc: Global) -> Result<Command<'a>, AllocError>
     let alone = Command::new(alloc, "graph")
         .about("Draw how the managed entities after a trace point to each other, for Graphviz")
         .after_help(
-            "Status: 0, 1 or 2; onuctl help statuses says when\nExample: onuctl graph --trace up.script | dot -Tsvg",
+            "Status: 0, 1 or 2; onuctl help statuses says when\nExample: onuctl graph up.script | dot -Tsvg",
         );
     with_arg(over_trace(alloc, alone), any_port(alloc))
 }

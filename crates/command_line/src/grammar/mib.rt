@@ -1,7 +1,7 @@
 //! The words of `mib`.
 ghost use Rattle.command_line.specs.Grammar.{IsCommand, mib};
 
-use crate::grammar::common::shown_after;
+use crate::grammar::common::over_traces;
 use clap::Command;
 use std::alloc::{AllocError, Global};
 
@@ -11,7 +11,7 @@ pub(super) fn mib<'a>(alloc: Global) -> Result<Command<'a>, AllocError>
     let alone = Command::new(alloc, "mib")
         .about("Show the managed entities after a trace")
         .after_help(
-            "Status: 0, 1 or 2; onuctl help statuses says when\nExample: onuctl mib --trace up.script",
+            "The lines of several traces have the file's name in front.\nStatus: 0, 1 or 2; onuctl help statuses says when\nExample: onuctl mib up.script",
         );
-    shown_after(alloc, alone)
+    over_traces(alloc, alone)
 }

@@ -1,7 +1,7 @@
 //! The words of `rules`.
 ghost use Rattle.command_line.specs.Grammar.{IsCommand, rules};
 
-use crate::grammar::common::at_port;
+use crate::grammar::common::{over_traces, port, with_arg};
 use clap::Command;
 use std::alloc::{AllocError, Global};
 
@@ -11,7 +11,7 @@ pub(super) fn rules<'a>(alloc: Global) -> Result<Command<'a>, AllocError>
     let alone = Command::new(alloc, "rules")
         .about("Show the VLAN tagging table in force at a port after a trace")
         .after_help(
-            "Status: 0, 1 or 2; onuctl help statuses says when\nExample: onuctl rules --trace up.script --port 257",
+            "The lines of several traces have the file's name in front.\nStatus: 0, 1 or 2; onuctl help statuses says when\nExample: onuctl rules up.script --port 257",
         );
-    at_port(alloc, alone)
+    with_arg(over_traces(alloc, alone), port(alloc))
 }

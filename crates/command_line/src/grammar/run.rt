@@ -53,7 +53,7 @@ pub(super) fn run<'a>(alloc: Global) -> Result<Command<'a>, AllocError>
     let alone = Command::new(alloc, "run")
         .about("Forward the frames of a capture on several lanes while a trace is applied")
         .after_help(
-            "Example: onuctl run --trace up.script --frames up.pcap --port 257 --lanes 4 --batch 1024",
+            "Example: onuctl run up.script --frames up.pcap --port 257 --lanes 4 --batch 1024",
         );
     let on_lanes = with_arg(over_files(alloc, alone), lanes(alloc));
     let in_batches = with_arg(on_lanes, batch(alloc));

@@ -28,7 +28,7 @@ returns-in_err-matches-clause-refused c =
     rw p.1 (λ taken words asked fits.
     rw p.2 (c.in_err-matches.ensures.passes (ap (λ (a : App). takes a (texts c.args.words.now)) c.requires ∙ taken)))
 
-pub returns-in_err-error-in-None-clause-refused : goal.returns-in_err-error-in-None-clause-refused
-returns-in_err-error-in-None-clause-refused c =
-    let p = err_from_is_err_and c.from_residual-in_err-error-in-None.result c.from_residual-in_err-error-in-None.ensures.1 in
+pub returns-in_err-refusal-in-None-clause-refused : goal.returns-in_err-refusal-in-None-clause-refused
+returns-in_err-refusal-in-None-clause-refused c =
+    let p = err_from_is_err_and c.from_residual-in_err-refusal-in-None.result c.from_residual-in_err-refusal-in-None.ensures.1 in
     rw p.1 (λ taken words asked fits. p.2)
