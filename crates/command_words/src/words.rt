@@ -64,6 +64,8 @@ pub struct EncodeWords<'a> {
 pub struct RunWords<'a> {
     /// The file with the messages that are applied.
     pub trace: &'a str,
+    /// The line, from 1, behind which the trace isn't read, or None where it is read whole.
+    pub until: Option<u32>,
     /// The capture file with the frames that are forwarded.
     pub frames: &'a str,
     /// How the frames are forwarded.

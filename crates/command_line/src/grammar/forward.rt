@@ -42,7 +42,7 @@ pub(super) fn forward<'a>(alloc: Global) -> Result<Command<'a>, AllocError>
     let alone = Command::new(alloc, "forward")
         .about("Forward the frames of a capture after a trace, and say what becomes of each")
         .after_help(
-            "Example: onuctl forward --trace up.script --frames up.pcap --port 257 --out left.pcapng",
+            "Status: 0, 1 or 2; onuctl help statuses says when\nExample: onuctl forward --trace up.script --frames up.pcap --port 257 --out left.pcapng",
         );
     let to_capture = with_arg(over_files(alloc, alone), out(alloc));
     let to_files = with_arg(to_capture, verdicts(alloc));
