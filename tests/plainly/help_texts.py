@@ -186,12 +186,14 @@ Options:
       --frames <FILE>    Capture of the frames, a file in libpcap's classic format or in pcapng [example: up.pcap]
       --port <PORT>      Port at which frames come in, 0 to 65535 [example: 257]
       --out <FILE>       Write the frames that leave to this file, as pcapng; - is standard output [example: left.pcapng]
-      --verdicts <FILE>  Write a line for each frame to this file: its GEM port or why it is dropped [example: up.verdicts]
+      --dropped <FILE>   Write the frames that are dropped to this file, as pcapng; - is standard output [example: dropped.pcapng]
+      --verdicts <FILE>  Write a line for each frame to this file: its GEM port and tags, or why it is dropped [example: up.verdicts]
       --until <LINE>     Stop behind this line of the trace, from 1 [example: 20]
       --strict           Stop where a message of the trace has a fault or is refused; has no value [example: --strict]
       --json             Show it as JSON, for other programs; has no value [example: --json]
   -h, --help             Print help
 
+Status: 0, 1 or 2; onuctl help statuses says when
 Example: onuctl forward --trace up.script --frames up.pcap --port 257 --out left.pcapng""",
     "record": """\
 Write the history that captures of one clock show, for judge

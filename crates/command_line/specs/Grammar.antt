@@ -63,6 +63,9 @@ batch = optional (codes "batch") (Signed (pos 1) (pos batch_limit))
 abbrev pub out : Rule
 out = optional (codes "out") NonEmptyString
 
+abbrev pub dropped : Rule
+dropped = optional (codes "dropped") NonEmptyString
+
 abbrev pub verdicts : Rule
 verdicts = optional (codes "verdicts") NonEmptyString
 
@@ -135,7 +138,7 @@ run = with_rule (with_rule on_lanes until) json
 
 -- what names the files that are written
 abbrev pub to_files : App
-to_files = with_rule (with_rule (over_files (codes "forward")) out) verdicts
+to_files = with_rule (with_rule (with_rule (over_files (codes "forward")) out) dropped) verdicts
 
 abbrev pub forward : App
 forward = with_rule (with_rule (with_rule to_files until) strict) json

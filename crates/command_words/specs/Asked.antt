@@ -110,6 +110,7 @@ pub record IsForward (rows : List Row) (words : ForwardWords) : Type 0 where
   pub frames : first_of (codes "frames") rows ≡ Some words.frames.now
   pub port : IsNumber (codes "port") rows words.port
   pub out : first_of (codes "out") rows ≡ option_map (λ (name : _). name.now) words.out
+  pub dropped : first_of (codes "dropped") rows ≡ option_map (λ (name : _). name.now) words.dropped
   pub verdicts : first_of (codes "verdicts") rows ≡ option_map (λ (name : _). name.now) words.verdicts
   pub json : IsFlag (codes "json") rows words.json
 

@@ -189,6 +189,7 @@ fn read_forward<'a>(given: &ArgMatches<'a>) -> Option<ForwardWords<'a>>
         frames: given.get_str("frames")?,
         port: given.get_one("port")?,
         out: given.get_str("out"),
+        dropped: given.get_str("dropped"),
         verdicts: given.get_str("verdicts"),
         json: given.get_flag("json"),
     })

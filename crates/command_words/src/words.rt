@@ -180,6 +180,8 @@ pub struct ForwardWords<'a> {
     pub port: u16,
     /// The file for the frames that leave, `-` for standard output, or None where they aren't wanted.
     pub out: Option<&'a str>,
+    /// The file for the frames that are dropped, `-` for standard output, or None where they aren't wanted.
+    pub dropped: Option<&'a str>,
     /// The file for a line a frame, or None where none is wanted.
     pub verdicts: Option<&'a str>,
     /// Whether the totals are shown as JSON.

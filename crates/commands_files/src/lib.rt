@@ -22,8 +22,6 @@ pub use outputs::{Output, Taken, create_output};
 pub use pieces::{Capture, History, read_capture, read_history};
 pub use reports::{report_decoding, report_text, report_value, without_memory};
 pub use script_input::{ScriptInput, open_script};
-pub use traces::{
-    Linted, apply_linted, apply_trace, read_trace, report_bad_line, report_until,
-};
+pub use traces::{Linted, apply_linted, apply_trace, read_trace, report_bad_line, report_until};
 pub use unread::{Silenced, Unread, Watched};
 pub use written::{line_of, lines_until, script_of};

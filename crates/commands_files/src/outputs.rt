@@ -208,14 +208,32 @@ fn is_taken<R: Files, E: Write>(
     true
 }
 
+/// Whether a file that is written is one of the outputs that there are already. It says so.
+fn is_among<R: Files, E: Write>(
+    rt: &R,
+    name: &str,
+    names: &Names,
+    others: &[Option<Taken<'_>>],
+    err: &mut E,
+) -> bool {
+    for other in others {
+        if let Some(taken) = other
+            && is_taken(rt, name, names, taken, err)
+        {
+            return true;
+        }
+    }
+    false
+}
+
 /// The output of this name, or the status where it can't be written. A file is written beside its name, so an older one stays as it is
-/// until the new one is whole. A device or a pipe gets what is written as it comes. An output that is one of the inputs, or the other
+/// until the new one is whole. A device or a pipe gets what is written as it comes. An output that is one of the inputs, or another
 /// output, by whatever name, is refused.
 pub fn create_output<'n, R: Files + Alloc<A = Global>, E: Write>(
     rt: &R,
     name: &'n str,
     inputs: &[&str],
-    other: Option<Taken<'_>>,
+    others: &[Option<Taken<'_>>],
     err: &mut E,
 ) -> Result<Output<'n, R::File>, Status> {
     if fs::metadata(rt, name).is_ok_and(|about| !about.is_file()) {
@@ -229,9 +247,7 @@ pub fn create_output<'n, R: Files + Alloc<A = Global>, E: Write>(
             return Err(Status::Failed);
         }
     }
-    if let Some(other) = other
-        && is_taken(rt, name, &names, &other, err)
-    {
+    if is_among(rt, name, &names, others, err) {
         return Err(Status::Failed);
     }
     open_output(rt, name, Some(names), err)
