@@ -1,8 +1,7 @@
-use Rattle.std.proofs.Common.{◌≡◌, ◌++◌, ◌∙◌, ap, length, refl, subst}
+use Rattle.std.proofs.Common.{◌∙◌, ap, length, refl, subst}
 use Rattle.std.specs.Prelude.{OnOk, OnErr}
 use Rattle.std.specs.Io.KnownBytes.{Appends}
 use Rattle.text_writing.specs.Written.{AppendsPart}
-use Rattle.bench_forward.specs.Blocks.{packet_block}
 use Rattle.bench_forward.specs.Comments.{dropped_comment}
 use Rattle.bench_forward.proofs.Wholes.{bytes_whole}
 use Rattle.bench_forward.proofs.drops.write_dropped.Goals as goal
