@@ -221,12 +221,13 @@ fn create_asked<'n, R: Files + Alloc<A = Global>, E: Write>(
     rt: &R,
     words: &ForwardWords<'_>,
     name: Option<&'n str>,
-    others: &[Option<Taken<'_>>],
+    one: Option<Taken<'_>>,
+    other: Option<Taken<'_>>,
     err: &mut E,
 ) -> Result<Option<Output<'n, R::File>>, Status> {
     let inputs = [words.trace.file, words.frames];
     match name {
-        Some(name) => Ok(Some(create_output(rt, name, &inputs, others, err)?)),
+        Some(name) => Ok(Some(create_output(rt, name, &inputs, one, other, err)?)),
         None => Ok(None),
     }
 }
@@ -241,8 +242,9 @@ fn forward_into<'w, R: Files + Alloc<A = Global>, W: Write + Drop, D: Write + Dr
     err: &mut E,
 ) -> Result<Totals, Status> {
     let words = job.words;
-    let others = [taken(&packets), taken(&dropped)];
-    let verdicts = match create_asked(rt, words, words.verdicts, &others, err) {
+    let one = taken(&packets);
+    let other = taken(&dropped);
+    let verdicts = match create_asked(rt, words, words.verdicts, one, other, err) {
         Ok(verdicts) => verdicts,
         Err(status) => {
             discard(rt, &packets);
@@ -267,7 +269,7 @@ fn leave_to_output<R: Files + Alloc<A = Global>, O: Write, E: Write>(
     err: &mut E,
 ) -> Result<Status, Status> {
     let words = job.words;
-    let dropped = create_asked(rt, words, words.dropped, &[], err)?;
+    let dropped = create_asked(rt, words, words.dropped, None, None, err)?;
     let Ok(packets) = Output::direct(rt.alloc(), "standard output", &mut *out) else {
         discard(rt, &dropped);
         return Err(without_memory(err));
@@ -285,7 +287,7 @@ fn drop_to_output<R: Files + Alloc<A = Global>, O: Write, E: Write>(
     err: &mut E,
 ) -> Result<Status, Status> {
     let words = job.words;
-    let packets = create_asked(rt, words, words.out, &[], err)?;
+    let packets = create_asked(rt, words, words.out, None, None, err)?;
     let Ok(dropped) = Output::direct(rt.alloc(), "standard output", &mut *out) else {
         discard(rt, &packets);
         return Err(without_memory(err));
@@ -303,8 +305,8 @@ fn forward_to_files<R: Files + Alloc<A = Global>, O: Write, E: Write>(
     err: &mut E,
 ) -> Result<Status, Status> {
     let words = job.words;
-    let packets = create_asked(rt, words, words.out, &[], err)?;
-    let dropped = match create_asked(rt, words, words.dropped, &[taken(&packets)], err) {
+    let packets = create_asked(rt, words, words.out, None, None, err)?;
+    let dropped = match create_asked(rt, words, words.dropped, taken(&packets), None, err) {
         Ok(dropped) => dropped,
         Err(status) => {
             discard(rt, &packets);

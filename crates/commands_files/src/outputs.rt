@@ -208,22 +208,18 @@ fn is_taken<R: Files, E: Write>(
     true
 }
 
-/// Whether a file that is written is one of the outputs that there are already. It says so.
-fn is_among<R: Files, E: Write>(
+/// Whether a file that is written is another output, if there is that one already. It says so.
+fn is_other<R: Files, E: Write>(
     rt: &R,
     name: &str,
     names: &Names,
-    others: &[Option<Taken<'_>>],
+    other: Option<Taken<'_>>,
     err: &mut E,
 ) -> bool {
-    for other in others {
-        if let Some(taken) = other
-            && is_taken(rt, name, names, taken, err)
-        {
-            return true;
-        }
+    match other {
+        Some(taken) => is_taken(rt, name, names, &taken, err),
+        None => false,
     }
-    false
 }
 
 /// The output of this name, or the status where it can't be written. A file is written beside its name, so an older one stays as it is
@@ -233,7 +229,8 @@ pub fn create_output<'n, R: Files + Alloc<A = Global>, E: Write>(
     rt: &R,
     name: &'n str,
     inputs: &[&str],
-    others: &[Option<Taken<'_>>],
+    one: Option<Taken<'_>>,
+    other: Option<Taken<'_>>,
     err: &mut E,
 ) -> Result<Output<'n, R::File>, Status> {
     if fs::metadata(rt, name).is_ok_and(|about| !about.is_file()) {
@@ -247,7 +244,7 @@ pub fn create_output<'n, R: Files + Alloc<A = Global>, E: Write>(
             return Err(Status::Failed);
         }
     }
-    if is_among(rt, name, &names, others, err) {
+    if is_other(rt, name, &names, one, err) || is_other(rt, name, &names, other, err) {
         return Err(Status::Failed);
     }
     open_output(rt, name, Some(names), err)
