@@ -53,13 +53,24 @@ def whole(data, time=0):
 # A section header of version 1.0 with a section of unknown length, and the interface `gem 1024`.
 FRONT = ("0a0d0d0a 1c000000 4d3c2b1a 0100 0000 ffffffffffffffff 1c000000"
          "01000000 2c000000 0100 0000 00000000 0200 0800 67656d2031303234 0900 0100 09000000 00000000 2c000000").replace(" ", "")
-# The first frame, which leaves with a tag, at 1,000,000,007 nanoseconds, 0x3b9aca07.
-FIRST = ("06000000 34000000 00000000 00000000 07ca9a3b 14000000 14000000 020000000001020000000002 81000064 0800 4500"
-         "34000000").replace(" ", "")
+# The first frame, which leaves with a tag, at 1,000,000,007 nanoseconds, 0x3b9aca07. Behind it stand the comment `frame 1`, padded with one byte, and
+# the end of the options.
+FIRST = ("06000000 44000000 00000000 00000000 07ca9a3b 14000000 14000000 020000000001020000000002 81000064 0800 4500"
+         "0100 0700 6672616d652031 00 00000000 44000000").replace(" ", "")
 # The fourth frame, which leaves as it came, at 4,705,032,706 nanoseconds, 0x1_1871_1a02. Its 23 bytes are padded with one.
-FOURTH = ("06000000 38000000 00000000 01000000 021a7118 17000000 17000000 020000000001020000000002 88a80064 810000c8 0800 45 00"
-          "38000000").replace(" ", "")
-FOUR = [(1, 7, 16, UNTAGGED), (1, 8, 13, RUNT), (2, 0, 14, CUT_TAG), (4, 705032706, 60, TWO_TAGS)]
+FOURTH = ("06000000 48000000 00000000 01000000 021a7118 17000000 17000000 020000000001020000000002 88a80064 810000c8 0800 45 00"
+          "0100 0700 6672616d652034 00 00000000 48000000").replace(" ", "")
+# The two that are dropped, behind a section header and the interface `port 257`: 13 bytes at 1,000,000,008 nanoseconds, and 14 of 60 bytes at
+# 2,000,000,000, 0x77359400. The comments are `frame 2: drop 1` and `frame 3: drop 2`.
+DROPPED = ("0a0d0d0a 1c000000 4d3c2b1a 0100 0000 ffffffffffffffff 1c000000"
+           "01000000 2c000000 0100 0000 00000000 0200 0800 706f727420323537 0900 0100 09000000 00000000 2c000000"
+           "06000000 48000000 00000000 00000000 08ca9a3b 0d000000 0d000000 020000000001020000000002 08 000000"
+           "0100 0f00 6672616d6520323a2064726f702031 00 00000000 48000000"
+           "06000000 48000000 00000000 00000000 00943577 0e000000 3c000000 020000000001020000000002 8100 0000"
+           "0100 0f00 6672616d6520333a2064726f702032 00 00000000 48000000").replace(" ", "")
+FOUR = [(1, 7, 16, UNTAGGED), (1, 8, 13, RUNT), (2, 0, 60, CUT_TAG), (4, 705032706, 60, TWO_TAGS)]
+TAG_100 = "tag=8100:0:0:100"
+BOTH_TAGS = "tag=88a8:0:0:100 tag=8100:0:0:200"
 IN_A_RECORD = "is cut short or broken, expected a whole one"
 MANY = [whole(RUNT), whole(CUT_TAG), *[whole(RUNT)] * 4, whole(UNTAGGED), *[whole(RUNT)] * 7]
 ONE, TWO = "the frame ends within its addresses or type", "the frame ends within a tag or before the type behind it"
@@ -68,19 +79,23 @@ PAIR = [whole(UNTAGGED), whole(TWO_TAGS, 1)]
 # What it shows, the messages of the trace, the port, the records of the capture, and what is wanted of what `forward` writes.
 FORWARDED = [
     ("packets and lines stand byte by byte", PUSHING, 257, FOUR,
-     {"bytes": FRONT + FIRST + FOURTH, "lines": "1 g 1024 entry 0\n2 d 1\n3 d 2\n4 g 1024 entry 3\n",
-      "said": "1 frames are cut by the capture's snap length\n"}),
+     {"bytes": FRONT + FIRST + FOURTH, "dropped": DROPPED,
+      "lines": f"1 g 1024 entry 0 {TAG_100}\n2 d 1\n3 d 2\n4 g 1024 entry 3 {BOTH_TAGS}\n",
+      "said": "2 frames are cut by the capture's snap length\n"}),
     ("each GEM port has an interface", TWO_GEM_PORTS, 257,
      [whole(PRIORITY_5, 1), whole(TAGGED, 2), whole(UNTAGGED, 3), whole(PRIORITY_5, 9999999999)],
-     {"lines": "1 g 7\n2 g 1024\n3 g 1024\n4 g 7\n",
-      "packets": [("gem 7", 1, PRIORITY_5), ("gem 1024", 2, TAGGED), ("gem 1024", 3, UNTAGGED), ("gem 7", 9999999999, PRIORITY_5)]}),
+     {"lines": f"1 g 7 tag=8100:5:0:100\n2 g 1024 {TAG_100}\n3 g 1024 untagged\n4 g 7 tag=8100:5:0:100\n",
+      "packets": [("gem 7", 1, 20, PRIORITY_5, "frame 1"), ("gem 1024", 2, 20, TAGGED, "frame 2"), ("gem 1024", 3, 16, UNTAGGED, "frame 3"),
+                  ("gem 7", 9999999999, 20, PRIORITY_5, "frame 4")], "drops": []}),
     ("a torn record comes behind the frames before it", PUSHING, 257, FOUR,
-     {"torn": 1, "status": 2, "bytes": FRONT + FIRST, "lines": "1 g 1024 entry 0\n2 d 1\n3 d 2\n",
+     {"torn": 1, "status": 2, "bytes": FRONT + FIRST, "dropped": DROPPED, "lines": f"1 g 1024 entry 0 {TAG_100}\n2 d 1\n3 d 2\n",
       "said": f"capture fault 4 at 3\ncapture: record or block 3, from 0, {IN_A_RECORD}\ncapture: it came after 3 frames\n"}),
-    ("an entry for each", SET_UP, 257, PAIR, {"lines": "1 g 1024 entry 0\n2 g 1024 entry 2\n"}),
-    ("a port without a table or a mapper", SET_UP, 258, PAIR, {"lines": "1 d 5\n2 d 5\n"}),
-    ("frames with two tags are discarded", DISCARDING, 257, PAIR, {"lines": "1 g 1024 entry 0\n2 d 4 entry 2\n"}),
-    ("they have no entry", WITHOUT_ENTRY, 257, PAIR, {"lines": "1 g 1024 entry 0\n2 d 3\n"}),
+    ("an entry for each", SET_UP, 257, PAIR, {"lines": f"1 g 1024 entry 0 untagged\n2 g 1024 entry 2 {BOTH_TAGS}\n"}),
+    ("a port without a table or a mapper", SET_UP, 258, PAIR,
+     {"lines": "1 d 5\n2 d 5\n", "packets": [],
+      "drops": [("port 258", 0, 16, UNTAGGED, "frame 1: drop 5"), ("port 258", 1, 23, TWO_TAGS, "frame 2: drop 5")]}),
+    ("frames with two tags are discarded", DISCARDING, 257, PAIR, {"lines": "1 g 1024 entry 0 untagged\n2 d 4 entry 2\n"}),
+    ("they have no entry", WITHOUT_ENTRY, 257, PAIR, {"lines": "1 g 1024 entry 0 untagged\n2 d 3\n"}),
     ("priority 0 has no pointer", NULL_POINTER, 257, PAIR, {"lines": "1 d 6 entry 0\n2 d 3\n"}),
     ("it has one to nothing", TO_NO_POINT, 257, PAIR, {"lines": "1 d 7 entry 0\n2 d 3\n"}),
     ("the interworking point has one to nothing", TO_NO_GEM_PORT, 257, PAIR, {"lines": "1 d 8 entry 0\n2 d 3\n"}),
@@ -93,7 +108,7 @@ FORWARDED = [
      {"totals": f"frames 14\nbytes 20\ndrop 1 12 {ONE}: 1, 3, 4, 5, 6, 8, 9, 10, 11, 12, ..\ndrop 2 1 {TWO}: 2\ngem 1024 1\n"}),
     ("ten are all", PUSHING, 257, MANY[:12],
      {"totals": f"frames 12\nbytes 20\ndrop 1 10 {ONE}: 1, 3, 4, 5, 6, 8, 9, 10, 11, 12\ndrop 2 1 {TWO}: 2\ngem 1024 1\n"}),
-    ("nothing is counted", PUSHING, 257, [], {"totals": "frames 0\nbytes 0\n", "packets": []}),
+    ("nothing is counted", PUSHING, 257, [], {"totals": "frames 0\nbytes 0\n", "packets": [], "drops": []}),
 ]
 
 OMCI, INTO, OUT_OF = "--omci", "--into 257", "--out-of 1024"

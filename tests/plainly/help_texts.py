@@ -46,7 +46,7 @@ Example: onuctl replay examples/replay/one_frame.script""",
     "run": """\
 Forward the frames of a capture on several lanes while a trace is applied
 
-Usage: onuctl run [OPTIONS] --frames <FILE> --port <PORT> --lanes <COUNT> --batch <FRAMES> <TRACE>
+Usage: onuctl run [OPTIONS] --frames <FILE> --port <PORT> <TRACE>
 
 Arguments:
   <TRACE>  Script, or words for one, whose messages are applied, a file; also behind --trace [example: up.script]
@@ -54,13 +54,15 @@ Arguments:
 Options:
       --frames <FILE>   Capture of the frames, a file in libpcap's classic format or in pcapng [example: up.pcap]
       --port <PORT>     Port at which frames come in, 0 to 65535 [example: 257]
-      --lanes <COUNT>   Lanes that forward side by side, 1 to 16 [example: 4]
-      --batch <FRAMES>  Frames of each batch but the last, 1 to 65536 [example: 1024]
+      --lanes <COUNT>   Lanes that forward side by side, 1 to 16; 4 without it [example: 8]
+      --batch <FRAMES>  Frames of each batch but the last, 1 to 65536; 1024 without it [example: 4096]
       --after           Forward only after the whole trace is applied; has no value [example: --after]
+      --until <LINE>    Stop behind this line of the trace, from 1 [example: 20]
       --json            Show it as JSON, for other programs; has no value [example: --json]
   -h, --help            Print help
 
-Example: onuctl run up.script --frames up.pcap --port 257 --lanes 4 --batch 1024""",
+Status: 0, 1 or 2; onuctl help statuses says when
+Example: onuctl run up.script --frames up.pcap --port 257""",
     "decode": """\
 Say what each line of a script or of its answers means
 
@@ -200,12 +202,14 @@ Options:
       --frames <FILE>    Capture of the frames, a file in libpcap's classic format or in pcapng [example: up.pcap]
       --port <PORT>      Port at which frames come in, 0 to 65535 [example: 257]
       --out <FILE>       Write the frames that leave to this file, as pcapng; - is standard output [example: left.pcapng]
-      --verdicts <FILE>  Write a line for each frame to this file: its GEM port or why it is dropped; - is standard output [example: up.verdicts]
+      --dropped <FILE>   Write the frames that are dropped to this file, as pcapng; - is standard output [example: dropped.pcapng]
+      --verdicts <FILE>  Write a line for each frame to this file: its GEM port and tags, or why it is dropped; - is standard output [example: up.verdicts]
       --until <LINE>     Stop behind this line of the trace, from 1 [example: 20]
       --strict           Stop where a message of the trace has a fault or is refused; has no value [example: --strict]
       --json             Show it as JSON, for other programs; has no value [example: --json]
   -h, --help             Print help
 
+Status: 0, 1 or 2; onuctl help statuses says when
 Example: onuctl forward up.script --frames up.pcap --port 257 --out left.pcapng""",
     "record": """\
 Write the history that captures of one clock show, for judge

@@ -2,7 +2,6 @@
 use Rattle.std.proofs.Common.{◌≡◌, ℕ, ◌+◌, Bool, true, false, List, [], ◌∷◌, ◌++◌, length, take, refl, sym, ap, ◌∙◌, arith, inl, inr, append_assoc, length-take}
 use Rattle.std.specs.Prelude.{count_by, if◌then◌else◌}
 use Rattle.std.proofs.lemmas.Bool.{cases_lt}
-use Rattle.std.proofs.lemmas.Grind.{flat_map-append}
 use Rattle.std.proofs.lemmas.List.{append-nil, map-append, take_all, take-append-le}
 use Rattle.std.proofs.lemmas.List.Sums.{sum_by-append}
 use Rattle.mib_state.specs.Entities.{Entities}
@@ -14,7 +13,8 @@ use Rattle.frame_stats.specs.Tallies.{weight}
 use Rattle.frame_stats.proofs.FigureSums.{figure-append, figure_is_sum}
 use Rattle.bench_capture.specs.Recorded.{Recorded}
 use Rattle.bench_forward.specs.Entries.{entry_number}
-use Rattle.bench_forward.specs.Frames.{AreTotalsOf, is_cut, leaving, left_by, lines_from, lines_of, packets_of, verdict_on, verdicts_on}
+use Rattle.bench_forward.specs.Drops.{dropped_by, drops_header}
+use Rattle.bench_forward.specs.Frames.{AreTotalsOf, drops_from, drops_of, is_cut, leaving, leaving_from, left_by, lines_from, lines_of, packets_of, verdict_on, verdicts_on}
 use Rattle.bench_forward.specs.Blocks.{section_block}
 use Rattle.bench_forward.specs.Lines.{verdict_line}
 use Rattle.bench_forward.specs.Packets.{Leaving, blocks_from, blocks_of, gems_behind, packet_file, with_interface}
@@ -33,22 +33,51 @@ blocks-append gems (x ∷ xs) ys =
     ap (λ blocks. blocks_of gems x ++ blocks) (blocks-append (with_interface gems x.gem) xs ys)
     ∙ sym (append_assoc (blocks_of gems x) (blocks_from (with_interface gems x.gem) xs) (blocks_from (gems_behind (with_interface gems x.gem) xs) ys))
 
-module _ (e : Entities) (port : ℕ) (seen : List Recorded) (frame : Recorded) where
-  one : List Leaving
-  one = left_by frame.time (verdict_on e port frame)
+leaving-append : (n : ℕ) (e : Entities) (port : ℕ) (xs ys : List Recorded) → leaving_from n e port (xs ++ ys) ≡ leaving_from n e port xs ++ leaving_from (n + length xs) e port ys
+leaving-append n e port [] ys = ap (λ (k : ℕ). leaving_from k e port ys) (let same : n ≡ n + 0 = omega arith in same)
+leaving-append n e port (x ∷ xs) ys =
+    let one = left_by n x.time (verdict_on e port x) in
+    let at : n + 1 + length xs ≡ n + length (x ∷ xs) = omega arith in
+    ap (λ frames. one ++ frames) (leaving-append (n + 1) e port xs ys) ∙ sym (append_assoc one (leaving_from (n + 1) e port xs) (leaving_from (n + 1 + length xs) e port ys))
+    ∙ ap (λ (k : ℕ). one ++ leaving_from (n + 1) e port xs ++ leaving_from k e port ys) at
 
-  leaving_more : leaving e port (seen ++ frame ∷ []) ≡ leaving e port seen ++ left_by frame.time (verdict_on e port frame)
-  leaving_more = flat_map-append (λ (f : Recorded). left_by f.time (verdict_on e port f)) seen (frame ∷ []) ∙ ap (λ l. leaving e port seen ++ l) (append-nil _)
+module _ (e : Entities) (port : ℕ) (seen : List Recorded) (frame : Recorded) (n : ℕ) (at : n ≡ length seen + 1) where
+  leaving_more : leaving e port (seen ++ frame ∷ []) ≡ leaving e port seen ++ left_by n frame.time (verdict_on e port frame)
+  leaving_more =
+      let same : 1 + length seen ≡ n = omega (arith, at) in
+      leaving-append 1 e port seen (frame ∷ []) ∙ ap (λ (k : ℕ). leaving e port seen ++ leaving_from k e port (frame ∷ [])) same
+      ∙ ap (λ one. leaving e port seen ++ one) (append-nil (left_by n frame.time (verdict_on e port frame)))
 
-  pub packets_more : packets_of e port (seen ++ frame ∷ []) ≡ packets_of e port seen ++ blocks_from (gems_behind [] (leaving e port seen)) (left_by frame.time (verdict_on e port frame))
+  pub packets_more : packets_of e port (seen ++ frame ∷ []) ≡ packets_of e port seen ++ blocks_from (gems_behind [] (leaving e port seen)) (left_by n frame.time (verdict_on e port frame))
   unfolding packets_of packet_file
   packets_more =
       let front = ap (λ frames. packet_file frames) leaving_more in
-      let parts = blocks-append [] (leaving e port seen) (left_by frame.time (verdict_on e port frame)) in
+      let parts = blocks-append [] (leaving e port seen) (left_by n frame.time (verdict_on e port frame)) in
       front ∙ ap (λ blocks. section_block ++ blocks) parts ∙ sym (append_assoc section_block (blocks_from [] (leaving e port seen)) _)
 
-  pub gems_more : gems_behind [] (leaving e port (seen ++ frame ∷ [])) ≡ gems_behind (gems_behind [] (leaving e port seen)) (left_by frame.time (verdict_on e port frame))
-  gems_more = ap (gems_behind []) leaving_more ∙ gems-append [] (leaving e port seen) (left_by frame.time (verdict_on e port frame))
+  pub gems_more : gems_behind [] (leaving e port (seen ++ frame ∷ [])) ≡ gems_behind (gems_behind [] (leaving e port seen)) (left_by n frame.time (verdict_on e port frame))
+  gems_more = ap (gems_behind []) leaving_more ∙ gems-append [] (leaving e port seen) (left_by n frame.time (verdict_on e port frame))
+
+-- ---- the frames that are dropped
+
+drops-append : (n : ℕ) (e : Entities) (port : ℕ) (xs ys : List Recorded) → drops_from n e port (xs ++ ys) ≡ drops_from n e port xs ++ drops_from (n + length xs) e port ys
+drops-append n e port [] ys = ap (λ (k : ℕ). drops_from k e port ys) (let same : n ≡ n + 0 = omega arith in same)
+drops-append n e port (x ∷ xs) ys =
+    let one = dropped_by n x (verdict_on e port x) in
+    let at : n + 1 + length xs ≡ n + length (x ∷ xs) = omega arith in
+    ap (λ drops. one ++ drops) (drops-append (n + 1) e port xs ys) ∙ sym (append_assoc one (drops_from (n + 1) e port xs) (drops_from (n + 1 + length xs) e port ys))
+    ∙ ap (λ (k : ℕ). one ++ drops_from (n + 1) e port xs ++ drops_from k e port ys) at
+
+pub drops_more : (e : Entities) (port : ℕ) (seen : List Recorded) (frame : Recorded) (n : ℕ) → n ≡ length seen + 1
+    → drops_of e port (seen ++ frame ∷ []) ≡ drops_of e port seen ++ dropped_by n frame (verdict_on e port frame)
+unfolding drops_of
+drops_more e port seen frame n at =
+    let same : 1 + length seen ≡ n = omega (arith, at) in
+    let one = dropped_by n frame (verdict_on e port frame) in
+    let parts : drops_from 1 e port (seen ++ frame ∷ []) ≡ drops_from 1 e port seen ++ one =
+    drops-append 1 e port seen (frame ∷ []) ∙ ap (λ (k : ℕ). drops_from 1 e port seen ++ drops_from k e port (frame ∷ [])) same
+    ∙ ap (λ drops. drops_from 1 e port seen ++ drops) (append-nil one) in
+    ap (λ drops. drops_header port ++ drops) parts ∙ sym (append_assoc (drops_header port) (drops_from 1 e port seen) one)
 
 -- ---- lines
 

@@ -14,7 +14,8 @@ use Rattle.bench_capture.specs.declared.fault.ReadFault.{ReadFault}
 use Rattle.bench_capture.specs.declared.fault.ReadFault.TheVariants.{Capture, Unreadable, NoMemory}
 use Rattle.text_writing.specs.Written.{AppendsPart}
 use Rattle.bench_forward.specs.Blocks.{section_block}
-use Rattle.bench_forward.specs.Frames.{leaving, left_by, packets_of, verdict_on, verdicts_on}
+use Rattle.bench_forward.specs.Drops.{drops_header}
+use Rattle.bench_forward.specs.Frames.{drops_of, leaving, left_by, packets_of, verdict_on, verdicts_on}
 use Rattle.bench_forward.specs.OneFrame.{IsForwarded, IsTooMuch, Leaves}
 use Rattle.bench_forward.specs.Outcome.{AreForwarded, Ends, FirstAreForwarded, Written}
 use Rattle.bench_forward.specs.Packets.{gems_behind, packet_file}
@@ -23,7 +24,7 @@ use Rattle.bench_forward.specs.declared.fault.ForwardFault.{ForwardFault}
 use Rattle.bench_forward.specs.declared.fault.ForwardFault.TheVariants.{Read, CountFull, Write}
 use Rattle.bench_forward.specs.declared.forwarding.State.{State}
 use Rattle.bench_forward.specs.declared.totals.Totals.{Totals}
-use Rattle.bench_forward.proofs.OneMore.{figure_more, gems_more, lines_more, packets_more, totals_more}
+use Rattle.bench_forward.proofs.OneMore.{drops_more, figure_more, gems_more, lines_more, packets_more, totals_more}
 use Rattle.bench_forward.proofs.Wholes.{past_behind}
 
 -- ---- what is kept
@@ -44,12 +45,13 @@ left_at_start None = tt
 left_at_start (Some all) = (refl, refl)
 
 -- before the first frame
-pub so_far_none : (e : Entities) (port : ℕ) (s : State) (pb pa lines : Option (List ℕ)) → s.interfaces ≡ [] → AreTotals [] 0 s.totals → Appends pb pa section_block
-    → AreSoFar e port [] s (record { packets_before = pb; packets_after = pa; lines_before = lines; lines_after = lines })
-unfolding packets_of packet_file
-so_far_none e port s pb pa lines none totals header = record {
+pub so_far_none : (e : Entities) (port : ℕ) (s : State) (pb pa db da lines : Option (List ℕ)) → s.interfaces ≡ [] → AreTotals [] 0 s.totals → Appends pb pa section_block → Appends db da (drops_header port)
+    → AreSoFar e port [] s (record { packets_before = pb; packets_after = pa; drops_before = db; drops_after = da; lines_before = lines; lines_after = lines })
+unfolding packets_of packet_file drops_of
+so_far_none e port s pb pa db da lines none totals header drops = record {
   forwarded = record {
     packets = subst (λ bytes. Appends pb pa bytes) (sym (append-nil section_block)) header;
+    drops = subst (λ bytes. Appends db da bytes) (sym (append-nil (drops_header port))) drops;
     lines = Appends-nil lines;
     totals = totals;
   };
@@ -57,20 +59,21 @@ so_far_none e port s pb pa lines none totals header = record {
 }
 
 -- one frame more
-pub so_far_more : (e : Entities) (port : ℕ) (seen : List Recorded) (frame : Recorded) (s t : State) (pb pm pa lb lm la : Option (List ℕ))
-    → AreSoFar e port seen s (record { packets_before = pb; packets_after = pm; lines_before = lb; lines_after = lm })
-    → IsForwarded e port frame s t (record { packets_before = pm; packets_after = pa; lines_before = lm; lines_after = la })
-    → AreSoFar e port (seen ++ frame ∷ []) t (record { packets_before = pb; packets_after = pa; lines_before = lb; lines_after = la })
-so_far_more e port seen frame s t pb pm pa lb lm la now more =
+pub so_far_more : (e : Entities) (port : ℕ) (seen : List Recorded) (frame : Recorded) (s t : State) (pb pm pa db dm da lb lm la : Option (List ℕ))
+    → AreSoFar e port seen s (record { packets_before = pb; packets_after = pm; drops_before = db; drops_after = dm; lines_before = lb; lines_after = lm })
+    → IsForwarded e port frame s t (record { packets_before = pm; packets_after = pa; drops_before = dm; drops_after = da; lines_before = lm; lines_after = la })
+    → AreSoFar e port (seen ++ frame ∷ []) t (record { packets_before = pb; packets_after = pa; drops_before = db; drops_after = da; lines_before = lb; lines_after = la })
+so_far_more e port seen frame s t pb pm pa db dm da lb lm la now more =
     let was = now.forwarded in
     let number : s.totals.frames + 1 ≡ length seen + 1 = omega (arith, was.totals.figures Frames, length-map seen (verdict_on e port)) in
     record {
       forwarded = record {
-        packets = rw (packets_more e port seen frame, ← now.gems) (Appends-trans pb pm pa _ _ was.packets more.packets);
+        packets = rw (packets_more e port seen frame (s.totals.frames + 1) number, ← now.gems) (Appends-trans pb pm pa _ _ was.packets more.packets);
+        drops = rw (drops_more e port seen frame (s.totals.frames + 1) number) (Appends-trans db dm da _ _ was.drops more.drops);
         lines = rw (lines_more e port seen frame (s.totals.frames + 1) number) (Appends-trans lb lm la _ _ was.lines more.lines);
         totals = totals_more e port seen frame s.totals t.totals was.totals more.totals;
       };
-      gems = more.interfaces ∙ ap (λ gems. gems_behind gems (left_by frame.time (verdict_on e port frame))) now.gems ∙ sym (gems_more e port seen frame);
+      gems = more.interfaces ∙ ap (λ gems. gems_behind gems (left_by (s.totals.frames + 1) frame.time (verdict_on e port frame))) now.gems ∙ sym (gems_more e port seen frame (s.totals.frames + 1) number);
     }
 
 -- ---- what is left
@@ -116,10 +119,10 @@ ends_by_reader (Some all) (Some left) new seen e port s w NoMemory is goes now =
     (length seen, first_are e port all.frames seen left.frames w s.totals is.0 now.forwarded)
 
 -- the header isn't written whole
-pub ends_in_header : (initial : Option Reading) (e : Entities) (port : ℕ) (t : Totals) (pb pa lines : Option (List ℕ)) → AppendsPart pb pa section_block → AreTotals [] 0 t
-    → IfSome initial (λ all. Ends e port all (Err Write) (record { packets_before = pb; packets_after = pa; lines_before = lines; lines_after = lines }) t)
-ends_in_header None e port t pb pa lines part none = tt
-ends_in_header (Some all) e port t pb pa lines part none = inl (record { packets = part; lines = Keeps-refl lines; totals = none })
+pub ends_in_header : (initial : Option Reading) (e : Entities) (port : ℕ) (t : Totals) (pb pa db da lines : Option (List ℕ)) → AppendsPart pb pa section_block → AppendsPart db da (drops_header port) → AreTotals [] 0 t
+    → IfSome initial (λ all. Ends e port all (Err Write) (record { packets_before = pb; packets_after = pa; drops_before = db; drops_after = da; lines_before = lines; lines_after = lines }) t)
+ends_in_header None e port t pb pa db da lines part drops none = tt
+ends_in_header (Some all) e port t pb pa db da lines part drops none = inl (record { packets = part; drops = drops; lines = Keeps-refl lines; totals = none })
 
 -- the frames behind which the next is this
 record IsNext (frames seen : List Recorded) (frame : Recorded) : Type 0 where
@@ -137,9 +140,9 @@ next_is frames seen rest frame is =
       with_next = rw (is, size) (take-append_seam (seen ++ frame ∷ []) rest);
     }
 
-module _ (all : Reading) (seen : List Recorded) (frame : Recorded) (next : IsNext all.frames seen frame) (e : Entities) (port : ℕ) (s t : State) (pb pm pa lb lm la : Option (List ℕ))
-    (now : AreSoFar e port seen s (record { packets_before = pb; packets_after = pm; lines_before = lb; lines_after = lm })) where
-  passes_with : IsTooMuch e port frame s t (record { packets_before = pm; packets_after = pa; lines_before = lm; lines_after = la })
+module _ (all : Reading) (seen : List Recorded) (frame : Recorded) (next : IsNext all.frames seen frame) (e : Entities) (port : ℕ) (s t : State) (pb pm pa db dm da lb lm la : Option (List ℕ))
+    (now : AreSoFar e port seen s (record { packets_before = pb; packets_after = pm; drops_before = db; drops_after = dm; lines_before = lb; lines_after = lm })) where
+  passes_with : IsTooMuch e port frame s t (record { packets_before = pm; packets_after = pa; drops_before = dm; drops_after = da; lines_before = lm; lines_after = la })
       → SomePasses (verdicts_on e port (seen ++ frame ∷ []))
   passes_with much =
       let f = much.passes.0 in
@@ -147,8 +150,8 @@ module _ (all : Reading) (seen : List Recorded) (frame : Recorded) (next : IsNex
       let more = figure_more f (verdicts_on e port seen) (verdict_on e port frame) ∙ ap (figure f) (sym (map-append (verdict_on e port) seen (frame ∷ []))) in
       (f, omega (arith, here, more, much.passes.1))
 
-  ends_by : (fault : ForwardFault) → Leaves e port frame (Err fault) s t (record { packets_before = pm; packets_after = pa; lines_before = lm; lines_after = la })
-      → Ends e port all (Err fault) (record { packets_before = pb; packets_after = pa; lines_before = lb; lines_after = la }) t.totals
+  ends_by : (fault : ForwardFault) → Leaves e port frame (Err fault) s t (record { packets_before = pm; packets_after = pa; drops_before = dm; drops_after = da; lines_before = lm; lines_after = la })
+      → Ends e port all (Err fault) (record { packets_before = pb; packets_after = pa; drops_before = db; drops_after = da; lines_before = lb; lines_after = la }) t.totals
   ends_by (Read fault) leaves = absurd leaves
   ends_by CountFull much = (
     length seen,
@@ -156,6 +159,7 @@ module _ (all : Reading) (seen : List Recorded) (frame : Recorded) (next : IsNex
       within = omega (arith, next.within);
       forwarded = rw next.front (record {
         packets = Appends-kept pb pm pa _ now.forwarded.packets much.packets;
+        drops = Appends-kept db dm da _ now.forwarded.drops much.drops;
         lines = Appends-kept lb lm la _ now.forwarded.lines much.lines;
         totals = rw much.totals now.forwarded.totals;
       });
@@ -168,18 +172,19 @@ module _ (all : Reading) (seen : List Recorded) (frame : Recorded) (next : IsNex
         length seen,
         record {
           within = next.within;
-          packets = rw (next.front, next.with_next, packets_more e port seen frame, ← now.gems) (past_behind pb pm pa _ _ now.forwarded.packets broken.packets);
+          packets = rw (next.front, next.with_next, packets_more e port seen frame (s.totals.frames + 1) number, ← now.gems) (past_behind pb pm pa _ _ now.forwarded.packets broken.packets);
+          drops = rw (next.front, next.with_next, drops_more e port seen frame (s.totals.frames + 1) number) (past_behind db dm da _ _ now.forwarded.drops broken.drops);
           lines = rw (next.front, next.with_next, lines_more e port seen frame (s.totals.frames + 1) number) (past_behind lb lm la _ _ now.forwarded.lines broken.lines);
           totals = rw (next.front, broken.totals) now.forwarded.totals;
         },
       )
 
 pub ends_in_frame : (initial old : Option Reading) (new : Position) (seen : List Recorded) (frame : Recorded) (e : Entities) (port : ℕ) (s t : State) (fault : ForwardFault)
-    (pb pm pa lb lm la : Option (List ℕ)) → IsLeft initial old seen → IfSome old (λ all. GoesOn all (Ok true) new) → Some frame ≡ new.frame
-    → AreSoFar e port seen s (record { packets_before = pb; packets_after = pm; lines_before = lb; lines_after = lm })
-    → Leaves e port frame (Err fault) s t (record { packets_before = pm; packets_after = pa; lines_before = lm; lines_after = la })
-    → IfSome initial (λ all. Ends e port all (Err fault) (record { packets_before = pb; packets_after = pa; lines_before = lb; lines_after = la }) t.totals)
-ends_in_frame None old new seen frame e port s t fault pb pm pa lb lm la is goes at now leaves = tt
-ends_in_frame (Some all) old new seen frame e port s t fault pb pm pa lb lm la is goes at now leaves =
+    (pb pm pa db dm da lb lm la : Option (List ℕ)) → IsLeft initial old seen → IfSome old (λ all. GoesOn all (Ok true) new) → Some frame ≡ new.frame
+    → AreSoFar e port seen s (record { packets_before = pb; packets_after = pm; drops_before = db; drops_after = dm; lines_before = lb; lines_after = lm })
+    → Leaves e port frame (Err fault) s t (record { packets_before = pm; packets_after = pa; drops_before = dm; drops_after = da; lines_before = lm; lines_after = la })
+    → IfSome initial (λ all. Ends e port all (Err fault) (record { packets_before = pb; packets_after = pa; drops_before = db; drops_after = da; lines_before = lb; lines_after = la }) t.totals)
+ends_in_frame None old new seen frame e port s t fault pb pm pa db dm da lb lm la is goes at now leaves = tt
+ends_in_frame (Some all) old new seen frame e port s t fault pb pm pa db dm da lb lm la is goes at now leaves =
     let there = first_seen (Some all) new.left (seen ++ frame ∷ []) (left_more (Some all) old new seen frame is goes at) in
-    ends_by all seen frame (next_is all.frames seen there.0 frame there.1) e port s t pb pm pa lb lm la now fault leaves
+    ends_by all seen frame (next_is all.frames seen there.0 frame there.1) e port s t pb pm pa db dm da lb lm la now fault leaves

@@ -22,25 +22,32 @@ block kind body =
 unfoldable pub option : ℕ → List ℕ → List ℕ
 option code value = little_bytes 2 code ++ little_bytes 2 (length value) ++ padded value
 
--- ---- the three that are written
+-- ---- those that are written
 
 -- a section header: the byte order mark, version 1.0, and a section of unknown length
 unfoldable pub section_block : List ℕ
 section_block =
     block 0x0a0d0d0a (little_bytes 4 0x1a2b3c4d ++ little_bytes 2 1 ++ little_bytes 2 0 ++ replicate 8 255)
 
--- the interface that stands for a GEM port: link type of Ethernet; two reserved bytes; no snap length; its name (option 2,
--- if_name), times in nanoseconds (option 9, if_tsresol), and the end of the options
-unfoldable pub interface_block : ℕ → List ℕ
-interface_block gem =
+-- an interface of this name: link type of Ethernet; two reserved bytes; no snap length; the name (option 2, if_name), times in
+-- nanoseconds (option 9, if_tsresol), and the end of the options
+unfoldable pub named_interface : List ℕ → List ℕ
+named_interface name =
     block 1
-    (little_bytes 2 ethernet_link ++ little_bytes 2 0 ++ little_bytes 4 0 ++ option 2 (codes "gem " ++ decimal gem) ++ option 9 (9 ∷ [])
-    ++ option 0 [])
+    (little_bytes 2 ethernet_link ++ little_bytes 2 0 ++ little_bytes 4 0 ++ option 2 name ++ option 9 (9 ∷ []) ++ option 0 [])
+
+-- the one that stands for a GEM port
+unfoldable pub interface_block : ℕ → List ℕ
+interface_block gem = named_interface (codes "gem " ++ decimal gem)
+
+-- the one that stands for a port
+unfoldable pub port_block : ℕ → List ℕ
+port_block port = named_interface (codes "port " ++ decimal port)
 
 -- a packet of an interface: its number, the high and the low half of the time, how many bytes are stored and how many the frame had,
--- which are all, and the bytes
-unfoldable pub packet_block : ℕ → ℕ → List ℕ → List ℕ
-packet_block interface time bytes =
+-- the bytes, a comment (option 1, opt_comment), and the end of the options
+unfoldable pub packet_block : ℕ → ℕ → ℕ → List ℕ → List ℕ → List ℕ
+packet_block interface time original bytes comment =
     block 6
     (little_bytes 4 interface ++ little_bytes 4 (time / 2 ^ 32) ++ little_bytes 4 (time % 2 ^ 32) ++ little_bytes 4 (length bytes)
-    ++ little_bytes 4 (length bytes) ++ padded bytes)
+    ++ little_bytes 4 original ++ padded bytes ++ option 1 comment ++ option 0 [])

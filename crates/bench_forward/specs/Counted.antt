@@ -8,14 +8,21 @@ use Rattle.bench_forward.specs.Packets.{gems_behind}
 use Rattle.bench_forward.specs.declared.forwarding.State.{State}
 use Rattle.bench_forward.specs.declared.totals.Totals.{Totals}
 
--- there is neither output
+-- there is no output
 abbrev pub nothing_written : Written
-nothing_written = record { packets_before = None; packets_after = None; lines_before = None; lines_after = None }
+nothing_written = record {
+  packets_before = None;
+  packets_after = None;
+  drops_before = None;
+  drops_after = None;
+  lines_before = None;
+  lines_after = None;
+}
 
 -- what is kept from one frame to the next, where these GEM ports would have an interface
 abbrev pub state_of : List ℕ → Totals → State
 state_of gems totals = record { interfaces = gems; totals = totals }
 
--- those that would have one behind a frame
-abbrev pub behind_frame : Entities → ℕ → List ℕ → Recorded → List ℕ
-behind_frame e port gems frame = gems_behind gems (left_by frame.time (verdict_on e port frame))
+-- those that would have one behind the frame of this number
+abbrev pub behind_frame : Entities → ℕ → List ℕ → ℕ → Recorded → List ℕ
+behind_frame e port gems n frame = gems_behind gems (left_by n frame.time (verdict_on e port frame))

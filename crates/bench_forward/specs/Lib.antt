@@ -1,6 +1,8 @@
 pub mod Blocks
+pub mod Comments
 pub mod Counted
 pub mod Dropped
+pub mod Drops
 pub mod Entries
 pub mod EntryNumbers
 pub mod Frames

@@ -8,21 +8,25 @@ use Rattle.bench_capture.specs.Recorded.{Recorded}
 use Rattle.bench_capture.specs.declared.fault.ReadFault.TheVariants.{Capture, Unreadable, NoMemory}
 use Rattle.text_writing.specs.Written.{AppendsPart}
 use Rattle.bench_forward.specs.Blocks.{section_block}
-use Rattle.bench_forward.specs.Frames.{AreTotalsOf, lines_of, packets_of, verdicts_on}
+use Rattle.bench_forward.specs.Drops.{drops_header}
+use Rattle.bench_forward.specs.Frames.{AreTotalsOf, drops_of, lines_of, packets_of, verdicts_on}
 use Rattle.bench_forward.specs.declared.fault.ForwardFault.{ForwardFault}
 use Rattle.bench_forward.specs.declared.fault.ForwardFault.TheVariants.{Read, CountFull, Write}
 use Rattle.bench_forward.specs.declared.totals.Totals.{Totals}
 
--- what the two outputs hold before and after
+-- what the three outputs hold before and after
 pub record Written : Type 0 where
   pub packets_before : Option (List ℕ)
   pub packets_after : Option (List ℕ)
+  pub drops_before : Option (List ℕ)
+  pub drops_after : Option (List ℕ)
   pub lines_before : Option (List ℕ)
   pub lines_after : Option (List ℕ)
 
 -- all that comes of these frames is written, and the totals are theirs
 pub record AreForwarded (e : Entities) (port : ℕ) (frames : List Recorded) (w : Written) (t : Totals) : Type 0 where
   pub packets : Appends w.packets_before w.packets_after (packets_of e port frames)
+  pub drops : Appends w.drops_before w.drops_after (drops_of e port frames)
   pub lines : Appends w.lines_before w.lines_after (lines_of e port frames)
   pub totals : AreTotalsOf e port frames t
 
@@ -34,6 +38,7 @@ pub record FirstAreForwarded (e : Entities) (port : ℕ) (frames : List Recorded
 -- a front of what stands before all frames is written, and no line
 pub record StopsInHeader (e : Entities) (port : ℕ) (w : Written) (t : Totals) : Type 0 where
   pub packets : AppendsPart w.packets_before w.packets_after section_block
+  pub drops : AppendsPart w.drops_before w.drops_after (drops_header port)
   pub lines : Keeps w.lines_before w.lines_after
   pub totals : AreTotalsOf e port [] t
 
@@ -45,6 +50,7 @@ AppendsPast old new least bs = (n : ℕ) × (length least ≤ n) × (n ≤ lengt
 pub record StopsInFrame (e : Entities) (port : ℕ) (frames : List Recorded) (n : ℕ) (w : Written) (t : Totals) : Type 0 where
   pub within : n < length frames
   pub packets : AppendsPast w.packets_before w.packets_after (packets_of e port (take n frames)) (packets_of e port (take (n + 1) frames))
+  pub drops : AppendsPast w.drops_before w.drops_after (drops_of e port (take n frames)) (drops_of e port (take (n + 1) frames))
   pub lines : AppendsPast w.lines_before w.lines_after (lines_of e port (take n frames)) (lines_of e port (take (n + 1) frames))
   pub totals : AreTotalsOf e port (take n frames) t
 

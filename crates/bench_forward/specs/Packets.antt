@@ -3,9 +3,11 @@
 use Rattle.std.specs.Prelude.{ℕ, ◌==◌, List, [], ◌∷◌, ◌++◌, Option, Some, None, length}
 use Rattle.std.specs.List.{position}
 use Rattle.bench_forward.specs.Blocks.{interface_block, packet_block, section_block}
+use Rattle.bench_forward.specs.Comments.{leaving_comment}
 
--- a frame that leaves: the GEM port, the time of its record in nanoseconds, and its bytes
+-- a frame that leaves: its number, the GEM port, the time of its record in nanoseconds, and its bytes
 pub record Leaving : Type 0 where
+  pub number : ℕ
   pub gem : ℕ
   pub time : ℕ
   pub bytes : List ℕ
@@ -22,10 +24,14 @@ with_found gem gems None = gems ++ gem ∷ []
 abbrev pub with_interface : List ℕ → ℕ → List ℕ
 with_interface gems gem = with_found gem gems (interface_of gem gems)
 
+-- its packet, of an interface: all of its bytes are stored
+abbrev pub packet_of : ℕ → Leaving → List ℕ
+packet_of interface frame = packet_block interface frame.time (length frame.bytes) frame.bytes (leaving_comment frame.number)
+
 -- what is written of a frame whose GEM port has this interface, or has none yet
 abbrev pub blocks_by : List ℕ → Leaving → Option ℕ → List ℕ
-blocks_by gems frame (Some number) = packet_block number frame.time frame.bytes
-blocks_by gems frame None = interface_block frame.gem ++ packet_block (length gems) frame.time frame.bytes
+blocks_by gems frame (Some number) = packet_of number frame
+blocks_by gems frame None = interface_block frame.gem ++ packet_of (length gems) frame
 
 unfoldable pub blocks_of : List ℕ → Leaving → List ℕ
 blocks_of gems frame = blocks_by gems frame (interface_of frame.gem gems)

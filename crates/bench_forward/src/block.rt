@@ -1,9 +1,9 @@
-//! The blocks of a capture in the pcapng format, of which the three kinds that are written fit in little room.
-ghost use Rattle.std.specs.Prelude.{◌≡◌, ◌≤◌, ◌+◌, ◌++◌, codes, length, replicate};
+//! The blocks of a capture in the pcapng format, of which the three kinds that are written fit in little room, but for a packet's bytes.
+ghost use Rattle.std.specs.Prelude.{◌≡◌, ◌≤◌, ◌+◌, ◌++◌, length, replicate};
 ghost use Rattle.std.specs.Fmt.{decimal};
 ghost use Rattle.arrayvec.specs.ArrayVec.{array_vec_len};
 ghost use Rattle.byteorder.specs.Endian.{little_bytes};
-ghost use Rattle.bench_forward.specs.Blocks.{block, interface_block, option, padding, section_block};
+ghost use Rattle.bench_forward.specs.Blocks.{block, interface_block, named_interface, option, padding, port_block, section_block};
 
 use arrayvec::ArrayVec;
 use capture::ETHERNET;
@@ -22,7 +22,10 @@ const SECTION_HEADER: [u8; 28] = [
 const INTERFACE: u32 = 1;
 
 /// The code of the option that ends the options.
-const END: u16 = 0;
+pub(crate) const END: u16 = 0;
+
+/// The code of a comment.
+pub(crate) const COMMENT: u16 = 1;
 
 /// The code of the name of an interface.
 const NAME: u16 = 2;
@@ -80,12 +83,22 @@ pub(crate) fn put_length(bytes: &mut Block, length: usize)
 }
 
 /// Puts bytes.
-pub(crate) fn put(bytes: &mut Block, more: &[u8])
-    requires { array_vec_len bytes.old + length more.now ≤ 64 }
+pub(crate) fn put<const ROOM: usize>(bytes: &mut ArrayVec<u8, ROOM>, more: &[u8])
+    requires { array_vec_len bytes.old + length more.now ≤ ROOM }
     ensures items { bytes.new.items ≡ bytes.old.items ++ more.now }
     ensures len { array_vec_len bytes.new ≡ array_vec_len bytes.old + length more.now }
 {
     let _ = bytes.try_extend_from_slice(more);
+}
+
+/// Puts a number in decimal digits, of which there are 20 at most.
+pub(crate) fn put_decimal<const ROOM: usize>(bytes: &mut ArrayVec<u8, ROOM>, number: u64)
+    requires { array_vec_len bytes.old + 20 ≤ ROOM }
+    ensures items { bytes.new.items ≡ bytes.old.items ++ decimal number }
+    ensures len { array_vec_len bytes.new ≤ array_vec_len bytes.old + 20 }
+{
+    let mut digits = Buffer::new();
+    put(bytes, digits.format(number).as_bytes());
 }
 
 /// As many zeros, three at most.
@@ -114,7 +127,7 @@ fn block_of(kind: u32, body: &[u8]) -> Block
 
 /// Puts an option.
 #[tactic(auto, unfolding(crate::specs::Blocks::option))]
-fn put_option(bytes: &mut Block, code: u16, value: &[u8])
+pub(crate) fn put_option(bytes: &mut Block, code: u16, value: &[u8])
     requires { array_vec_len bytes.old + length value.now + 7 ≤ 64 }
     ensures items { bytes.new.items ≡ bytes.old.items ++ option code value.now }
     ensures len { array_vec_len bytes.new ≤ array_vec_len bytes.old + length value.now + 7 }
@@ -125,15 +138,16 @@ fn put_option(bytes: &mut Block, code: u16, value: &[u8])
     put(bytes, zeros(padding(value.len())));
 }
 
-/// The name of the interface that stands for a GEM port.
-fn gem_name(gem: u16) -> ArrayVec<u8, 16>
-    ensures name { result.items ≡ codes "gem " ++ decimal gem }
-    ensures short { array_vec_len result ≤ 9 }
+/// A word of five bytes at most, and a number behind it.
+fn numbered(word: &[u8], number: u16) -> ArrayVec<u8, 16>
+    requires { length word.now ≤ 5 }
+    ensures name { result.items ≡ word.now ++ decimal number }
+    ensures short { array_vec_len result ≤ 10 }
 {
     let mut digits = Buffer::new();
     let mut name = ArrayVec::new();
-    let _ = name.try_extend_from_slice(b"gem ");
-    let _ = name.try_extend_from_slice(digits.format(gem).as_bytes());
+    put(&mut name, word);
+    put(&mut name, digits.format(number).as_bytes());
     name
 }
 
@@ -142,11 +156,28 @@ fn gem_name(gem: u16) -> ArrayVec<u8, 16>
 pub(crate) fn interface_block(gem: u16) -> Block
     ensures { result.items ≡ interface_block gem }
 {
+    named_interface(&numbered(b"gem ", gem))
+}
+
+/// The interface description block of a port.
+#[tactic(auto, unfolding(crate::specs::Blocks::port_block))]
+pub(crate) fn port_block(port: u16) -> Block
+    ensures { result.items ≡ port_block port }
+{
+    named_interface(&numbered(b"port ", port))
+}
+
+/// The interface description block of this name, which has ten bytes at most.
+#[tactic(auto, unfolding(crate::specs::Blocks::named_interface))]
+fn named_interface(name: &[u8]) -> Block
+    requires { length name.now ≤ 10 }
+    ensures { result.items ≡ named_interface name.now }
+{
     let mut body = ArrayVec::new();
     put_u16(&mut body, ETHERNET);
     put_u16(&mut body, 0);
     put_u32(&mut body, 0);
-    put_option(&mut body, NAME, &gem_name(gem));
+    put_option(&mut body, NAME, name);
     put_option(&mut body, RESOLUTION, &[NANOSECONDS]);
     put_option(&mut body, END, &[]);
     block_of(INTERFACE, &body)

@@ -2,7 +2,7 @@
 //! (ITU-T G.988, clause 9), and what comes of each is written and counted.
 //!
 //! **The definitions** stand in `specs/`: the blocks of the pcapng format that are written (Blocks), the capture of the frames that leave
-//! (Packets), the line of a verdict (Lines), the number of the entry that is used (Entries), totals (Totals), and with these what comes of
+//! (Packets) and that of the frames that are dropped (Drops), the line of a verdict (Lines), the number of the entry that is used (Entries), totals (Totals), and with these what comes of
 //! a list of frames (Frames). Outcome says what is written and counted by each way to end. The examples in `proofs/Examples.antt` are
 //! bytes that a reader can follow by hand.
 //!
@@ -16,7 +16,9 @@
 #![tactic(auto)]
 
 mod block;
+mod comment;
 mod dropped;
+mod drops;
 mod entries;
 mod fault;
 mod forwarding;
@@ -24,6 +26,7 @@ mod frames;
 mod interfaces;
 mod leaving;
 mod line;
+mod origin;
 mod outputs;
 mod packet;
 mod shown;

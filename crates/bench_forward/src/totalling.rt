@@ -20,7 +20,8 @@ fn count_frame(
 ) -> Result<(), ForwardFault>
     ensures leaves { (gems : List ℕ) → Leaves setting.now.mib.now.entities setting.now.port frame.now
         result (state_of gems totals.old) (state_of
-        (behind_frame setting.now.mib.now.entities setting.now.port gems frame.now) totals.new)
+        (behind_frame setting.now.mib.now.entities setting.now.port gems (totals.old.frames + 1)
+        frame.now) totals.new)
         nothing_written }
     ensures counted { OnOk result (totals.new.frames ≡ totals.old.frames + 1) }
     ensures few { OnOk result (totals.old.frames + 1 < 2 ^ 64) }

@@ -53,12 +53,6 @@ flag name = record (new_rule name) { long = Some name; action = Some SetTrue }
 abbrev pub port : Rule
 port = valued (codes "port") (Signed (pos 0) (pos 65535))
 
-abbrev pub lanes : Rule
-lanes = valued (codes "lanes") (Signed (pos 1) (pos lane_limit))
-
-abbrev pub batch : Rule
-batch = valued (codes "batch") (Signed (pos 1) (pos batch_limit))
-
 abbrev pub after : Rule
 after = flag (codes "after")
 
@@ -74,9 +68,18 @@ optional name parser = record (new_rule name) {
   parser = Some parser;
 }
 
+abbrev pub lanes : Rule
+lanes = optional (codes "lanes") (Signed (pos 1) (pos lane_limit))
+
+abbrev pub batch : Rule
+batch = optional (codes "batch") (Signed (pos 1) (pos batch_limit))
+
 -- a file that is written, or standard output
 abbrev pub out : Rule
 out = optional (codes "out") NonEmptyString
+
+abbrev pub dropped : Rule
+dropped = optional (codes "dropped") NonEmptyString
 
 abbrev pub verdicts : Rule
 verdicts = optional (codes "verdicts") NonEmptyString
@@ -149,12 +152,16 @@ replay = with_rule (with_rule (new_app (codes "replay")) json) script
 abbrev pub over_files : Text → App
 over_files name = with_rule (with_rule (with_rule (new_app name) trace) (file (codes "frames"))) port
 
+-- what says how frames are forwarded
+abbrev pub on_lanes : App
+on_lanes = with_rule (with_rule (with_rule (over_files (codes "run")) lanes) batch) after
+
 abbrev pub run : App
-run = with_rule (with_rule (with_rule (with_rule (over_files (codes "run")) lanes) batch) after) json
+run = with_rule (with_rule on_lanes until) json
 
 -- what names the files that are written
 abbrev pub to_files : App
-to_files = with_rule (with_rule (over_files (codes "forward")) out) verdicts
+to_files = with_rule (with_rule (with_rule (over_files (codes "forward")) out) dropped) verdicts
 
 abbrev pub forward : App
 forward = with_rule (with_rule (with_rule to_files until) strict) json

@@ -1,14 +1,15 @@
 -- What the values of options are, and that words which are not read ask for nothing in its range.
-use Rattle.std.proofs.Common.{◌≡◌, ◌∙◌, ◌<◌, ◌^◌, ◌≤◌, ℕ, List, Option, Some, None, Result, refl, sym, subst, arith, codes}
-use Rattle.std.specs.Prelude.{IfNone, true, false, is_some, option_map}
+use Rattle.std.proofs.Common.{◌≡◌, ◌∙◌, ◌<◌, ◌^◌, ◌≤◌, ℕ, List, Option, Some, None, Result, refl, sym, subst, ap, arith, codes}
+use Rattle.std.specs.Prelude.{IfNone, IfSome, true, false, is_some, option_and_then, option_map, slice_get, unwrap_or}
 use Rattle.std.specs.Str.Parse.{ParsesUnsigned, ExplainsUnsignedError, HasUnsignedDigitsIfOk, digits_value, without_leading_plus}
 use Rattle.std.specs.declared.num.ParseIntError.{ParseIntError}
+use Rattle.clap.specs.Walk.{row_text}
 use Rattle.clap.specs.Words.{ReadsOne, Row, Text, first_of, first_value, one_text, rows_of}
 use Rattle.clap.specs.declared.parser.matches.Found.{Found}
 use Rattle.clap.proofs.WalkLemmas.{first_value-rows, one_text-rows}
-use Rattle.command_words.specs.Asked.{IsExplain, IsForward, IsFrame, IsNumber, IsOptionalNumber, IsRules, IsRun, IsTrace}
+use Rattle.command_words.specs.Asked.{IsExplain, IsForward, IsFrame, IsNumber, IsNumberOr, IsOptionalNumber, IsRules, IsRun, IsTrace}
 use Rattle.command_words.specs.Range.{AreInRange, IsFrameInRange, IsShort, IsLine}
-use Rattle.run_settings.specs.Settings.{AreInLimits}
+use Rattle.run_settings.specs.Settings.{AreInLimits, default_batch, default_lanes}
 use Rattle.command_words.specs.declared.words.RunWords.{RunWords}
 use Rattle.command_words.specs.declared.words.RulesWords.{RulesWords}
 use Rattle.command_words.specs.declared.words.ExplainWords.{ExplainWords}
@@ -59,9 +60,30 @@ number_same name rows n m a b =
     let same : a.text ≡ b.text = cc in
     a.number ∙ subst (λ text. digits_value 10 (without_leading_plus a.text) ≡ digits_value 10 (without_leading_plus text)) same refl ∙ sym b.number
 
+-- no value stands first where there is none
+first_there : (found : Option Row) (text : Text) → option_and_then (λ r. slice_get r.values 0) found ≡ None → option_and_then row_text found ≡ Some text → ⊥
+first_there None text none some = absurd (cc)
+first_there (Some row) text none some = let bad : None ≡ Some text = rw none at some in absurd (cc)
+
+-- so an option that may be left out has one number, or none
+option_same : (name : Text) (rows : List Row) (n m : Option ℕ) → IsOptionalNumber name rows n → IsOptionalNumber name rows m → n ≡ m
+option_same name rows None None a b = refl
+option_same name rows (Some n) (Some m) a b = ap Some (number_same name rows n m a b)
+option_same name rows None (Some m) a b = absurd (first_there _ b.text a b.value)
+option_same name rows (Some n) None a b = absurd (first_there _ a.text b a.value)
+
+number_or_same : (default : ℕ) (name : Text) (rows : List Row) (n m : ℕ) → IsNumberOr default name rows n → IsNumberOr default name rows m → n ≡ m
+number_or_same default name rows n m a b =
+    a.number ∙ ap (λ (given : Option ℕ). unwrap_or given default) (option_same name rows a.given b.given a.value b.value) ∙ sym b.number
+
+-- a number within bounds that is given is within them
+given_within : (given : Option ℕ) (default n most : ℕ) → n ≡ unwrap_or given default → n ≤ most → IfSome given (λ m. m ≤ most)
+given_within None default n most is within = tt
+given_within (Some m) default n most is within = omega (arith, is, within)
+
 -- words that were not read ask for no run in its range
 abbrev pub AsksForNoRun : List Row → Type 0
-AsksForNoRun rows = (words : RunWords) → IsRun rows words → AreInRange words.settings → ⊥
+AsksForNoRun rows = (words : RunWords) → IsRun rows words → AreInRange words.settings → IsLine words.until → ⊥
 
 -- a required option that was not read has no value
 missing : (f : Found) (name : Text) (value : Text) → first_value f name ≡ None → first_of name (rows_of f) ≡ Some value → ⊥
@@ -69,26 +91,31 @@ missing f name value none is = let bad : None ≡ Some value = sym none ∙ firs
 
 module _ (f : Found) where
   pub port_unread : ((text : Text) → one_text f (codes "port") ≡ Some text → ReadsOne (Reads 16) text None) → AsksForNoRun (rows_of f)
-  port_unread value words is fits = number_unread 16 f (codes "port") words.settings.port value is.port (omega (arith, fits.port))
+  port_unread value words is fits line = number_unread 16 f (codes "port") words.settings.port value is.port (omega (arith, fits.port))
 
-  pub lanes_unread : ((text : Text) → one_text f (codes "lanes") ≡ Some text → ReadsOne (Reads 16) text None) → AsksForNoRun (rows_of f)
-  lanes_unread value words is fits = number_unread 16 f (codes "lanes") words.settings.lanes value is.lanes (omega (arith, fits.limits.1))
+  pub lanes_unread : ((n : Option ℕ) → IsOptionalNumber (codes "lanes") (rows_of f) n → IsShort n → ⊥) → AsksForNoRun (rows_of f)
+  lanes_unread none words is fits line =
+      none is.lanes.given is.lanes.value (given_within is.lanes.given default_lanes words.settings.lanes 65535 is.lanes.number (omega (arith, fits.limits.1)))
 
-  pub batch_unread : ((text : Text) → one_text f (codes "batch") ≡ Some text → ReadsOne (Reads 32) text None) → AsksForNoRun (rows_of f)
-  batch_unread value words is fits = number_unread 32 f (codes "batch") words.settings.batch value is.batch (omega (arith, fits.limits.3))
+  pub batch_unread : ((n : Option ℕ) → IsOptionalNumber (codes "batch") (rows_of f) n → IsLine n → ⊥) → AsksForNoRun (rows_of f)
+  batch_unread none words is fits line =
+      none is.batch.given is.batch.value (given_within is.batch.given default_batch words.settings.batch 4294967295 is.batch.number (omega (arith, fits.limits.3)))
+
+  pub until_unread : ((n : Option ℕ) → IsOptionalNumber (codes "until") (rows_of f) n → IsLine n → ⊥) → AsksForNoRun (rows_of f)
+  until_unread none words is fits line = none words.until is.until line
 
   pub trace_missing : first_value f (codes "trace") ≡ None → AsksForNoRun (rows_of f)
-  trace_missing none words is fits = missing f (codes "trace") words.trace.now none is.trace
+  trace_missing none words is fits line = missing f (codes "trace") words.trace.now none is.trace
 
   pub frames_missing : first_value f (codes "frames") ≡ None → AsksForNoRun (rows_of f)
-  frames_missing none words is fits = missing f (codes "frames") words.frames.now none is.frames
+  frames_missing none words is fits line = missing f (codes "frames") words.frames.now none is.frames
 
   -- lanes and a batch that were read, and that no run can have
-  pub limits_apart : (lanes batch : ℕ) → IsNumber (codes "lanes") (rows_of f) lanes → IsNumber (codes "batch") (rows_of f) batch
+  pub limits_apart : (lanes batch : ℕ) → IsNumberOr default_lanes (codes "lanes") (rows_of f) lanes → IsNumberOr default_batch (codes "batch") (rows_of f) batch
       → (AreInLimits lanes batch → ⊥) → AsksForNoRun (rows_of f)
-  limits_apart lanes batch read_lanes read_batch out words is fits =
-      let few = number_same (codes "lanes") (rows_of f) words.settings.lanes lanes is.lanes read_lanes in
-      let short = number_same (codes "batch") (rows_of f) words.settings.batch batch is.batch read_batch in
+  limits_apart lanes batch read_lanes read_batch out words is fits line =
+      let few = number_or_same default_lanes (codes "lanes") (rows_of f) words.settings.lanes lanes is.lanes read_lanes in
+      let short = number_or_same default_batch (codes "batch") (rows_of f) words.settings.batch batch is.batch read_batch in
       out (subst (λ n. AreInLimits n batch) few (subst (λ n. AreInLimits words.settings.lanes n) short fits.limits))
 
   pub rules_unread : ((text : Text) → one_text f (codes "port") ≡ Some text → ReadsOne (Reads 16) text None)

@@ -1,8 +1,9 @@
 -- What the words ask for.
-use Rattle.std.specs.Prelude.{◌≡◌, ◌≢◌, ℕ, Bool, true, false, List, [], Option, Some, None, codes, map, option_map}
+use Rattle.std.specs.Prelude.{◌≡◌, ◌≢◌, ℕ, Bool, true, false, List, [], Option, Some, None, codes, map, option_map, unwrap_or}
 use Rattle.std.specs.Borrow.{Bor}
 use Rattle.std.specs.Str.Parse.{IsNumeral, digits_value, without_leading_plus}
 use Rattle.clap.specs.Words.{Row, Text, all_of, first_of, one_of}
+use Rattle.run_settings.specs.Settings.{default_batch, default_lanes}
 use Rattle.command_words.specs.declared.words.RunWords.{RunWords}
 use Rattle.command_words.specs.declared.words.MibWords.{MibWords}
 use Rattle.command_words.specs.declared.words.RulesWords.{RulesWords}
@@ -34,6 +35,12 @@ abbrev pub IsOptionalNumber : Text → List Row → Option ℕ → Type 0
 IsOptionalNumber name rows None = first_of name rows ≡ None
 IsOptionalNumber name rows (Some n) = IsNumber name rows n
 
+-- the number of such an option, or this one where it is left out
+pub record IsNumberOr (default : ℕ) (name : Text) (rows : List Row) (n : ℕ) : Type 0 where
+  pub given : Option ℕ
+  pub value : IsOptionalNumber name rows given
+  pub number : n ≡ unwrap_or given default
+
 -- whether an option without a value is given
 pub record IsFlag (name : Text) (rows : List Row) (given : Bool) : Type 0 where
   pub with : one_of name rows ≡ Some (codes "true") → given ≡ true
@@ -49,8 +56,9 @@ pub record IsRun (rows : List Row) (words : RunWords) : Type 0 where
   pub trace : first_of (codes "trace") rows ≡ Some words.trace.now
   pub frames : first_of (codes "frames") rows ≡ Some words.frames.now
   pub port : IsNumber (codes "port") rows words.settings.port
-  pub lanes : IsNumber (codes "lanes") rows words.settings.lanes
-  pub batch : IsNumber (codes "batch") rows words.settings.batch
+  pub until : IsOptionalNumber (codes "until") rows words.until
+  pub lanes : IsNumberOr default_lanes (codes "lanes") rows words.settings.lanes
+  pub batch : IsNumberOr default_batch (codes "batch") rows words.settings.batch
   pub after : IsFlag (codes "after") rows words.settings.after
   pub json : IsFlag (codes "json") rows words.json
 
@@ -118,6 +126,7 @@ pub record IsForward (rows : List Row) (words : ForwardWords) : Type 0 where
   pub frames : first_of (codes "frames") rows ≡ Some words.frames.now
   pub port : IsNumber (codes "port") rows words.port
   pub out : first_of (codes "out") rows ≡ option_map (λ (name : _). name.now) words.out
+  pub dropped : first_of (codes "dropped") rows ≡ option_map (λ (name : _). name.now) words.dropped
   pub verdicts : first_of (codes "verdicts") rows ≡ option_map (λ (name : _). name.now) words.verdicts
   pub json : IsFlag (codes "json") rows words.json
 

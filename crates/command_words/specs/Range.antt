@@ -28,7 +28,7 @@ IsFrameInRange (Captured file number) = number ≤ 4294967295
 -- a port is one of 16 bits
 abbrev pub IsInRange : Words → Type 0
 IsInRange (Replay words) = Unit {0}
-IsInRange (Run words) = AreInRange words.settings
+IsInRange (Run words) = AreInRange words.settings × IsLine words.until
 IsInRange (Decode words) = Unit {0}
 IsInRange (Mib words) = IsLine words.traces.until
 IsInRange (Rules words) = (words.port ≤ 65535) × IsLine words.traces.until

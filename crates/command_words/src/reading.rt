@@ -23,7 +23,7 @@ use crate::words::{
     Words,
 };
 use clap::ArgMatches;
-use run_settings::RunSettings;
+use run_settings::{DEFAULT_BATCH, DEFAULT_LANES, RunSettings};
 use std::alloc::{AllocError, Global};
 
 /// What the words behind `replay` ask for.
@@ -39,16 +39,20 @@ fn read_replay<'a>(given: &ArgMatches<'a>) -> ReplayWords<'a>
 /// What the options behind `run` ask for; None where one is missing, or no number in its range.
 fn read_run<'a>(given: &ArgMatches<'a>) -> Option<RunWords<'a>>
     ensures asked { IfSome result (IsRun (rows_of (found_of given.now))) }
-    ensures range { IfSome result (λ words. AreInRange words.settings) }
+    ensures range { IfSome result (λ words. AreInRange words.settings × IsLine words.until) }
     ensures none { IfNone result ((words : RunWords)
-        → IsRun (rows_of (found_of given.now)) words → AreInRange words.settings → ⊥) }
+        → IsRun (rows_of (found_of given.now)) words
+        → AreInRange words.settings → IsLine words.until → ⊥) }
 {
     let port = given.get_one("port")?;
-    let lanes = given.get_one("lanes")?;
-    let batch = given.get_one("batch")?;
+    let some_lanes = read_short(given, "lanes")?;
+    let some_batch = read_optional(given, "batch")?;
+    let lanes = some_lanes.unwrap_or(DEFAULT_LANES);
+    let batch = some_batch.unwrap_or(DEFAULT_BATCH);
     let after = given.get_flag("after");
     Some(RunWords {
         trace: given.get_str("trace")?,
+        until: read_optional(given, "until")?,
         frames: given.get_str("frames")?,
         settings: RunSettings::new(port, lanes, batch, after)?,
         json: given.get_flag("json"),
@@ -159,6 +163,7 @@ fn read_forward<'a>(given: &ArgMatches<'a>) -> Option<ForwardWords<'a>>
         frames: given.get_str("frames")?,
         port: given.get_one("port")?,
         out: given.get_str("out"),
+        dropped: given.get_str("dropped"),
         verdicts: given.get_str("verdicts"),
         json: given.get_flag("json"),
     })

@@ -64,6 +64,8 @@ pub struct EncodeWords<'a> {
 pub struct RunWords<'a> {
     /// The file with the messages that are applied.
     pub trace: &'a str,
+    /// The line, from 1, behind which the trace isn't read, or None where it is read whole.
+    pub until: Option<u32>,
     /// The capture file with the frames that are forwarded.
     pub frames: &'a str,
     /// How the frames are forwarded.
@@ -189,6 +191,8 @@ pub struct ForwardWords<'a> {
     pub port: u16,
     /// The file for the frames that leave, `-` for standard output, or None where they aren't wanted.
     pub out: Option<&'a str>,
+    /// The file for the frames that are dropped, `-` for standard output, or None where they aren't wanted.
+    pub dropped: Option<&'a str>,
     /// The file for a line a frame, `-` for standard output, or None where none is wanted.
     pub verdicts: Option<&'a str>,
     /// Whether the totals are shown as JSON.

@@ -213,13 +213,28 @@ fn is_taken<R: Files, E: Write>(
     true
 }
 
+/// Whether a file that is written is another output, if there is that one already. It says so.
+fn is_other<R: Files, E: Write>(
+    rt: &R,
+    name: &str,
+    names: &Names,
+    other: Option<Taken<'_>>,
+    err: &mut E,
+) -> bool {
+    match other {
+        Some(taken) => is_taken(rt, name, names, &taken, err),
+        None => false,
+    }
+}
+
 /// The output of this name, or the status where it can't be written. A file is written beside its name, so an older one stays as it is
-/// until the new one is whole. A device or a pipe gets what is written as it comes. An output that is one of the inputs, or the other
+/// until the new one is whole. A device or a pipe gets what is written as it comes. An output that is one of the inputs, or another
 /// output, by whatever name, is refused.
 pub fn create_output<'n, R: Files + Alloc<A = Global>, E: Write>(
     rt: &R,
     name: &'n str,
     inputs: &[&str],
+    one: Option<Taken<'_>>,
     other: Option<Taken<'_>>,
     err: &mut E,
 ) -> Result<Output<'n, R::File>, Status> {
@@ -234,9 +249,7 @@ pub fn create_output<'n, R: Files + Alloc<A = Global>, E: Write>(
             return Err(Status::Failed);
         }
     }
-    if let Some(other) = other
-        && is_taken(rt, name, &names, &other, err)
-    {
+    if is_other(rt, name, &names, one, err) || is_other(rt, name, &names, other, err) {
         return Err(Status::Failed);
     }
     open_output(rt, name, Some(names), err)

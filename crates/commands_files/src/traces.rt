@@ -85,7 +85,7 @@ fn lines_in(script: &[u8]) -> usize {
 }
 
 /// Says that a trace ends before the last line that is asked for, if it does.
-fn report_until<E: Write>(script: &[u8], words: &TraceWords<'_>, err: &mut E) {
+pub fn report_until<E: Write>(script: &[u8], words: &TraceWords<'_>, err: &mut E) {
     let Some(until) = words.until else {
         return;
     };

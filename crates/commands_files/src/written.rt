@@ -21,6 +21,18 @@ pub fn line_of(text: &[u8], number: u64) -> &[u8] {
     first_line(rest).0
 }
 
+/// The lines of a text up to that of a number, from 1; all where it has fewer.
+pub fn lines_until(text: &[u8], number: u64) -> &[u8] {
+    let mut rest = text;
+    for _ in 0..number {
+        if rest.is_empty() {
+            break;
+        }
+        rest = first_line(rest).1;
+    }
+    &text[..text.len().saturating_sub(rest.len())]
+}
+
 /// A text without the byte order mark in front of it.
 fn unmarked(mut text: Vec<u8>) -> Vec<u8> {
     let len = text.len();

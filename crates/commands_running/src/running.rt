@@ -1,10 +1,11 @@
 //! A run over two files.
 use bench_capture::{CaptureFileFault, NextFrameFault};
 use bench_pcapng::is_pcapng;
-use command_words::RunWords;
+use command_words::{RunWords, TraceWords};
 use commands_files::{
-    Capture, Naming, cut_frames, explain_fault, packets_of, read_capture, read_trace, refuse_twice,
-    report_bad_line, report_capture, report_cut, report_text, report_unread,
+    Capture, Naming, cut_frames, explain_fault, lines_until, packets_of, read_capture, read_trace,
+    refuse_twice, report_bad_line, report_capture, report_cut, report_text, report_unread,
+    report_until,
 };
 use omci_msg::Request;
 use run_capture::{FrameSource, RunFault, report_run, run_frames};
@@ -112,6 +113,20 @@ fn count_cut(alloc: Global, capture: &Capture) -> u64 {
     }
 }
 
+/// The lines of a trace that are asked for. Where it has fewer, `err` says so.
+fn asked_lines<'t, E: Write>(trace: &'t [u8], words: &RunWords, err: &mut E) -> &'t [u8] {
+    let Some(until) = words.until else {
+        return trace;
+    };
+    let asked = TraceWords {
+        file: words.trace,
+        until: words.until,
+        strict: false,
+    };
+    report_until(trace, &asked, err);
+    lines_until(trace, u64::from(until))
+}
+
 /// Reads the trace and then the capture, and forwards the frames of the capture while the trace is applied. The lines of the run are
 /// written to `out`. A bad line of the trace comes before a fault of the capture.
 fn run_lines<
@@ -130,7 +145,7 @@ fn run_lines<
         Ok(capture) => capture,
         Err(error) => return report_unread(&error, b"cannot read frames\n", words.frames, err),
     };
-    let script = without_mark(&trace);
+    let script = asked_lines(without_mark(&trace), words, err);
     let requests = match read_requests(rt.alloc(), script) {
         Ok(requests) => requests,
         Err(fault) => return report_trace(fault, script, err),

@@ -10,6 +10,14 @@ lane_limit = 16
 abbrev pub batch_limit : ℕ
 batch_limit = 65536
 
+-- the lanes of a run that says none
+abbrev pub default_lanes : ℕ
+default_lanes = 4
+
+-- the frames of a batch of a run that says none
+abbrev pub default_batch : ℕ
+default_batch = 1024
+
 -- lanes and batches are in their ranges
 abbrev pub can_run : RunSettings → Bool
 can_run s = (nat_le 1 s.lanes && nat_le s.lanes lane_limit) && (nat_le 1 s.batch && nat_le s.batch batch_limit)

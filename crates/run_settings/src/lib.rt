@@ -3,4 +3,4 @@
 
 mod settings;
 
-pub use settings::{BATCH_LIMIT, LANE_LIMIT, RunSettings};
+pub use settings::{BATCH_LIMIT, DEFAULT_BATCH, DEFAULT_LANES, LANE_LIMIT, RunSettings};

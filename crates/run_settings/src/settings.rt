@@ -8,6 +8,12 @@ pub const LANE_LIMIT: u16 = 16;
 /// The most frames of a batch.
 pub const BATCH_LIMIT: u32 = 65_536;
 
+/// The lanes of a run that says none: as many as the threads that read a large capture.
+pub const DEFAULT_LANES: u16 = 4;
+
+/// The frames of a batch of a run that says none.
+pub const DEFAULT_BATCH: u32 = 1024;
+
 /// How frames are forwarded. Who asks for a run may ask for what none can have: [`RunSettings::can_run`] is the one test of that.
 #[derive(Clone, Copy, Debug, PartialEq, Eq)]
 pub struct RunSettings {

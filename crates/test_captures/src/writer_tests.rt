@@ -19,14 +19,14 @@ const THREE: [u8; 117] = [
     0, 0, 0, 0, 16, 0, 0, 0, 16, 0, 0, 0, 2, 0, 0, 0, 0, 1, 2, 0, 0, 0, 0, 2, 8, 0, 0x45, 0,
 ];
 
-/// What is written of them: a section header, the interface `gem 1024`, and a packet with a tag of VLAN 100.
-const FRONT: [u8; 124] = [
+/// What is written of them: a section header, the interface `gem 1024`, and a packet with a tag of VLAN 100, with the comment `frame 1`.
+const FRONT: [u8; 140] = [
     0x0a, 0x0d, 0x0d, 0x0a, 28, 0, 0, 0, 0x4d, 0x3c, 0x2b, 0x1a, 1, 0, 0, 0, 0xff, 0xff, 0xff,
     0xff, 0xff, 0xff, 0xff, 0xff, 28, 0, 0, 0, 1, 0, 0, 0, 44, 0, 0, 0, 1, 0, 0, 0, 0, 0, 0, 0, 2,
     0, 8, 0, b'g', b'e', b'm', b' ', b'1', b'0', b'2', b'4', 9, 0, 1, 0, 9, 0, 0, 0, 0, 0, 0, 0,
-    44, 0, 0, 0, 6, 0, 0, 0, 52, 0, 0, 0, 0, 0, 0, 0, 0, 0, 0, 0, 0, 0, 0, 0, 20, 0, 0, 0, 20, 0,
-    0, 0, 2, 0, 0, 0, 0, 1, 2, 0, 0, 0, 0, 2, 0x81, 0x00, 0x00, 0x64, 0x08, 0x00, 0x45, 0x00, 52,
-    0, 0, 0,
+    44, 0, 0, 0, 6, 0, 0, 0, 68, 0, 0, 0, 0, 0, 0, 0, 0, 0, 0, 0, 0, 0, 0, 0, 20, 0, 0, 0, 20, 0,
+    0, 0, 2, 0, 0, 0, 0, 1, 2, 0, 0, 0, 0, 2, 0x81, 0x00, 0x00, 0x64, 0x08, 0x00, 0x45, 0x00, 1, 0,
+    7, 0, b'f', b'r', b'a', b'm', b'e', b' ', b'1', 0, 0, 0, 0, 0, 68, 0, 0, 0,
 ];
 
 /// A unit that was sent the messages that make port 257.
@@ -41,10 +41,10 @@ fn unit(alloc: Global) -> Result<Live, AllocError> {
 }
 
 /// Forwards that capture, which comes in at port 257.
-fn forward_three<W: Write, V: Write>(
+fn forward_three<W: Write, D: Write, V: Write>(
     rt: &impl Abort,
     alloc: Global,
-    outputs: &mut Outputs<W, V>,
+    outputs: &mut Outputs<W, D, V>,
 ) -> Forwarded {
     let live = unit(alloc).expect(rt, "a unit");
     let mut frames = FrameReader::open(alloc, THREE.as_slice()).expect(rt, "a capture");
@@ -56,11 +56,13 @@ fn taken<'s>(rt: &impl Abort, sink: &'s Option<Sink>) -> &'s [u8] {
     sink.as_ref().expect(rt, "a sink").bytes.as_slice()
 }
 
-/// Of the 176 bytes of the capture of the frames that leave, the writer takes 150, at most 7 at a time. So it fails in the third frame.
+/// Of the 208 bytes of the capture of the frames that leave, the writer takes 166, at most 7 at a time. So it fails in the third frame. The frame
+/// that is dropped is written whole: 72 bytes behind 72.
 #[test]
 fn a_writer_fails_in_the_third_frame(rt: HostRuntime) {
     let mut outputs = Outputs {
-        packets: Some(Sink::new(rt.alloc(), 7, 150, true)),
+        packets: Some(Sink::new(rt.alloc(), 7, 166, true)),
+        dropped: Some(Sink::new(rt.alloc(), 3, 200, true)),
         verdicts: Some(Sink::new(rt.alloc(), 5, 100, true)),
     };
     let forwarded = forward_three(&rt, rt.alloc(), &mut outputs);
@@ -70,30 +72,47 @@ fn a_writer_fails_in_the_third_frame(rt: HostRuntime) {
     same!(&rt; forwarded.totals.leaving_by(1024), 1);
     same!(&rt; forwarded.totals.leaving_by(65_535), 0);
     let packets = taken(&rt, &outputs.packets);
-    same!(&rt; packets.len(), 150);
-    same!(&rt; packets.get(..124), Some(FRONT.as_slice()));
-    same!(&rt; packets.get(124..), FRONT.get(72..98));
-    same!(&rt; taken(&rt, &outputs.verdicts), b"1 g 1024 entry 0\n2 d 1\n".as_slice());
+    same!(&rt; packets.len(), 166);
+    same!(&rt; packets.get(..140), Some(FRONT.as_slice()));
+    same!(&rt; packets.get(140..), FRONT.get(72..98));
+    same!(&rt; taken(&rt, &outputs.dropped).len(), 144);
+    same!(&rt; taken(&rt, &outputs.verdicts), b"1 g 1024 entry 0 tag=8100:0:0:100\n2 d 1\n".as_slice());
 }
 
-/// The first line takes 17 bytes. No byte of the header of packets is taken.
+/// The first line takes 34 bytes. No byte of the header of packets is taken.
 #[test]
 fn a_writer_of_lines_takes_no_more_and_one_of_packets_nothing(rt: HostRuntime) {
-    let mut outputs: Outputs<Sink, Sink> = Outputs {
+    let mut outputs: Outputs<Sink, Sink, Sink> = Outputs {
         packets: None,
-        verdicts: Some(Sink::new(rt.alloc(), 5, 19, false)),
+        dropped: None,
+        verdicts: Some(Sink::new(rt.alloc(), 5, 36, false)),
     };
     let forwarded = forward_three(&rt, rt.alloc(), &mut outputs);
     same!(&rt; forwarded.ended, Err(ForwardFault::Write));
     same!(&rt; forwarded.totals.frames(), 1);
-    same!(&rt; taken(&rt, &outputs.verdicts), b"1 g 1024 entry 0\n2 ".as_slice());
-    let mut outputs: Outputs<Sink, Sink> = Outputs {
+    same!(&rt; taken(&rt, &outputs.verdicts), b"1 g 1024 entry 0 tag=8100:0:0:100\n2 ".as_slice());
+    let mut outputs: Outputs<Sink, Sink, Sink> = Outputs {
         packets: Some(Sink::new(rt.alloc(), 7, 0, true)),
+        dropped: None,
         verdicts: None,
     };
     let forwarded = forward_three(&rt, rt.alloc(), &mut outputs);
     same!(&rt; forwarded.ended, Err(ForwardFault::Write));
     same!(&rt; forwarded.totals.frames(), 0);
+}
+
+/// The header of the capture of the frames that leave stands ahead of that of the frames that are dropped.
+#[test]
+fn a_writer_of_dropped_frames_fails_in_its_header(rt: HostRuntime) {
+    let mut outputs: Outputs<Sink, Sink, Sink> = Outputs {
+        packets: Some(Sink::new(rt.alloc(), 7, 100, true)),
+        dropped: Some(Sink::new(rt.alloc(), 7, 30, true)),
+        verdicts: None,
+    };
+    let forwarded = forward_three(&rt, rt.alloc(), &mut outputs);
+    same!(&rt; forwarded.ended, Err(ForwardFault::Write));
+    same!(&rt; taken(&rt, &outputs.packets).len(), 28);
+    same!(&rt; taken(&rt, &outputs.dropped), &FRONT[..30]);
 }
 
 /// An event of each kind.

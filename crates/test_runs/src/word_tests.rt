@@ -21,6 +21,7 @@ fn run_of<'w>(words: Words<'w>) -> Option<(&'w str, &'w str, RunSettings)> {
         Words::Run(
             RunWords {
                 trace,
+                until: None,
                 frames,
                 settings,
                 json: false,
@@ -59,6 +60,15 @@ fn words_ask_for_a_replay_or_a_run(rt: HostRuntime) -> Result<(), Fail> {
             2,
             4,
             true,
+        ),
+        (
+            &[
+                "onuctl", "run", "--trace", "t", "--frames", "f", "--port", "257",
+            ][..],
+            257,
+            4,
+            1024,
+            false,
         ),
     ] {
         let settings = RunSettings {

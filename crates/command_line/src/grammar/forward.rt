@@ -1,7 +1,7 @@
 //! The words of `forward`.
 ghost use Rattle.std.specs.Prelude.{◌≡◌, false};
 ghost use Rattle.clap.specs.Words.{rule_of};
-ghost use Rattle.command_line.specs.Grammar.{IsCommand, forward, out, verdicts};
+ghost use Rattle.command_line.specs.Grammar.{IsCommand, dropped, forward, out, verdicts};
 
 use crate::grammar::common::{json, optional, over_files, strict, until, with_arg};
 use clap::builder::ValueParser;
@@ -22,6 +22,20 @@ fn out<'a>(alloc: Global) -> Arg<'a>
     )
 }
 
+/// The capture of what is dropped.
+fn dropped<'a>(alloc: Global) -> Arg<'a>
+    ensures rule { rule_of result ≡ dropped }
+    ensures local { result.global ≡ false }
+{
+    optional(
+        alloc,
+        "dropped",
+        "FILE",
+        "Write the frames that are dropped to this file, as pcapng; - is standard output [example: dropped.pcapng]",
+        ValueParser::NonEmptyString,
+    )
+}
+
 /// The lines of verdicts.
 fn verdicts<'a>(alloc: Global) -> Arg<'a>
     ensures rule { rule_of result ≡ verdicts }
@@ -31,7 +45,7 @@ fn verdicts<'a>(alloc: Global) -> Arg<'a>
         alloc,
         "verdicts",
         "FILE",
-        "Write a line for each frame to this file: its GEM port or why it is dropped; - is standard output [example: up.verdicts]",
+        "Write a line for each frame to this file: its GEM port and tags, or why it is dropped; - is standard output [example: up.verdicts]",
         ValueParser::NonEmptyString,
     )
 }
@@ -42,10 +56,11 @@ pub(super) fn forward<'a>(alloc: Global) -> Result<Command<'a>, AllocError>
     let alone = Command::new(alloc, "forward")
         .about("Forward the frames of a capture after a trace, and say what becomes of each")
         .after_help(
-            "Example: onuctl forward up.script --frames up.pcap --port 257 --out left.pcapng",
+            "Status: 0, 1 or 2; onuctl help statuses says when\nExample: onuctl forward up.script --frames up.pcap --port 257 --out left.pcapng",
         );
     let to_capture = with_arg(over_files(alloc, alone), out(alloc));
-    let to_files = with_arg(to_capture, verdicts(alloc));
+    let to_captures = with_arg(to_capture, dropped(alloc));
+    let to_files = with_arg(to_captures, verdicts(alloc));
     let up_to = with_arg(to_files, until(alloc));
     let strictly = with_arg(up_to, strict(alloc));
     with_arg(strictly, json(alloc))

@@ -3,23 +3,26 @@ ghost use Rattle.std.specs.Prelude.{◌≡◌, false};
 ghost use Rattle.clap.specs.Words.{rule_of};
 ghost use Rattle.command_line.specs.Grammar.{IsCommand, after, batch, lanes, run};
 
-use crate::grammar::common::{json, over_files, valued, with_arg};
+use crate::grammar::common::{json, optional, over_files, until, with_arg};
 use clap::{Arg, ArgAction, Command, value_parser};
-use run_settings::{BATCH_LIMIT, LANE_LIMIT};
+use run_settings::{BATCH_LIMIT, DEFAULT_BATCH, DEFAULT_LANES, LANE_LIMIT};
 use std::alloc::{AllocError, Global};
 
 /// The help says these limits in words.
 const _: () = prove!(LANE_LIMIT == 16 && BATCH_LIMIT == 65_536);
 
+/// And what counts where they aren't said.
+const _: () = prove!(DEFAULT_LANES == 4 && DEFAULT_BATCH == 1024);
+
 fn lanes<'a>(alloc: Global) -> Arg<'a>
     ensures rule { rule_of result ≡ lanes }
     ensures local { result.global ≡ false }
 {
-    valued(
+    optional(
         alloc,
         "lanes",
         "COUNT",
-        "Lanes that forward side by side, 1 to 16 [example: 4]",
+        "Lanes that forward side by side, 1 to 16; 4 without it [example: 8]",
         value_parser!(u16).range(1..=i64::from(LANE_LIMIT)),
     )
 }
@@ -28,11 +31,11 @@ fn batch<'a>(alloc: Global) -> Arg<'a>
     ensures rule { rule_of result ≡ batch }
     ensures local { result.global ≡ false }
 {
-    valued(
+    optional(
         alloc,
         "batch",
         "FRAMES",
-        "Frames of each batch but the last, 1 to 65536 [example: 1024]",
+        "Frames of each batch but the last, 1 to 65536; 1024 without it [example: 4096]",
         value_parser!(u32).range(1..=i64::from(BATCH_LIMIT)),
     )
 }
@@ -53,10 +56,11 @@ pub(super) fn run<'a>(alloc: Global) -> Result<Command<'a>, AllocError>
     let alone = Command::new(alloc, "run")
         .about("Forward the frames of a capture on several lanes while a trace is applied")
         .after_help(
-            "Example: onuctl run up.script --frames up.pcap --port 257 --lanes 4 --batch 1024",
+            "Status: 0, 1 or 2; onuctl help statuses says when\nExample: onuctl run up.script --frames up.pcap --port 257",
         );
     let on_lanes = with_arg(over_files(alloc, alone), lanes(alloc));
     let in_batches = with_arg(on_lanes, batch(alloc));
     let in_order = with_arg(in_batches, after(alloc));
-    with_arg(in_order, json(alloc))
+    let up_to = with_arg(in_order, until(alloc));
+    with_arg(up_to, json(alloc))
 }

@@ -4,6 +4,7 @@ use Rattle.std.specs.Io.KnownBytes.{Appends}
 use Rattle.frame_meaning.specs.Meaning.{meaning, table_at}
 use Rattle.frame_stats.specs.Figures.{Frames}
 use Rattle.text_writing.specs.Written.{AppendsPart}
+use Rattle.bench_forward.specs.Drops.{dropped_by}
 use Rattle.bench_forward.specs.Entries.{entry_number}
 use Rattle.bench_forward.specs.Frames.{is_cut, left_by, verdict_on}
 use Rattle.bench_forward.specs.Outputs.{known_in}
@@ -30,8 +31,14 @@ returns-in_err-write_frame-clause-leaves g c =
     let table = table_at e port in
     let p = err_from_is_err_and c.from_residual.result c.from_residual.ensures.1 in
     rw (p.1, p.2) (record {
-      packets = subst (λ v. AppendsPart (known_in g.W.Write.contents c.args.outputs.now.packets) (known_in g.W.Write.contents c.write_frame.new.outputs.packets) (blocks_from gems (left_by frame.time v)))
-          verdict c.in_err-write_frame.ensures.packets_part;
+      packets = subst (λ n. AppendsPart (known_in g.W.Write.contents c.args.outputs.now.packets) (known_in g.W.Write.contents c.write_frame.new.outputs.packets)
+          (blocks_from gems (left_by n frame.time (verdict_on e port frame)))) number
+          (subst (λ v. AppendsPart (known_in g.W.Write.contents c.args.outputs.now.packets) (known_in g.W.Write.contents c.write_frame.new.outputs.packets)
+          (blocks_from gems (left_by (c.frames-number.result + 1) frame.time v))) verdict c.in_err-write_frame.ensures.packets_part);
+      drops = subst (λ n. AppendsPart (known_in g.D.Write.contents c.args.outputs.now.dropped) (known_in g.D.Write.contents c.write_frame.new.outputs.dropped)
+          (dropped_by n frame (verdict_on e port frame))) number
+          (subst (λ v. AppendsPart (known_in g.D.Write.contents c.args.outputs.now.dropped) (known_in g.D.Write.contents c.write_frame.new.outputs.dropped)
+          (dropped_by (c.frames-number.result + 1) frame v)) verdict c.in_err-write_frame.ensures.drops_part);
       lines = rw (← number, ← verdict) (c.in_err-write_frame.ensures.lines_part table c.requires);
       totals = refl;
     })
@@ -47,10 +54,18 @@ returns-clause-leaves g c =
     let number : c.frames-number.result + 1 ≡ c.args.state.now.totals.frames + 1 = ap (λ (n : ℕ). n + 1) c.frames-number.ensures in
     let table = table_at e port in
     record {
-      packets = subst (λ v. Appends (known_in g.W.Write.contents c.args.outputs.now.packets) (known_in g.W.Write.contents c.write_frame.new.outputs.packets) (blocks_from gems (left_by frame.time v)))
-          verdict c.in_ok-write_frame.ensures.packets;
+      packets = subst (λ n. Appends (known_in g.W.Write.contents c.args.outputs.now.packets) (known_in g.W.Write.contents c.write_frame.new.outputs.packets)
+          (blocks_from gems (left_by n frame.time (verdict_on e port frame)))) number
+          (subst (λ v. Appends (known_in g.W.Write.contents c.args.outputs.now.packets) (known_in g.W.Write.contents c.write_frame.new.outputs.packets)
+          (blocks_from gems (left_by (c.frames-number.result + 1) frame.time v))) verdict c.in_ok-write_frame.ensures.packets);
+      drops = subst (λ n. Appends (known_in g.D.Write.contents c.args.outputs.now.dropped) (known_in g.D.Write.contents c.write_frame.new.outputs.dropped)
+          (dropped_by n frame (verdict_on e port frame))) number
+          (subst (λ v. Appends (known_in g.D.Write.contents c.args.outputs.now.dropped) (known_in g.D.Write.contents c.write_frame.new.outputs.dropped)
+          (dropped_by (c.frames-number.result + 1) frame v)) verdict c.in_ok-write_frame.ensures.drops);
       lines = rw (← number, ← verdict) (c.in_ok-write_frame.ensures.lines table c.requires);
-      interfaces = subst (λ v. c.write_frame.new.interfaces ≡ gems_behind gems (left_by frame.time v)) verdict c.in_ok-write_frame.ensures.interfaces;
+      interfaces = subst (λ n. c.write_frame.new.interfaces ≡ gems_behind gems (left_by n frame.time (verdict_on e port frame))) number
+          (subst (λ v. c.write_frame.new.interfaces ≡ gems_behind gems (left_by (c.frames-number.result + 1) frame.time v)) verdict
+          c.in_ok-write_frame.ensures.interfaces);
       totals = subst (λ v. CountsOneMore c.args.state.now.totals v (is_cut frame) c.count.new.self) verdict
           (subst (λ cut. CountsOneMore c.args.state.now.totals c.forward-verdict.result cut c.count.new.self) c.is_cut.ensures c.count.ensures);
     }

@@ -1,0 +1,49 @@
+//! The capture of the frames that are dropped: what stands before them, and the packet of each as it came in.
+ghost use Rattle.std.specs.Prelude.{◌≡◌, OnOk, OnErr};
+ghost use Rattle.std.specs.Io.KnownBytes.{Appends};
+ghost use Rattle.text_writing.specs.Written.{AppendsPart};
+ghost use Rattle.bench_forward.specs.Blocks.{packet_block};
+ghost use Rattle.bench_forward.specs.Comments.{dropped_comment};
+ghost use Rattle.bench_forward.specs.Drops.{drops_header};
+
+use crate::block::{port_block, section_block};
+use crate::comment::dropped_comment;
+use crate::packet::{packet_end, packet_front, write_both, write_three};
+use bench_capture::RecordedFrame;
+use frame_meaning::Reason;
+use std::io::Write;
+use text_writing::WriteFault;
+
+/// Writes what stands before all frames that are dropped: the section, and the interface of the port at which they come in.
+#[tactic(auto, unfolding(crate::specs::Drops::drops_header))]
+pub(crate) fn write_drops_header<W: Write>(writer: &mut W, port: u16) -> Result<(), WriteFault>
+    ensures ok { OnOk result
+        (Appends (W.contents writer.old) (W.contents writer.new) (drops_header port)) }
+    ensures err { OnErr result
+        (AppendsPart (W.contents writer.old) (W.contents writer.new) (drops_header port)) }
+{
+    let interface = port_block(port);
+    write_both(writer, &section_block(), interface.as_slice())
+}
+
+/// Writes the packet of the frame of this number, which is dropped: its record's time and lengths, and its bytes as they are stored.
+pub(crate) fn write_dropped<W: Write>(
+    writer: &mut W,
+    number: u64,
+    reason: Reason,
+    frame: &RecordedFrame<'_>,
+) -> Result<(), WriteFault>
+    ensures ok { OnOk result (Appends (W.contents writer.old) (W.contents writer.new)
+        (packet_block 0 frame.now.time frame.now.original frame.now.bytes
+        (dropped_comment number reason))) }
+    ensures err { OnErr result (AppendsPart (W.contents writer.old) (W.contents writer.new)
+        (packet_block 0 frame.now.time frame.now.original frame.now.bytes
+        (dropped_comment number reason))) }
+{
+    let bytes = frame.bytes();
+    let comment = dropped_comment(number, reason);
+    let original = frame.original_len() as usize;
+    let front = packet_front(0, frame.time(), bytes.len(), original, comment.len());
+    let end = packet_end(bytes.len(), comment.as_slice());
+    write_three(writer, front.as_slice(), bytes, end.as_slice())
+}
