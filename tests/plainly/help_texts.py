@@ -315,10 +315,10 @@ What lint finds, the most severe first: `--ignore KIND` leaves findings of a kin
   not-modelled (note): a class or an action that this model doesn't have; once for each""",
     "statuses": """\
 The status with which the program ends
-  0  all is written, and judge and lint found nothing
+  0  all is written; judge found no deviation, and lint nothing as severe as --fail-on
   1  the words are wrong, a read or a write failed, or there is no memory or no room
   2  a line, a text or a capture is bad, or --strict met a message that wasn't carried out
-  3  judge found a deviation, or lint something; all is written
+  3  judge found a deviation, or lint something as severe as --fail-on; all is written
   141  nobody reads standard output any more""",
 }
 

@@ -1,6 +1,7 @@
 //! How far a judgement is, on a terminal.
 use bench_judge::{Stage, Watch};
 use std::io::{IsTerminal, Write};
+use text_writing::ProgressLine;
 
 /// The least number of lines of a history that takes long enough to be watched.
 const LONG: usize = 50_000;
@@ -12,34 +13,36 @@ pub struct Shown<'e, E> {
     err: &'e mut E,
     // Whether the history is long, and `err` a terminal.
     shows: bool,
+    line: ProgressLine,
 }
 
 impl<'e, E: Write + IsTerminal> Shown<'e, E> {
     /// Nothing is shown yet.
     pub fn new(err: &'e mut E) -> Self {
-        Shown { err, shows: false }
+        Shown {
+            err,
+            shows: false,
+            line: ProgressLine::new(),
+        }
     }
 
     /// The line is gone.
     pub fn end(&mut self) {
-        if self.shows {
-            let _ = self.err.write_all(b"\r\x1b[K");
-        }
+        self.line.remove(self.err);
     }
 
     /// Writes the line of a stage.
     fn write_stage(&mut self, stage: Stage) {
+        self.line.begin(self.err);
         let _ = match stage {
-            Stage::Read { lines } => write!(self.err, "\r{lines} lines: replies"),
+            Stage::Read { lines } => write!(self.err, "{lines} lines: replies"),
             Stage::Walked { frames, requests } => write!(
                 self.err,
-                "\r{frames} frames by {requests} accepted requests"
+                "{frames} frames by {requests} accepted requests"
             ),
-            Stage::Halving { lines } => {
-                write!(self.err, "\rnot explained: one of {lines} lines")
-            }
+            Stage::Halving { lines } => { write!(self.err, "not explained: one of {lines} lines") }
         };
-        let _ = self.err.write_all(b"\x1b[K");
+        self.line.end(self.err);
     }
 }
 

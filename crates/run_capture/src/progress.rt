@@ -6,6 +6,7 @@ use std::rt::Clock;
 use std::sync::atomic::{AtomicU64, Ordering};
 use std::thread::sleep;
 use std::time::Duration;
+use text_writing::ProgressLine;
 
 /// How many milliseconds the end of a run may go unseen.
 const STEP: u64 = 20;
@@ -69,20 +70,19 @@ impl Gate for Watched<'_> {
 
 /// Writes how many frames were given to lanes, which ask twice for a batch. Where the trace is published first, the line says so
 /// until a lane asks; else it says how many messages are published beside the lanes.
-fn write_line<E: Write>(progress: &Progress, settings: &RunSettings, err: &mut E) {
+fn write_text<E: Write>(progress: &Progress, settings: &RunSettings, err: &mut E) {
     let asked = progress.asked.load(Ordering::Relaxed);
     if settings.after && asked == 0 {
-        let _ = err.write_all(b"\rpublishing\x1b[K");
+        let _ = err.write_all(b"publishing");
         return;
     }
     let frames = progress.frames.load(Ordering::Relaxed);
     let given = (asked / 2).saturating_mul(u64::from(settings.batch));
-    let _ = write!(err, "\r{} of {frames} frames forwarded", given.min(frames));
+    let _ = write!(err, "{} of {frames} frames forwarded", given.min(frames));
     if !settings.after {
         let applied = progress.applied.load(Ordering::Relaxed);
         let _ = write!(err, ", {applied} messages applied");
     }
-    let _ = err.write_all(b"\x1b[K");
 }
 
 /// Shows how far a run is, on one line that is written anew about twice a second, until the run has ended. Then the line is gone.
@@ -92,18 +92,17 @@ pub(crate) fn show<R: Clock, E: Write>(
     settings: &RunSettings,
     err: &mut E,
 ) {
-    let mut is_shown = false;
+    let mut line = ProgressLine::new();
     for step in 1..u64::MAX {
         if progress.has_ended() {
             break;
         }
         if step % STEPS == 0 {
-            write_line(progress, settings, err);
-            is_shown = true;
+            line.begin(err);
+            write_text(progress, settings, err);
+            line.end(err);
         }
         sleep(rt, Duration::from_millis(STEP));
     }
-    if is_shown {
-        let _ = err.write_all(b"\r\x1b[K");
-    }
+    line.remove(err);
 }

@@ -3,12 +3,15 @@
 //! **Words that several commands tell alike** stand once, as [`no_memory_words`], each ended by a line feed.
 //!
 //! **A command that looks inside** ends with a [`LookFault`] or without: [`report_look`] writes its words and gives the [`Status`].
+//!
+//! **How far a command is** a [`ProgressLine`] says on a terminal.
 #![tactic(auto)]
 
 mod fault;
 mod fault_words;
 mod look_fault;
 mod mistake;
+mod progress;
 mod status;
 mod whole;
 
@@ -18,5 +21,6 @@ pub use fault_words::{
 };
 pub use look_fault::{LookFault, report_look};
 pub use mistake::{Expected, Found, Mistake};
+pub use progress::ProgressLine;
 pub use status::Status;
 pub use whole::{WriteFault, write_whole};

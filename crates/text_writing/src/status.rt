@@ -3,13 +3,13 @@
 /// With which status the program ends.
 #[derive(Clone, Copy, Debug, PartialEq, Eq)]
 pub enum Status {
-    /// All that was asked for is written, and nothing is found.
+    /// All that was asked for is written, and nothing is found that has a status of its own.
     Done,
     /// The words are wrong, a read or a write failed, or there is no memory, no place for a lane or no room for a count.
     Failed,
     /// A line, a text or a capture is bad, or `--strict` met a message that wasn't carried out.
     Bad,
-    /// `judge` found a deviation, or `lint` something. All is written.
+    /// `judge` found a deviation, or `lint` something as severe as is asked. All is written.
     Found,
     /// Nobody reads standard output any more. A shell reports a program that SIGPIPE, signal 13, ended by the same number.
     Unread,
@@ -59,14 +59,18 @@ impl Status {
     /// When the program ends so, in words.
     pub fn words(self) -> &'static str {
         match self {
-            Status::Done => "all is written, and judge and lint found nothing",
+            Status::Done => {
+                "all is written; judge found no deviation, and lint nothing as severe as --fail-on"
+            }
             Status::Failed => {
                 "the words are wrong, a read or a write failed, or there is no memory or no room"
             }
             Status::Bad => {
                 "a line, a text or a capture is bad, or --strict met a message that wasn't carried out"
             }
-            Status::Found => "judge found a deviation, or lint something; all is written",
+            Status::Found => {
+                "judge found a deviation, or lint something as severe as --fail-on; all is written"
+            }
             Status::Unread => "nobody reads standard output any more",
         }
     }
