@@ -8,7 +8,7 @@ use Rattle.capture.specs.Records.{behind_first, first_frame, record_fault, store
 use Rattle.capture.proofs.Captures.{number_behind, whole_sizes}
 
 -- the length of the frame stands in what is held
-stored_held : (order : Order) (x m : List ℕ) → 12 ≤ length x → stored_length order (x ++ m) ≡ stored_length order x
+pub stored_held : (order : Order) (x m : List ℕ) → 12 ≤ length x → stored_length order (x ++ m) ≡ stored_length order x
 stored_held order x m long = number_behind 8 order x m (omega (arith, long))
 
 -- where something isn't held, as much is as the longest record has: so the fault of the record is that of what is held

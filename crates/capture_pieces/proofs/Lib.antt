@@ -1,4 +1,5 @@
 pub mod Beginnings
+pub mod Cuts
 pub mod Files
 pub mod Fronts
 pub mod Headers

@@ -1,4 +1,5 @@
 pub mod Joined
 pub mod Left
 pub mod Cut
+pub mod CutFrames
 pub mod Walk

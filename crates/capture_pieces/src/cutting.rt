@@ -77,20 +77,6 @@ pub(crate) fn cut_records<'a>(
     Ok((starts, count))
 }
 
-/// How many records hold a frame that was cut, up to the first that has a fault.
-pub(crate) fn count_cut(order: Order, mut records: Records<'_>) -> u64 {
-    let mut count: u64 = 0;
-    // A capture numbers its records in 32 bits.
-    for _ in 0..u32::MAX {
-        let is_cut = records.is_cut(order);
-        if records.pass(order).is_err() {
-            break;
-        }
-        count = count.saturating_add(u64::from(is_cut));
-    }
-    count
-}
-
 /// The frames of the first records, so many at most. Room is made for some of them at once.
 pub(crate) fn list_first<'a>(
     alloc: Global,

@@ -7,11 +7,14 @@
 //! **Frames in batches** ([`Batches`]): a walk over the records finds the first fault, and notes where each batch begins. The frames of a
 //! batch are listed when they are asked for, by a second look at its records. So no list of all frames is kept.
 //!
+//! **Cut frames** are counted where they are asked for ([`cut_frames`], and [`Pieces::cut_frames`] of a file in pieces).
+//!
 //! **What is read** is what `capture` reads of the same file as one slice: the frames, or the first fault (`specs/Joined.antt` says which file
 //! pieces hold).
 #![tactic(auto)]
 
 mod batches;
+mod counting;
 mod cutting;
 mod header;
 mod joining;
@@ -20,5 +23,6 @@ mod pieces;
 mod records;
 
 pub use batches::Batches;
+pub use counting::cut_frames;
 pub use piece::OVERLAP;
 pub use pieces::Pieces;

@@ -1,7 +1,7 @@
 //! A file in pieces.
 
 use crate::batches::Batches;
-use crate::cutting::count_cut;
+use crate::counting::count_cut;
 use crate::header::read_order;
 use crate::joining::joined;
 use crate::piece::Piece;
@@ -32,6 +32,7 @@ impl Pieces {
     ghost use Rattle.std.specs.List.{flat_map};
     ghost use Rattle.capture.specs.Listed.{IsWhyNoList};
     ghost use Rattle.capture.specs.Records.{capture_of};
+    ghost use Rattle.capture_pieces.specs.CutFrames.{counted, cut_frames_of};
 
     /// The file whose parts these are, one behind the other. A part's bytes stay where they are, if there is room for
     /// [`OVERLAP`](crate::OVERLAP) bytes more behind them.
@@ -58,14 +59,16 @@ impl Pieces {
         Batches::cut(alloc, order, records, size)
     }
 
-    /// How many frames of the capture file were cut when they were taken, up to its first fault. No contract speaks of it: it tells a
-    /// user what a snap length left out.
-    pub fn cut_frames(&self) -> u64 {
+    /// How many frames of the capture file were cut when they were taken, up to the file's first fault, as [`cut_frames`](crate::cut_frames)
+    /// counts them.
+    pub fn cut_frames(&self) -> u64
+        ensures { result ≡ counted (cut_frames_of self.now) }
+    {
         let Ok(order) = read_order(&self.pieces) else {
             return 0;
         };
-        let records = Records::from_place(&self.pieces, HEADER_LEN);
-        count_cut(order, records)
+        let mut records = Records::from_place(&self.pieces, HEADER_LEN);
+        count_cut(order, &mut records)
     }
 
     /// The frames of the capture file, in its order, each as a slice of a piece. A fault of the file is told before want of memory.

@@ -1,5 +1,6 @@
 //! What is left of the records of a capture in pieces.
 
+use crate::counting::is_cut;
 use crate::piece::Piece;
 use capture::{Order, RecordFault, split_record};
 use std::marker::Model;
@@ -24,9 +25,10 @@ impl<'a> Model for Records<'a> {
 }
 
 impl<'a> Records<'a> {
-    ghost use Rattle.std.specs.Prelude.{◌≡◌, ◌==◌, IfOk, drop, length};
+    ghost use Rattle.std.specs.Prelude.{◌≡◌, ◌==◌, IfOk, None, drop, length};
     ghost use Rattle.std.specs.Result.{result_err};
     ghost use Rattle.capture.specs.Records.{behind_first, first_frame, record_fault};
+    ghost use Rattle.capture_pieces.specs.CutFrames.{is_cut};
     ghost use Rattle.capture_pieces.specs.Joined.{AreJoined, file_of};
 
     /// Those that begin at a place of the file and behind it.
@@ -65,11 +67,10 @@ impl<'a> Records<'a> {
     }
 
     /// Whether the next record stores fewer bytes than its frame had.
-    pub(crate) fn is_cut(&self, order: Order) -> bool {
-        match self.rest.get(8..16) {
-            Some(lengths) => order.read_u32(lengths) < order.read_u32(&lengths[4..]),
-            None => false,
-        }
+    pub(crate) fn is_cut(&self, order: Order) -> bool
+        ensures { record_fault order self.now ≡ None → result ≡ is_cut order self.now }
+    {
+        is_cut(order, self.rest)
     }
 
     /// Passes the next record, and gives its frame. Where nothing is left, a record is torn.

@@ -1,4 +1,4 @@
-//! Captures as the program names them: what is said of a fault of one, and how many of its frames were cut.
+//! Captures as the program names them: what is said of a fault of one, and its frames listed.
 use crate::files::report_file;
 use bench_capture::{CaptureFileFault, CaptureFrames, NextFrameFault, RecordedFrame};
 use std::alloc::Global;
@@ -82,38 +82,32 @@ pub fn next_frame<'a, E: Write>(
     }
 }
 
-/// The frames of a capture, each as a slice of it.
-pub fn packets_of<'a>(alloc: Global, file: &'a [u8]) -> Result<Vec<&'a [u8]>, NextFrameFault> {
-    let mut frames = match CaptureFrames::open(alloc, file) {
-        Ok(frames) => frames,
-        Err(fault) => return Err(NextFrameFault::Capture(fault)),
-    };
-    let mut list = Vec::new(alloc);
-    // No frame is without bytes of the file.
-    for _ in 0..file.len() {
-        let Some(frame) = frames.next_frame()? else {
-            break;
-        };
-        if list.push(frame.bytes()).is_err() {
-            return Err(NextFrameFault::NoMemory);
-        }
-    }
-    Ok(list)
+/// The frames of a capture.
+#[derive(Drop)]
+pub struct Packets<'a> {
+    /// Each as a slice of the file.
+    pub frames: Vec<&'a [u8]>,
+    /// How many of them were cut when they were taken.
+    pub cut: u32,
 }
 
-/// How many frames of a capture were cut, up to its first fault.
-pub fn cut_frames(alloc: Global, file: &[u8]) -> u64 {
-    let Ok(mut frames) = CaptureFrames::open(alloc, file) else {
-        return 0;
+/// The frames of a capture in either format, listed.
+pub fn packets_of<'a>(alloc: Global, file: &'a [u8]) -> Result<Packets<'a>, NextFrameFault> {
+    let mut reader = match CaptureFrames::open(alloc, file) {
+        Ok(reader) => reader,
+        Err(fault) => return Err(NextFrameFault::Capture(fault)),
     };
-    let mut cut = 0u64;
+    let mut frames = Vec::new(alloc);
+    let mut cut = 0u32;
+    // No frame is without bytes of the file.
     for _ in 0..file.len() {
-        let Ok(Some(frame)) = frames.next_frame() else {
+        let Some(frame) = reader.next_frame()? else {
             break;
         };
-        if frame.is_cut() {
-            cut = cut.saturating_add(1);
+        if frames.push(frame.bytes()).is_err() {
+            return Err(NextFrameFault::NoMemory);
         }
+        cut = cut.saturating_add(u32::from(frame.is_cut()));
     }
-    cut
+    Ok(Packets { frames, cut })
 }

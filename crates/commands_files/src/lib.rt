@@ -16,8 +16,7 @@ mod unread;
 mod written;
 
 pub use captures::{
-    Naming, cut_frames, explain_fault, next_frame, open_frames, packets_of, report_capture,
-    report_cut,
+    Naming, Packets, explain_fault, next_frame, open_frames, packets_of, report_capture, report_cut,
 };
 pub use files::{open_named, read_whole, refuse_twice, report_file, report_unread};
 pub use fronted::Marked;

@@ -3,13 +3,11 @@ use bench_capture::{CaptureFileFault, NextFrameFault};
 use bench_pcapng::is_pcapng;
 use command_words::{RunWords, TraceWords};
 use commands_files::{
-    Capture, Naming, cut_frames, explain_fault, lines_until, packets_of, read_capture, read_trace,
+    Capture, Naming, Packets, explain_fault, lines_until, packets_of, read_capture, read_trace,
     refuse_twice, report_bad_line, report_capture, report_cut, report_text, report_unread,
     report_until,
 };
-use omci_msg::Request;
 use run_capture::{FrameSource, RunFault, report_run, run_frames};
-use script_trace::{ScriptFault, read_requests};
 use std::alloc::Global;
 use std::fs::File;
 use std::io::{IsTerminal, Write};
@@ -20,96 +18,86 @@ use text_encode::without_mark;
 use text_runs::write_run_json;
 use text_writing::Status;
 
-/// Says how a run ended, if it didn't end well, and gives the status.
-fn report_end<E: Write>(outcome: &Result<(), RunFault>, err: &mut E) -> Status {
-    Status::of(report_run(outcome, err))
-}
-
-/// The same, with what is wrong with the capture, if that is why.
-fn report<E: Write>(outcome: &Result<(), RunFault>, path: &str, err: &mut E) -> Status {
-    let status = report_end(outcome, err);
-    if let Err(RunFault::Capture(fault)) = outcome {
-        explain_fault(CaptureFileFault::from(*fault), path, err);
+/// Says why frames aren't run over, with what is wrong with the trace or with the capture, and gives the status. Of a capture whose
+/// packets can't be listed this is why.
+fn report_fault<E: Write>(
+    fault: RunFault,
+    why_unlisted: Option<NextFrameFault>,
+    words: &RunWords,
+    trace: &[u8],
+    err: &mut E,
+) -> Status {
+    match (fault, why_unlisted) {
+        (RunFault::Unlisted, Some(NextFrameFault::Capture(fault))) => {
+            return report_capture(fault, words.frames, Naming::Behind, err);
+        }
+        (RunFault::Unlisted, _) => return report_fault_words(RunFault::NoMemory, err),
+        _ => {}
+    }
+    let status = report_fault_words(fault, err);
+    match fault {
+        RunFault::BadTrace(line) => report_bad_line(trace, line, err),
+        RunFault::Capture(fault) => {
+            explain_fault(CaptureFileFault::from(fault), words.frames, err);
+        }
+        _ => {}
     }
     status
 }
 
-/// Says why a trace isn't run, and gives the status.
-fn report_trace<E: Write>(fault: ScriptFault, trace: &[u8], err: &mut E) -> Status {
-    match fault {
-        ScriptFault::BadLine(line) => {
-            let status = report_end(&Err(RunFault::BadTrace(line)), err);
-            report_bad_line(trace, line, err);
-            status
-        }
-        ScriptFault::NoMemory => report_end(&Err(RunFault::NoMemory), err),
+/// Writes the words for a fault, and gives the status.
+fn report_fault_words<E: Write>(fault: RunFault, err: &mut E) -> Status {
+    Status::of(report_run(&Err(fault), err))
+}
+
+/// The packets of a capture, or why they can't be listed; None where it is read as it is held.
+fn list_packets<'a>(
+    alloc: Global,
+    capture: &'a Capture,
+) -> Option<Result<Packets<'a>, NextFrameFault>> {
+    match capture {
+        Capture::Whole(file) if is_pcapng(file) => Some(packets_of(alloc, file)),
+        _ => None,
     }
 }
 
-/// Says why the packets of a capture aren't run over, and gives the status.
-fn report_packets<E: Write>(fault: NextFrameFault, path: &str, err: &mut E) -> Status {
-    match fault {
-        NextFrameFault::Capture(fault) => report_capture(fault, path, Naming::Behind, err),
-        NextFrameFault::NoMemory => report_end(&Err(RunFault::NoMemory), err),
+/// The frames of a run.
+fn source_of<'a>(
+    capture: &'a Capture,
+    packets: &'a Option<Result<Packets<'a>, NextFrameFault>>,
+) -> FrameSource<'a> {
+    match (packets, capture) {
+        (Some(Ok(packets)), _) => FrameSource::Listed(&packets.frames),
+        (Some(Err(_)), _) => FrameSource::Unlisted,
+        (None, Capture::InPieces(pieces)) => FrameSource::InPieces(pieces),
+        (None, Capture::Whole(file)) => FrameSource::Whole(file),
     }
 }
 
-/// Forwards frames as they are held, and shows how far it is where `err` is a terminal.
-fn run_held<
-    R: Files + Alloc<A = Global> + Threads + Wait + Clock + Sync,
-    O: Write,
-    E: Write + IsTerminal + Send,
->(
-    rt: &R,
-    words: &RunWords,
-    requests: &[Request],
-    frames: FrameSource<'_>,
-    out: &mut O,
-    err: &mut E,
-) -> Status {
-    let is_shown = err.is_terminal();
-    let progress = if is_shown { Some(&mut *err) } else { None };
-    let outcome = run_frames(rt, requests, frames, &words.settings, out, progress);
-    report(&outcome, words.frames, err)
-}
-
-/// Forwards the frames of a capture.
+/// Forwards the frames of a capture while a trace is applied, and says how many of them were cut, if `err` is a terminal.
 fn run_over_capture<
     R: Files + Alloc<A = Global> + Threads + Wait + Clock + Sync,
     O: Write,
     E: Write + IsTerminal + Send,
->(
-    rt: &R,
-    words: &RunWords,
-    requests: &[Request],
-    capture: &Capture,
-    out: &mut O,
-    err: &mut E,
-) -> Status {
-    match capture {
-        Capture::InPieces(pieces) => {
-            let frames = FrameSource::InPieces(pieces);
-            run_held(rt, words, requests, frames, out, err)
+>(rt: &R, words: &RunWords, trace: &[u8], capture: &Capture, out: &mut O, err: &mut E) -> Status {
+    let packets = list_packets(rt.alloc(), capture);
+    let frames = source_of(capture, &packets);
+    let is_shown = err.is_terminal();
+    let progress = if is_shown { Some(&mut *err) } else { None };
+    match (
+        run_frames(rt, trace, frames, &words.settings, out, progress),
+        packets,
+    ) {
+        (Ok(counted), Some(Ok(packets))) if is_shown => {
+            report_cut(counted.unwrap_or(packets.cut), err);
+            Status::Done
         }
-        Capture::Whole(file) if is_pcapng(file) => match packets_of(rt.alloc(), file) {
-            Ok(packets) => {
-                let frames = FrameSource::Listed(&packets);
-                run_held(rt, words, requests, frames, out, err)
-            }
-            Err(fault) => report_packets(fault, words.frames, err),
-        },
-        Capture::Whole(file) => {
-            let frames = FrameSource::Whole(file);
-            run_held(rt, words, requests, frames, out, err)
+        (Ok(counted), _) => {
+            report_cut(counted.unwrap_or(0), err);
+            Status::Done
         }
-    }
-}
-
-/// How many frames of a capture were cut.
-fn count_cut(alloc: Global, capture: &Capture) -> u64 {
-    match capture {
-        Capture::InPieces(pieces) => pieces.cut_frames(),
-        Capture::Whole(file) => cut_frames(alloc, file),
+        (Err(fault), Some(Err(why))) => report_fault(fault, Some(why), words, trace, err),
+        (Err(fault), _) => report_fault(fault, None, words, trace, err),
     }
 }
 
@@ -146,15 +134,7 @@ fn run_lines<
         Err(error) => return report_unread(&error, b"cannot read frames\n", words.frames, err),
     };
     let script = asked_lines(without_mark(&trace), words, err);
-    let requests = match read_requests(rt.alloc(), script) {
-        Ok(requests) => requests,
-        Err(fault) => return report_trace(fault, script, err),
-    };
-    let status = run_over_capture(rt, words, &requests, &capture, out, err);
-    if status == Status::Done && err.is_terminal() {
-        report_cut(count_cut(rt.alloc(), &capture), err);
-    }
-    status
+    run_over_capture(rt, words, script, &capture, out, err)
 }
 
 /// The same, with an object in place of the lines.

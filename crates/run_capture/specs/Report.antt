@@ -6,7 +6,7 @@ use Rattle.capture.specs.declared.fault.CaptureFault.TheVariants.{Magic, Header,
 use Rattle.capture.specs.Fault as capture
 use Rattle.text_writing.specs.FaultWords.{bad_trace_words, no_memory_words, write_failed_words}
 use Rattle.run_capture.specs.declared.fault.RunFault.{RunFault}
-use Rattle.run_capture.specs.declared.fault.RunFault.TheVariants.{Settings, BadTrace, Capture, NoMemory, Refused, CountFull, Write}
+use Rattle.run_capture.specs.declared.fault.RunFault.TheVariants.{Settings, BadTrace, Capture, Unlisted, NoMemory, Refused, CountFull, Write}
 use Rattle.run_capture.specs.Fault.{status_of_fault}
 
 -- the number that a capture's fault has
@@ -21,6 +21,7 @@ abbrev pub words_of : RunFault → List ℕ
 words_of Settings = codes "wrong settings" ++ 10 ∷ []
 words_of (BadTrace n) = bad_trace_words n
 words_of (Capture fault) = codes "capture fault " ++ decimal (capture.number_of_fault fault) ++ place_words fault ++ 10 ∷ []
+words_of Unlisted = codes "unlisted frames" ++ 10 ∷ []
 words_of NoMemory = no_memory_words
 words_of Refused = codes "refused" ++ 10 ∷ []
 words_of CountFull = codes "counters are full" ++ 10 ∷ []

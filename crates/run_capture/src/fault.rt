@@ -9,7 +9,7 @@ use thiserror::Error;
 /// The words say these limits.
 const _: () = prove!(LANE_LIMIT == 16 && BATCH_LIMIT == 65_536);
 
-/// Why a run didn't write its lines. Of the first three it is the one that stands first here; they are found whether or not there
+/// Why a run didn't write its lines. Of the first four it is the one that stands first here; they are found whether or not there
 /// is memory.
 #[derive(Clone, Copy, Debug, PartialEq, Eq, Error)]
 pub enum RunFault {
@@ -22,6 +22,9 @@ pub enum RunFault {
     /// The file is no capture.
     #[error("the capture can't be read: {0}")]
     Capture(CaptureFault),
+    /// The caller couldn't list the frames.
+    #[error("the frames can't be listed")]
+    Unlisted,
     /// There is no memory for the run or for its lines.
     #[error("no memory")]
     NoMemory,
@@ -49,15 +52,16 @@ impl RunFault {
             RunFault::Refused => 5,
             RunFault::CountFull => 6,
             RunFault::Write => 7,
+            RunFault::Unlisted => 8,
         }
     }
 
-    /// The status with which the program ends: 2 for a bad trace line or a capture that can't be read, else 1.
+    /// The status with which the program ends: 2 for a bad trace line or for frames that can't be read, else 1.
     pub fn status(self) -> u8
         ensures { result ≡ status_of_fault self }
     {
         match self {
-            RunFault::BadTrace(_) | RunFault::Capture(_) => 2,
+            RunFault::BadTrace(_) | RunFault::Capture(_) | RunFault::Unlisted => 2,
             RunFault::Settings
             | RunFault::NoMemory
             | RunFault::Refused

@@ -61,6 +61,7 @@ fn write_fault<W: Write>(writer: &mut W, fault: RunFault)
         RunFault::Settings => write_words(writer, b"wrong settings\n"),
         RunFault::BadTrace(line) => write_words(writer, &bad_trace_words(line)),
         RunFault::Capture(fault) => write_capture_fault(writer, fault),
+        RunFault::Unlisted => write_words(writer, b"unlisted frames\n"),
         RunFault::NoMemory => write_words(writer, &no_memory_words()),
         RunFault::Refused => write_words(writer, b"refused\n"),
         RunFault::CountFull => write_words(writer, b"counters are full\n"),

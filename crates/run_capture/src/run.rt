@@ -1,20 +1,16 @@
 //! A run: a capture forwarded while a trace is applied, and its lines written.
-ghost use Rattle.std.specs.Prelude.{◌≡◌, ◌<◌, ◌^◌, None, IfOk, IfErr, OnOk, OnErr, length, unwrap_or};
+ghost use Rattle.std.specs.Prelude.{◌≡◌, ◌<◌, ◌^◌, None, IfOk, IfErr, OnOk, OnErr, if◌then◌else◌, is_some, length, unwrap_or};
 ghost use Rattle.std.specs.Io.KnownBytes.{Appends};
-ghost use Rattle.capture.specs.Records.{capture_of};
 ghost use Rattle.text_writing.specs.Written.{AppendsPart};
 ghost use Rattle.mib_state.specs.After.{accepted};
 ghost use Rattle.run_lanes.specs.Frames.{frames_in, IsCutFor};
 ghost use Rattle.run_lanes.specs.Run.{SomeRunPasses};
 ghost use Rattle.run_settings.specs.Settings.{CanRun};
 ghost use Rattle.script_trace.specs.Trace.{requests_of};
+ghost use Rattle.run_capture.specs.Source.{cut_frames_in};
 ghost use Rattle.run_capture.specs.Outcome.{
-  file_fault,
   frames_fault,
   held_fault,
-  input_fault,
-  CountsPass,
-  IsOutput,
   IsOutputOf,
   IsOutputOver,
   IsWhyNone,
@@ -119,43 +115,43 @@ fn output_of_frames<R: Threads + Wait + Sync>(
             let frames = RunFrames::Listed(list);
             output_over(rt, alloc, requests, frames, settings, progress)
         }
+        FrameSource::Unlisted => Err(RunFault::Unlisted),
     }
 }
 
-/// The same, also with settings that no run can have.
+/// Why nothing is written where the requests of a trace find no memory: the frames have a fault, or else that.
+fn without_memory(alloc: Global, frames: FrameSource<'_>) -> RunFault
+    ensures { result ≡ unwrap_or (frames_fault frames.entry) NoMemory }
+{
+    match frames {
+        FrameSource::Whole(file) => match Pcap::open(file) {
+            Ok(_) => RunFault::NoMemory,
+            Err(fault) => RunFault::Capture(fault),
+        },
+        FrameSource::InPieces(pieces) => match pieces.cut(alloc, u32::MAX) {
+            Ok(_) => RunFault::NoMemory,
+            Err(fault) => listing(fault),
+        },
+        FrameSource::Listed(_) => RunFault::NoMemory,
+        FrameSource::Unlisted => RunFault::Unlisted,
+    }
+}
+
+/// What a run of frames writes while a trace is applied, or why it writes nothing.
 fn output_held<R: Threads + Wait + Sync>(
     rt: &R,
     alloc: Global,
-    requests: &[Request],
+    trace: &[u8],
     frames: FrameSource<'_>,
     settings: &RunSettings,
     progress: &Progress,
 ) -> Result<Vec<u8>, RunFault>
-    ensures fits { IfOk result (λ out. held_fault frames.entry settings.now ≡ None) }
+    ensures fits { IfOk result (λ out.
+        held_fault trace.now frames.entry settings.now ≡ None) }
     ensures output { IfOk result (λ out.
-        IsOutputOf (accepted requests.now) frames.entry settings.now out.items) }
-    ensures fault { IfErr result (IsWhyNone (held_fault frames.entry settings.now)
-        (SumsPass (accepted requests.now) frames.entry settings.now)) }
-{
-    if !settings.can_run() {
-        return Err(RunFault::Settings);
-    }
-    output_of_frames(rt, alloc, requests, frames, settings, progress)
-}
-
-/// What a run of a file writes, or why it writes nothing.
-fn output_of_file<R: Threads + Wait + Sync>(
-    rt: &R,
-    alloc: Global,
-    trace: &[u8],
-    file: &[u8],
-    settings: &RunSettings,
-) -> Result<Vec<u8>, RunFault>
-    ensures fits { IfOk result (λ out. input_fault trace.now file.now settings.now ≡ None) }
-    ensures output { IfOk result (λ out.
-        IsOutput (accepted (requests_of trace.now)) file.now settings.now out.items) }
-    ensures fault { IfErr result (IsWhyNone (input_fault trace.now file.now settings.now)
-        (CountsPass (accepted (requests_of trace.now)) file.now settings.now)) }
+        IsOutputOf (accepted (requests_of trace.now)) frames.entry settings.now out.items) }
+    ensures fault { IfErr result (IsWhyNone (held_fault trace.now frames.entry settings.now)
+        (SumsPass (accepted (requests_of trace.now)) frames.entry settings.now)) }
 {
     if !settings.can_run() {
         return Err(RunFault::Settings);
@@ -163,20 +159,9 @@ fn output_of_file<R: Threads + Wait + Sync>(
     let requests = match read_requests(alloc, trace) {
         Ok(requests) => requests,
         Err(ScriptFault::BadLine(line)) => return Err(RunFault::BadTrace(line)),
-        Err(ScriptFault::NoMemory) => return Err(without_memory(file)),
+        Err(ScriptFault::NoMemory) => return Err(without_memory(alloc, frames)),
     };
-    let frames = FrameSource::Whole(file);
-    output_of_frames(rt, alloc, &requests, frames, settings, &Progress::new())
-}
-
-/// Why nothing is written where the requests of the trace find no memory: the capture has a fault, or else that.
-fn without_memory(file: &[u8]) -> RunFault
-    ensures { result ≡ unwrap_or (file_fault None (capture_of file.now)) NoMemory }
-{
-    match Pcap::open(file) {
-        Ok(_) => RunFault::NoMemory,
-        Err(fault) => RunFault::Capture(fault),
-    }
+    output_of_frames(rt, alloc, &requests, frames, settings, progress)
 }
 
 /// Writes the lines whole.
@@ -233,7 +218,8 @@ pub fn run_over<R: Threads + Wait + Sync, W: Write>(
     ensures { Runs trace.now frames.now settings.now result (W.contents writer.old)
         (W.contents writer.new) }
 {
-    let out = match output_of_file(rt, alloc, trace, frames, settings) {
+    let frames = FrameSource::Whole(frames);
+    let out = match output_held(rt, alloc, trace, frames, settings, &Progress::new()) {
         Ok(out) => out,
         Err(fault) => return Err(fault),
     };
@@ -243,16 +229,16 @@ pub fn run_over<R: Threads + Wait + Sync, W: Write>(
 /// What a run of a file's frames writes, or why it writes nothing, while a line on `err` shows how far it is.
 fn whole_shown<R: Threads + Wait + Clock + Alloc<A = Global> + Sync, E: Write + Send>(
     rt: &R,
-    requests: &[Request],
+    trace: &[u8],
     file: &[u8],
     settings: &RunSettings,
     err: &mut E,
 ) -> Result<Vec<u8>, RunFault>
-    ensures fits { IfOk result (λ out. held_fault (Whole file.entry) settings.now ≡ None) }
+    ensures fits { IfOk result (λ out. held_fault trace.now (Whole file.entry) settings.now ≡ None) }
     ensures output { IfOk result (λ out.
-        IsOutputOf (accepted requests.now) (Whole file.entry) settings.now out.items) }
-    ensures fault { IfErr result (IsWhyNone (held_fault (Whole file.entry) settings.now)
-        (SumsPass (accepted requests.now) (Whole file.entry) settings.now)) }
+        IsOutputOf (accepted (requests_of trace.now)) (Whole file.entry) settings.now out.items) }
+    ensures fault { IfErr result (IsWhyNone (held_fault trace.now (Whole file.entry) settings.now)
+        (SumsPass (accepted (requests_of trace.now)) (Whole file.entry) settings.now)) }
 {
     make_shown(
         rt,
@@ -260,15 +246,15 @@ fn whole_shown<R: Threads + Wait + Clock + Alloc<A = Global> + Sync, E: Write + 
         err,
         |progress: &Progress| -> Result<Vec<u8>, RunFault>
             ensures fits { IfOk result (λ out.
-                held_fault (Whole file.entry) settings.entry.now ≡ None) }
-            ensures output { IfOk result (λ out. IsOutputOf (accepted requests.entry.now)
+                held_fault trace.entry.now (Whole file.entry) settings.entry.now ≡ None) }
+            ensures output { IfOk result (λ out. IsOutputOf (accepted (requests_of trace.entry.now))
                 (Whole file.entry) settings.entry.now out.items) }
             ensures fault { IfErr result (IsWhyNone
-                (held_fault (Whole file.entry) settings.entry.now)
-                (SumsPass (accepted requests.entry.now) (Whole file.entry) settings.entry.now)) }
+                (held_fault trace.entry.now (Whole file.entry) settings.entry.now)
+                (SumsPass (accepted (requests_of trace.entry.now)) (Whole file.entry) settings.entry.now)) }
         {
             let frames = FrameSource::Whole(file);
-            output_held(rt, rt.alloc(), requests, frames, settings, progress)
+            output_held(rt, rt.alloc(), trace, frames, settings, progress)
         },
     )
 }
@@ -276,16 +262,16 @@ fn whole_shown<R: Threads + Wait + Clock + Alloc<A = Global> + Sync, E: Write + 
 /// The same of a file that is held in pieces.
 fn pieces_shown<R: Threads + Wait + Clock + Alloc<A = Global> + Sync, E: Write + Send>(
     rt: &R,
-    requests: &[Request],
+    trace: &[u8],
     pieces: &Pieces,
     settings: &RunSettings,
     err: &mut E,
 ) -> Result<Vec<u8>, RunFault>
-    ensures fits { IfOk result (λ out. held_fault (InPieces pieces.entry) settings.now ≡ None) }
+    ensures fits { IfOk result (λ out. held_fault trace.now (InPieces pieces.entry) settings.now ≡ None) }
     ensures output { IfOk result (λ out.
-        IsOutputOf (accepted requests.now) (InPieces pieces.entry) settings.now out.items) }
-    ensures fault { IfErr result (IsWhyNone (held_fault (InPieces pieces.entry) settings.now)
-        (SumsPass (accepted requests.now) (InPieces pieces.entry) settings.now)) }
+        IsOutputOf (accepted (requests_of trace.now)) (InPieces pieces.entry) settings.now out.items) }
+    ensures fault { IfErr result (IsWhyNone (held_fault trace.now (InPieces pieces.entry) settings.now)
+        (SumsPass (accepted (requests_of trace.now)) (InPieces pieces.entry) settings.now)) }
 {
     make_shown(
         rt,
@@ -293,15 +279,15 @@ fn pieces_shown<R: Threads + Wait + Clock + Alloc<A = Global> + Sync, E: Write +
         err,
         |progress: &Progress| -> Result<Vec<u8>, RunFault>
             ensures fits { IfOk result (λ out.
-                held_fault (InPieces pieces.entry) settings.entry.now ≡ None) }
-            ensures output { IfOk result (λ out. IsOutputOf (accepted requests.entry.now)
+                held_fault trace.entry.now (InPieces pieces.entry) settings.entry.now ≡ None) }
+            ensures output { IfOk result (λ out. IsOutputOf (accepted (requests_of trace.entry.now))
                 (InPieces pieces.entry) settings.entry.now out.items) }
             ensures fault { IfErr result (IsWhyNone
-                (held_fault (InPieces pieces.entry) settings.entry.now)
-                (SumsPass (accepted requests.entry.now) (InPieces pieces.entry) settings.entry.now)) }
+                (held_fault trace.entry.now (InPieces pieces.entry) settings.entry.now)
+                (SumsPass (accepted (requests_of trace.entry.now)) (InPieces pieces.entry) settings.entry.now)) }
         {
             let frames = FrameSource::InPieces(pieces);
-            output_held(rt, rt.alloc(), requests, frames, settings, progress)
+            output_held(rt, rt.alloc(), trace, frames, settings, progress)
         },
     )
 }
@@ -309,16 +295,16 @@ fn pieces_shown<R: Threads + Wait + Clock + Alloc<A = Global> + Sync, E: Write +
 /// The same of frames that are listed.
 fn list_shown<R: Threads + Wait + Clock + Alloc<A = Global> + Sync, E: Write + Send>(
     rt: &R,
-    requests: &[Request],
+    trace: &[u8],
     list: &[&[u8]],
     settings: &RunSettings,
     err: &mut E,
 ) -> Result<Vec<u8>, RunFault>
-    ensures fits { IfOk result (λ out. held_fault (Listed list.entry) settings.now ≡ None) }
+    ensures fits { IfOk result (λ out. held_fault trace.now (Listed list.entry) settings.now ≡ None) }
     ensures output { IfOk result (λ out.
-        IsOutputOf (accepted requests.now) (Listed list.entry) settings.now out.items) }
-    ensures fault { IfErr result (IsWhyNone (held_fault (Listed list.entry) settings.now)
-        (SumsPass (accepted requests.now) (Listed list.entry) settings.now)) }
+        IsOutputOf (accepted (requests_of trace.now)) (Listed list.entry) settings.now out.items) }
+    ensures fault { IfErr result (IsWhyNone (held_fault trace.now (Listed list.entry) settings.now)
+        (SumsPass (accepted (requests_of trace.now)) (Listed list.entry) settings.now)) }
 {
     make_shown(
         rt,
@@ -326,15 +312,15 @@ fn list_shown<R: Threads + Wait + Clock + Alloc<A = Global> + Sync, E: Write + S
         err,
         |progress: &Progress| -> Result<Vec<u8>, RunFault>
             ensures fits { IfOk result (λ out.
-                held_fault (Listed list.entry) settings.entry.now ≡ None) }
-            ensures output { IfOk result (λ out. IsOutputOf (accepted requests.entry.now)
+                held_fault trace.entry.now (Listed list.entry) settings.entry.now ≡ None) }
+            ensures output { IfOk result (λ out. IsOutputOf (accepted (requests_of trace.entry.now))
                 (Listed list.entry) settings.entry.now out.items) }
             ensures fault { IfErr result (IsWhyNone
-                (held_fault (Listed list.entry) settings.entry.now)
-                (SumsPass (accepted requests.entry.now) (Listed list.entry) settings.entry.now)) }
+                (held_fault trace.entry.now (Listed list.entry) settings.entry.now)
+                (SumsPass (accepted (requests_of trace.entry.now)) (Listed list.entry) settings.entry.now)) }
         {
             let frames = FrameSource::Listed(list);
-            output_held(rt, rt.alloc(), requests, frames, settings, progress)
+            output_held(rt, rt.alloc(), trace, frames, settings, progress)
         },
     )
 }
@@ -342,50 +328,63 @@ fn list_shown<R: Threads + Wait + Clock + Alloc<A = Global> + Sync, E: Write + S
 /// The same of frames as they are held.
 fn output_shown<R: Threads + Wait + Clock + Alloc<A = Global> + Sync, E: Write + Send>(
     rt: &R,
-    requests: &[Request],
+    trace: &[u8],
     frames: FrameSource<'_>,
     settings: &RunSettings,
     err: &mut E,
 ) -> Result<Vec<u8>, RunFault>
-    ensures fits { IfOk result (λ out. held_fault frames.entry settings.now ≡ None) }
+    ensures fits { IfOk result (λ out. held_fault trace.now frames.entry settings.now ≡ None) }
     ensures output { IfOk result (λ out.
-        IsOutputOf (accepted requests.now) frames.entry settings.now out.items) }
-    ensures fault { IfErr result (IsWhyNone (held_fault frames.entry settings.now)
-        (SumsPass (accepted requests.now) frames.entry settings.now)) }
+        IsOutputOf (accepted (requests_of trace.now)) frames.entry settings.now out.items) }
+    ensures fault { IfErr result (IsWhyNone (held_fault trace.now frames.entry settings.now)
+        (SumsPass (accepted (requests_of trace.now)) frames.entry settings.now)) }
 {
     match frames {
-        FrameSource::Whole(file) => whole_shown(rt, requests, file, settings, err),
-        FrameSource::InPieces(pieces) => pieces_shown(rt, requests, pieces, settings, err),
-        FrameSource::Listed(list) => list_shown(rt, requests, list, settings, err),
+        FrameSource::Whole(file) => whole_shown(rt, trace, file, settings, err),
+        FrameSource::InPieces(pieces) => pieces_shown(rt, trace, pieces, settings, err),
+        FrameSource::Listed(list) => list_shown(rt, trace, list, settings, err),
+        FrameSource::Unlisted => {
+            output_held(rt, rt.alloc(), trace, frames, settings, &Progress::new())
+        }
     }
 }
 
-/// Forwards frames, as they are held, while requests are applied, and writes the lines that [`run_over`] writes. With the requests of
-/// a trace and the file of a capture it does the same as [`run_over`].
+/// Forwards frames, as they are held, while the requests of a trace are applied, and writes the lines that [`run_over`] writes. With the
+/// file of a capture it does the same as [`run_over`].
 ///
-/// The faults come in the order in which [`RunFault`] lists them. [`RunFault::BadTrace`] doesn't come, since the requests were read,
-/// and [`RunFault::Capture`] comes of no list. A list of 2^32 frames or more is [`RunFault::Refused`].
+/// The faults come in the order in which [`RunFault`] lists them, but that the lanes and the lines may each find no memory.
+/// [`RunFault::Capture`] comes of no list, and [`RunFault::Unlisted`] only where the caller has none. A list of 2^32 frames or more is
+/// [`RunFault::Refused`].
 ///
 /// Where `progress` is given, which is to be a terminal, a line on it says meanwhile how many frames were forwarded and how many
 /// messages are published, or with `after` that they are being published and then how many frames were forwarded. It is written anew
-/// about twice a second, and is gone before the lines are written. A write to it that fails is passed over.
+/// about twice a second, and is gone before the lines are written. A write to it that fails is passed over. The answer is then how many
+/// frames were cut when they were taken, or None of a list; without `progress` they aren't counted, and it is None.
 pub fn run_frames<R: Threads + Wait + Clock + Alloc<A = Global> + Sync, W: Write, E: Write + Send>(
     rt: &R,
-    requests: &[Request],
+    trace: &[u8],
     frames: FrameSource<'_>,
     settings: &RunSettings,
     writer: &mut W,
     progress: Option<&mut E>,
-) -> Result<(), RunFault>
-    ensures { RunsFrames requests.now frames.entry settings.now result
+) -> Result<Option<u32>, RunFault>
+    ensures ended { RunsFrames trace.now frames.entry settings.now result
         (W.contents writer.old) (W.contents writer.new) }
+    ensures cut { IfOk result (λ cut.
+        cut ≡ (if is_some progress.entry then cut_frames_in frames.entry else None)) }
 {
+    let is_shown = progress.is_some();
     let made = match progress {
-        Some(err) => output_shown(rt, requests, frames, settings, err),
-        None => output_held(rt, rt.alloc(), requests, frames, settings, &Progress::new()),
+        Some(err) => output_shown(rt, trace, frames, settings, err),
+        None => output_held(rt, rt.alloc(), trace, frames, settings, &Progress::new()),
     };
-    match made {
-        Ok(out) => write_lines(writer, &out),
+    let out = match made {
+        Ok(out) => out,
+        Err(fault) => return Err(fault),
+    };
+    match write_lines(writer, &out) {
+        Ok(()) if is_shown => Ok(frames.cut_frames()),
+        Ok(()) => Ok(None),
         Err(fault) => Err(fault),
     }
 }

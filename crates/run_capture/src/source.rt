@@ -4,7 +4,7 @@ ghost use Rattle.run_capture.specs.Source.{fault_of_list};
 
 use crate::fault::RunFault;
 use capture::ListFault;
-use capture_pieces::Pieces;
+use capture_pieces::{Pieces, cut_frames};
 
 /// The frames of a run, as they are held.
 #[derive(Clone, Copy)]
@@ -15,6 +15,23 @@ pub enum FrameSource<'a> {
     InPieces(&'a Pieces),
     /// Frames that the caller listed, as those of a capture in another format.
     Listed(&'a [&'a [u8]]),
+    /// Frames that the caller couldn't list, as those of a capture in another format that has a fault. The caller knows why.
+    Unlisted,
+}
+
+impl<'a> FrameSource<'a> {
+    ghost use Rattle.run_capture.specs.Source.{cut_frames_in};
+
+    /// How many of the frames were cut when they were taken, up to the first fault of their capture; None where the caller listed them.
+    pub(crate) fn cut_frames(&self) -> Option<u32>
+        ensures { result ≡ cut_frames_in self.now }
+    {
+        match self {
+            FrameSource::Whole(file) => Some(cut_frames(file)),
+            FrameSource::InPieces(pieces) => Some(pieces.cut_frames()),
+            FrameSource::Listed(_) | FrameSource::Unlisted => None,
+        }
+    }
 }
 
 /// Why a run without frames writes nothing.

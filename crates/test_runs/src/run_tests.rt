@@ -2,7 +2,6 @@
 use capture::CaptureFault;
 use capture_pieces::Pieces;
 use run_capture::{FrameSource, RunFault, RunSettings, report_run, run_frames, run_over};
-use script_trace::read_requests;
 use std::alloc::{AllocError, Global};
 use std::process::Abort;
 use std::rt::Clock;
@@ -20,10 +19,10 @@ const HEADER: [u8; 24] = [
     0xd4, 0xc3, 0xb2, 0xa1, 2, 0, 4, 0, 0, 0, 0, 0, 0, 0, 0, 0, 0, 0, 4, 0, 1, 0, 0, 0,
 ];
 
-/// What stands before a frame of 16 bytes, and before one of 14.
+/// What stands before a frame of 16 bytes, and before the first 14 of one of 20.
 const RECORD_16: [u8; 16] = [0, 0, 0, 0, 0, 0, 0, 0, 16, 0, 0, 0, 16, 0, 0, 0];
 
-const RECORD_14: [u8; 16] = [0, 0, 0, 0, 0, 0, 0, 0, 14, 0, 0, 0, 14, 0, 0, 0];
+const RECORD_14: [u8; 16] = [0, 0, 0, 0, 0, 0, 0, 0, 14, 0, 0, 0, 20, 0, 0, 0];
 
 /// The lines of two frames that leave with a tag, and a cut one, once all five requests are accepted.
 const LINES: &str =
@@ -96,34 +95,27 @@ fn in_parts(alloc: Global) -> Result<Pieces, AllocError> {
     Pieces::join(alloc, parts)
 }
 
-/// Runs over frames as they are held, once with nothing shown and once with a line that shows how far it is.
+/// Runs over frames as they are held, once with nothing shown and once with a line that shows how far it is, and then how many were cut.
 fn run_held<R: Threads + Wait + Clock + Alloc<A = Global> + Abort + Sync>(
     rt: &R,
     trace: &[u8],
     frames: FrameSource<'_>,
+    cut: Option<u32>,
 ) {
-    let requests = read_requests(rt.alloc(), trace).expect(rt, "the requests of a trace");
     let settings = applied_first(3, 2);
     let mut written = Vec::new(rt.alloc());
     let alone = run_frames(
         rt,
-        &requests,
+        trace,
         frames,
         &settings,
         &mut written,
         None::<&mut Vec<u8>>,
     );
     let mut err = Vec::new(rt.alloc());
-    let shown = run_frames(
-        rt,
-        &requests,
-        frames,
-        &settings,
-        &mut written,
-        Some(&mut err),
-    );
+    let shown = run_frames(rt, trace, frames, &settings, &mut written, Some(&mut err));
     let wanted = format!(in rt.alloc(); "{LINES}{LINES}").expect(rt, "the lines twice");
-    same!(rt; (alone, shown, written.as_slice()), (Ok(()), Ok(()), wanted.as_bytes()));
+    same!(rt; (alone, shown, written.as_slice()), (Ok(None), Ok(cut), wanted.as_bytes()));
 }
 
 #[test]
@@ -131,9 +123,9 @@ fn frames_have_the_same_lines_however_they_are_held(rt: HostRuntime) -> Result<(
     let trace = tagging(rt.alloc())?;
     let (file, pieces) = (file(rt.alloc())?, in_parts(rt.alloc())?);
     let text = trace.as_bytes();
-    run_held(&rt, text, FrameSource::Whole(&file));
-    run_held(&rt, text, FrameSource::InPieces(&pieces));
-    run_held(&rt, text, FrameSource::Listed(&FRAMES));
+    run_held(&rt, text, FrameSource::Whole(&file), Some(1));
+    run_held(&rt, text, FrameSource::InPieces(&pieces), Some(1));
+    run_held(&rt, text, FrameSource::Listed(&FRAMES), None);
     Ok(())
 }
 
@@ -185,6 +177,7 @@ fn the_first_fault_is_told_and_nothing_written(rt: HostRuntime) {
 fn refuse_held<R: Threads + Wait + Clock + Alloc<A = Global> + Abort + Sync>(
     rt: &R,
     lanes: u16,
+    trace: &[u8],
     frames: FrameSource<'_>,
     fault: RunFault,
 ) {
@@ -192,7 +185,7 @@ fn refuse_held<R: Threads + Wait + Clock + Alloc<A = Global> + Abort + Sync>(
     let mut written = Vec::new(rt.alloc());
     let done = run_frames(
         rt,
-        &[],
+        trace,
         frames,
         &settings,
         &mut written,
@@ -203,14 +196,28 @@ fn refuse_held<R: Threads + Wait + Clock + Alloc<A = Global> + Abort + Sync>(
 
 #[test]
 fn the_first_fault_of_held_frames_is_told(rt: HostRuntime) {
-    refuse_held(&rt, 17, FrameSource::Listed(&FRAMES), RunFault::Settings);
-    refuse_held(&rt, 17, FrameSource::Whole(&[]), RunFault::Settings);
     let magic = RunFault::Capture(CaptureFault::Magic);
-    refuse_held(&rt, 1, FrameSource::Whole(&[]), magic);
+    let bad = b"x\n";
+    let first_line = RunFault::BadTrace(1);
+    for (lanes, trace, frames, fault) in [
+        (
+            17,
+            &bad[..],
+            FrameSource::Listed(&FRAMES),
+            RunFault::Settings,
+        ),
+        (17, &bad[..], FrameSource::Unlisted, RunFault::Settings),
+        (1, &bad[..], FrameSource::Whole(&[]), first_line),
+        (1, &bad[..], FrameSource::Unlisted, first_line),
+        (1, &[], FrameSource::Whole(&[]), magic),
+        (1, &[], FrameSource::Unlisted, RunFault::Unlisted),
+    ] {
+        refuse_held(&rt, lanes, trace, frames, fault);
+    }
 }
 
 /// Faults, with what is said of each, its number and its status.
-const FAULTS: [(RunFault, &str, u8, u8); 11] = [
+const FAULTS: [(RunFault, &str, u8, u8); 12] = [
     (RunFault::Settings, "wrong settings\n", 1, 1),
     (RunFault::BadTrace(5), "trace line 5 is bad\n", 2, 2),
     (
@@ -243,6 +250,7 @@ const FAULTS: [(RunFault, &str, u8, u8); 11] = [
         3,
         2,
     ),
+    (RunFault::Unlisted, "unlisted frames\n", 8, 2),
     (RunFault::NoMemory, "no memory\n", 4, 1),
     (RunFault::Refused, "refused\n", 5, 1),
     (RunFault::CountFull, "counters are full\n", 6, 1),
