@@ -21,6 +21,7 @@ STATUSES = "statuses"
 FILES = (
     ("README.md", "What the program is for, with examples."),
     ("docs/FORMATS.md", "Scripts, traces, histories, captures and all that is written."),
+    ("docs/WORDS.md", "Scripts in words."),
     ("docs/RULES.md", "What a message is answered, and what becomes of a frame."),
     ("examples", "A folder a task: command, input and output."),
 )

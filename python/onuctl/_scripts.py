@@ -51,7 +51,7 @@ def _made(call: Callable[..., int], size: int, what: str) -> str:
 
 
 def encode(words: Union[Bytes, str], *, identifier: int = 1) -> str:
-    """The script of a text in words (docs/FORMATS.md, "Scripts in words"), as ``onuctl encode`` gives it. Each line of the text is one of the
+    """The script of a text in words (docs/WORDS.md), as ``onuctl encode`` gives it. Each line of the text is one of the
     script. The transaction correlation identifiers of its messages count from ``identifier``. Raises :class:`Mistakes`."""
     text = text_of("words", words)
     try:

@@ -1,4 +1,4 @@
-"""Lines in words and what they are in a script, and mistakes, by hand (docs/FORMATS.md, "Scripts in words"; docs/RULES.md)."""
+"""Lines in words and what they are in a script, and mistakes, by hand (docs/WORDS.md; docs/RULES.md)."""
 
 # Lines in words, and the digits with which the message begins that each asks for: zeros and the trailer come behind.
 MESSAGES = [
