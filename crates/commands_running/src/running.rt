@@ -89,7 +89,7 @@ fn run_over_capture<
         packets,
     ) {
         (Ok(counted), Some(Ok(packets))) if is_shown => {
-            report_cut(counted.unwrap_or(packets.cut), err);
+            report_cut(counted.unwrap_or(u64::from(packets.cut)), err);
             Status::Done
         }
         (Ok(counted), _) => {

@@ -367,7 +367,7 @@ pub fn run_frames<R: Threads + Wait + Clock + Alloc<A = Global> + Sync, W: Write
     settings: &RunSettings,
     writer: &mut W,
     progress: Option<&mut E>,
-) -> Result<Option<u32>, RunFault>
+) -> Result<Option<u64>, RunFault>
     ensures ended { RunsFrames trace.now frames.entry settings.now result
         (W.contents writer.old) (W.contents writer.new) }
     ensures cut { IfOk result (λ cut.

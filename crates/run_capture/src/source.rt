@@ -23,7 +23,7 @@ impl<'a> FrameSource<'a> {
     ghost use Rattle.run_capture.specs.Source.{cut_frames_in};
 
     /// How many of the frames were cut when they were taken, up to the first fault of their capture; None where the caller listed them.
-    pub(crate) fn cut_frames(&self) -> Option<u32>
+    pub(crate) fn cut_frames(&self) -> Option<u64>
         ensures { result ≡ cut_frames_in self.now }
     {
         match self {

@@ -100,7 +100,7 @@ fn run_held<R: Threads + Wait + Clock + Alloc<A = Global> + Abort + Sync>(
     rt: &R,
     trace: &[u8],
     frames: FrameSource<'_>,
-    cut: Option<u32>,
+    cut: Option<u64>,
 ) {
     let settings = applied_first(3, 2);
     let mut written = Vec::new(rt.alloc());
