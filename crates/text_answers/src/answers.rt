@@ -50,7 +50,7 @@ fn write_answer<W: Write>(
     };
     let mut object = Writer::new(Vec::new(alloc));
     object.begin_object()?;
-    put_number(&mut object, "format", 1)?;
+    put_number(&mut object, "format", 2)?;
     put_number(&mut object, "line", number)?;
     put_line_json(alloc, &mut object, &answer)?;
     if let Line::Frame(port, bytes) = line {

@@ -10,7 +10,7 @@ use json::Writer;
 use managed_entity::Class;
 use std::alloc::{AllocError, Global};
 use std::io::Write;
-use text_entities::{FORMAT, JsonText, put_added_tag, put_number, put_rule, put_text, put_words};
+use text_entities::{JsonText, put_added_tag, put_number, put_rule, put_text, put_words};
 use text_messages::{put_tag_json, put_view_json};
 use text_writing::{TextFault, write_whole};
 
@@ -43,7 +43,7 @@ pub fn write_explanation_json<W: Write>(
     };
     let mut text = JsonText::new(alloc);
     let port = incoming.port;
-    let front = format!(in alloc; "{FORMAT}\"port\":{port},\"failures\":")?;
+    let front = format!(in alloc; "{{\"format\":2,\"port\":{port},\"failures\":")?;
     write_whole(writer, front.as_bytes())?;
     write_failures(alloc, &steps, writer)?;
     text.begin(writer, ",\"steps\":")?;
