@@ -3,7 +3,7 @@ use bench_capture::{CaptureFileFault, NextFrameFault};
 use bench_pcapng::is_pcapng;
 use command_words::{RunWords, TraceWords};
 use commands_files::{
-    Capture, Naming, Packets, explain_fault, lines_until, packets_of, read_capture, read_trace,
+    Capture, Naming, explain_fault, lines_until, packets_of, read_capture, read_trace,
     refuse_twice, report_bad_line, report_capture, report_cut, report_text, report_unread,
     report_until,
 };
@@ -18,23 +18,14 @@ use text_encode::without_mark;
 use text_runs::write_run_json;
 use text_writing::Status;
 
-/// Says why frames aren't run over, with what is wrong with the trace or with the capture, and gives the status. Of a capture whose
-/// packets can't be listed this is why.
-fn report_fault<E: Write>(
-    fault: RunFault,
-    why_unlisted: Option<NextFrameFault>,
-    words: &RunWords,
-    trace: &[u8],
-    err: &mut E,
-) -> Status {
-    match (fault, why_unlisted) {
-        (RunFault::Unlisted, Some(NextFrameFault::Capture(fault))) => {
-            return report_capture(fault, words.frames, Naming::Behind, err);
-        }
-        (RunFault::Unlisted, _) => return report_fault_words(RunFault::NoMemory, err),
-        _ => {}
-    }
-    let status = report_fault_words(fault, err);
+/// Writes the words for a fault, and gives the status.
+fn report_words<E: Write>(fault: RunFault, err: &mut E) -> Status {
+    Status::of(report_run(&Err(fault), err))
+}
+
+/// Says why frames aren't run over, with what is wrong with the trace or with the capture, and gives the status.
+fn report_fault<E: Write>(fault: RunFault, words: &RunWords, trace: &[u8], err: &mut E) -> Status {
+    let status = report_words(fault, err);
     match fault {
         RunFault::BadTrace(line) => report_bad_line(trace, line, err),
         RunFault::Capture(fault) => {
@@ -45,60 +36,94 @@ fn report_fault<E: Write>(
     status
 }
 
-/// Writes the words for a fault, and gives the status.
-fn report_fault_words<E: Write>(fault: RunFault, err: &mut E) -> Status {
-    Status::of(report_run(&Err(fault), err))
-}
-
-/// The packets of a capture, or why they can't be listed; None where it is read as it is held.
-fn list_packets<'a>(
-    alloc: Global,
-    capture: &'a Capture,
-) -> Option<Result<Packets<'a>, NextFrameFault>> {
-    match capture {
-        Capture::Whole(file) if is_pcapng(file) => Some(packets_of(alloc, file)),
-        _ => None,
+/// Says why the packets of a capture aren't run over, and gives the status.
+fn report_packets<E: Write>(fault: NextFrameFault, path: &str, err: &mut E) -> Status {
+    match fault {
+        NextFrameFault::Capture(fault) => report_capture(fault, path, Naming::Behind, err),
+        NextFrameFault::NoMemory => report_words(RunFault::NoMemory, err),
     }
 }
 
-/// The frames of a run.
-fn source_of<'a>(
-    capture: &'a Capture,
-    packets: &'a Option<Result<Packets<'a>, NextFrameFault>>,
-) -> FrameSource<'a> {
-    match (packets, capture) {
-        (Some(Ok(packets)), _) => FrameSource::Listed(&packets.frames),
-        (Some(Err(_)), _) => FrameSource::Unlisted,
-        (None, Capture::InPieces(pieces)) => FrameSource::InPieces(pieces),
-        (None, Capture::Whole(file)) => FrameSource::Whole(file),
+/// Forwards frames as they are held, and shows how far it is where `err` is a terminal, and then how many were cut: as the run counts them,
+/// or of a list as many as these.
+fn run_held<
+    R: Files + Alloc<A = Global> + Threads + Wait + Clock + Sync,
+    O: Write,
+    E: Write + IsTerminal + Send,
+>(
+    rt: &R,
+    words: &RunWords,
+    trace: &[u8],
+    frames: FrameSource<'_>,
+    listed: u32,
+    out: &mut O,
+    err: &mut E,
+) -> Result<(), RunFault> {
+    let is_shown = err.is_terminal();
+    let progress = if is_shown { Some(&mut *err) } else { None };
+    let counted = match run_frames(rt, trace, frames, &words.settings, out, progress) {
+        Ok(counted) => counted,
+        Err(fault) => return Err(fault),
+    };
+    if is_shown {
+        report_cut(counted.unwrap_or(u64::from(listed)), err);
+    }
+    Ok(())
+}
+
+/// The status of a run. Why nothing comes of it is written to `err`.
+fn status_of<E: Write>(
+    ended: Result<(), RunFault>,
+    words: &RunWords,
+    trace: &[u8],
+    err: &mut E,
+) -> Status {
+    match ended {
+        Ok(()) => Status::Done,
+        Err(fault) => report_fault(fault, words, trace, err),
     }
 }
 
-/// Forwards the frames of a capture while a trace is applied, and says how many of them were cut, if `err` is a terminal.
+/// Forwards the packets of a capture in the pcapng format. One that can't be listed is told where nothing else is wrong.
+fn run_over_packets<
+    R: Files + Alloc<A = Global> + Threads + Wait + Clock + Sync,
+    O: Write,
+    E: Write + IsTerminal + Send,
+>(rt: &R, words: &RunWords, trace: &[u8], file: &[u8], out: &mut O, err: &mut E) -> Status {
+    let why = match packets_of(rt.alloc(), file) {
+        Ok(packets) => {
+            let frames = FrameSource::Listed(&packets.frames);
+            let ended = run_held(rt, words, trace, frames, packets.cut, out, err);
+            return status_of(ended, words, trace, err);
+        }
+        Err(why) => why,
+    };
+    match run_held(rt, words, trace, FrameSource::Unlisted, 0, out, err) {
+        Err(RunFault::Unlisted) => report_packets(why, words.frames, err),
+        ended => status_of(ended, words, trace, err),
+    }
+}
+
+/// Forwards the frames of a capture while a trace is applied.
 fn run_over_capture<
     R: Files + Alloc<A = Global> + Threads + Wait + Clock + Sync,
     O: Write,
     E: Write + IsTerminal + Send,
 >(rt: &R, words: &RunWords, trace: &[u8], capture: &Capture, out: &mut O, err: &mut E) -> Status {
-    let packets = list_packets(rt.alloc(), capture);
-    let frames = source_of(capture, &packets);
-    let is_shown = err.is_terminal();
-    let progress = if is_shown { Some(&mut *err) } else { None };
-    match (
-        run_frames(rt, trace, frames, &words.settings, out, progress),
-        packets,
-    ) {
-        (Ok(counted), Some(Ok(packets))) if is_shown => {
-            report_cut(counted.unwrap_or(u64::from(packets.cut)), err);
-            Status::Done
+    let ended = match capture {
+        Capture::Whole(file) if is_pcapng(file) => {
+            return run_over_packets(rt, words, trace, file, out, err);
         }
-        (Ok(counted), _) => {
-            report_cut(counted.unwrap_or(0), err);
-            Status::Done
+        Capture::Whole(file) => {
+            let frames = FrameSource::Whole(file);
+            run_held(rt, words, trace, frames, 0, out, err)
         }
-        (Err(fault), Some(Err(why))) => report_fault(fault, Some(why), words, trace, err),
-        (Err(fault), _) => report_fault(fault, None, words, trace, err),
-    }
+        Capture::InPieces(pieces) => {
+            let frames = FrameSource::InPieces(pieces);
+            run_held(rt, words, trace, frames, 0, out, err)
+        }
+    };
+    status_of(ended, words, trace, err)
 }
 
 /// The lines of a trace that are asked for. Where it has fewer, `err` says so.
