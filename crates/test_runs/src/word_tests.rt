@@ -62,9 +62,7 @@ fn words_ask_for_a_replay_or_a_run(rt: HostRuntime) -> Result<(), Fail> {
             true,
         ),
         (
-            &[
-                "onuctl", "run", "--trace", "t", "--frames", "f", "--port", "257",
-            ][..],
+            &["onuctl", "run", "t", "--frames", "f", "--port", "257"][..],
             257,
             4,
             1024,
