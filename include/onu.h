@@ -8,8 +8,8 @@
  *
  * @par Answers
  * Every call but onu_version() answers by a number: 0 or more where it did what was asked, and less where it didn't. -1 to -4 are the
- * faults of a message; the others are named here. A call that answers one of these leaves the unit as it was. onu_judge(), onu_encode()
- * and onu_decode() tell a bad input by 0 or 1, with words on it in the room.
+ * faults of a message; the others are named here. A call that answers one of these leaves the unit as it was. onu_judge() tells what it
+ * found by 0, 1 or 2, and onu_encode() and onu_decode() a bad input by 0 or 1, with words on it in the room.
  *
  * @par What is proved
  * What each call leaves in a cell; the replies of onu_message() and the verdicts of onu_forward(); the answers of onu_replay(), with
@@ -58,6 +58,12 @@ extern "C" {
 #define ONU_MODELLED 1u
 /** A flag of onu_judge(): each frame is judged by itself, since several lanes serve a port. */
 #define ONU_UNORDERED 2u
+/** A flag of onu_judge(): a frame that was never sent, or has left before, may leave. */
+#define ONU_ALLOW_STRAYS 4u
+/** A flag of onu_judge(): a frame that leaves with fewer than 68 bytes may be seen with zeros behind them, up to 68. */
+#define ONU_PADDED 8u
+/** A flag of onu_judge(): a history without an end line may be explained. */
+#define ONU_ALLOW_UNFINISHED 16u
 
 /**
  * @brief A cell in which a unit stands, or none.
@@ -168,14 +174,15 @@ int32_t onu_replay(const uint8_t *script, size_t n, uint8_t *room, size_t size, 
  *
  * @param[in]  history  the history. It may be null where `n` is 0.
  * @param[in]  n        how many bytes it has.
- * @param[in]  flags    #ONU_MODELLED and #ONU_UNORDERED, or 0.
+ * @param[in]  flags    any of #ONU_MODELLED, #ONU_UNORDERED, #ONU_ALLOW_STRAYS, #ONU_PADDED and #ONU_ALLOW_UNFINISHED, or 0.
  * @param[out] room     room for the text: JSON in UTF-8, no zero byte at its end. It may be null where `size` is 0.
  * @param[in]  size     how many bytes the room has.
  * @param[out] written  how many bytes the text has, also with #ONU_SMALL; 0 where there is none.
  * @param[out] line     the number, from 1, of the first line that no right unit explains, also with #ONU_SMALL, or of the first bad
  *                      line; else 0.
- * @return 1, explained; 0, not; #ONU_BAD_LINE, #ONU_SMALL, #ONU_NO_MEMORY; or #ONU_FLAGS or #ONU_NULL, and neither `*written` nor
- *         `*line` is written.
+ * @return 1, explained, up to an end line or with #ONU_ALLOW_UNFINISHED, and something was judged; 2, explained so far, but without an end
+ *         line where one is asked for, or nothing was judged: no pass; 0, not explained; #ONU_BAD_LINE, #ONU_SMALL, #ONU_NO_MEMORY; or
+ *         #ONU_FLAGS or #ONU_NULL, and neither `*written` nor `*line` is written.
  */
 int32_t onu_judge(const uint8_t *history, size_t n, uint32_t flags, uint8_t *room, size_t size, size_t *written, uint64_t *line);
 

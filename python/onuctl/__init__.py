@@ -1,7 +1,7 @@
 """An optical network unit in your process, and a judge of other units.
 
 A :class:`Unit` answers OMCI messages and forwards Ethernet frames upstream as ITU-T G.988 says. :func:`judge` says whether a right unit
-may have behaved as a history says. :func:`encode` makes a script of words, :func:`decode` says what one means, and :func:`mib`,
+may have behaved as a history says, and whether anything in it was judged. :func:`encode` makes a script of words, :func:`decode` says what one means, and :func:`mib`,
 :func:`lint` and :func:`rules` show what its messages leave.
 
 Proved are the library's replies, what becomes of a frame, the answers of :func:`replay`, of a judgement whether it is explained and

@@ -21,7 +21,8 @@ class BadLine(Exception):
 
 
 class Finding(NamedTuple):
-    """What a history shows: whether a right unit may have behaved so; if not, the first line that no right unit explains; and all of it, as
+    """What a history shows: whether a right unit may have behaved so, which is said of a history with an end line, of which something was
+    judged; if not, the first line that no right unit explains, or None where each line is explained; and all of it, as
     ``onuctl judge --json`` writes it (docs/FORMATS.md)."""
 
     explained: bool
@@ -31,6 +32,9 @@ class Finding(NamedTuple):
     def __str__(self) -> str:
         if self.explained:
             return "explained"
+        if self.line is None:
+            wanting = (("finished", "no end line"), ("evidence", "nothing was judged"))
+            return "explained so far: " + ", ".join(words for key, words in wanting if not self.details[key])
         return "deviation at line %s: %s" % (self.line, json.dumps(self.details))
 
 
@@ -46,19 +50,30 @@ def replay(script: Union[Bytes, str]) -> bytes:
     return answers
 
 
-def judge(history: Union[Bytes, str], *, modelled: bool = False, unordered: bool = False) -> Finding:
+def judge(
+    history: Union[Bytes, str],
+    *,
+    modelled: bool = False,
+    unordered: bool = False,
+    allow_strays: bool = False,
+    padded: bool = False,
+    allow_unfinished: bool = False,
+) -> Finding:
     """Judges a history (docs/FORMATS.md, "Histories"): whether a right unit may have behaved so.
 
     ``modelled`` compares the contents of replies only where their requests are on classes that the model has; ``unordered`` judges each
-    frame by itself. Raises :class:`BadLine`.
+    frame by itself; ``allow_strays`` lets frames leave that were never sent, or have left before; ``padded`` lets a frame of fewer than 68
+    bytes be seen with zeros behind it, up to 68; and ``allow_unfinished`` lets a history without an end line be explained. Raises
+    :class:`BadLine`.
     """
     given = text_of("history", history)
-    flags = (1 if modelled else 0) | (2 if unordered else 0)
+    settings = (modelled, unordered, allow_strays, padded, allow_unfinished)
+    flags = sum(1 << bit for bit, is_set in enumerate(settings) if is_set)
     line = Line()
     number, text = in_room(lambda *room: _library.judge(given, len(given), flags, *room, line), 4096)
     if number == NO_MEMORY:
         raise MemoryError("no memory for a judgement")
     if number == BAD_LINE:
         raise BadLine(line.value)
-    explained = number == 1
-    return Finding(explained, None if explained else line.value, json.loads(text))
+    # With 1 and 2 no line deviates.
+    return Finding(number == 1, line.value if number == 0 else None, json.loads(text))

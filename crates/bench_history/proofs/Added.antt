@@ -3,10 +3,11 @@ use Rattle.std.proofs.Common.{◌≡◌, ℕ, zero, suc, ◌+◌, Bool, true, fa
 use Rattle.std.proofs.lemmas.List.Folds.{list_any-append}
 use Rattle.std.proofs.lemmas.List.Sums.{sum_by-append}
 use Rattle.std.specs.List.{count_by}
-use Rattle.bench_history.specs.History.{frames_in, has_ended, is_end_of, is_frame, is_reply, replies_in}
+use Rattle.bench_history.specs.History.{frames_in, has_ended, is_end_of, is_ended, is_frame, is_reply, is_the_end, replies_in}
 use Rattle.bench_history.specs.Seen.{IsSeen}
 use Rattle.bench_history.specs.declared.event.Event.{Event}
 use Rattle.bench_history.specs.declared.event.Event.TheVariants.{Entered}
+use Rattle.bench_history.specs.declared.extent.Extent.{Extent}
 use Rattle.bench_history.specs.declared.seen.Seen.{Seen}
 
 -- one more element is counted where it passes
@@ -27,6 +28,10 @@ ended_with : (n : ℕ) (events : List Event) (event : Event) → has_ended n (ev
 ended_with n events event =
     list_any-append (is_end_of n) events (event ∷ []) ∙ ap (λ (b : Bool). has_ended n events || b) (or_false (is_end_of n event))
 
+over_with : (events : List Event) (event : Event) → is_ended (events ++ event ∷ []) ≡ (is_ended events || is_the_end event)
+over_with events event =
+    list_any-append is_the_end events (event ∷ []) ∙ ap (λ (b : Bool). is_ended events || b) (or_false (is_the_end event))
+
 -- a frame that is sent hasn't ended
 flag_more : (flags : List Bool) (n : ℕ) → get_or (flags ++ false ∷ []) n false ≡ get_or flags n false
 flag_more [] zero = refl
@@ -35,13 +40,16 @@ flag_more (flag ∷ flags) zero = refl
 flag_more (flag ∷ flags) (suc n) = flag_more flags n
 
 -- a frame more
-pub entered : (events : List Event) (port : ℕ) (frame : List ℕ) (old new : Seen)
-    → new.ended.items ≡ old.ended.items ++ false ∷ [] → new.replies ≡ old.replies
-    → IsSeen events old → IsSeen (events ++ Entered port frame ∷ []) new
-entered events port frame old new flags same is = record {
-  frames = ap (λ (xs : List Bool). length xs) flags ∙ omega (arith, length-append old.ended.items (false ∷ []), is.frames, frames_with events (Entered port frame));
-  ended = λ n.
-      ap (λ (xs : List Bool). get_or xs n false) flags ∙ flag_more old.ended.items n ∙ is.ended n
-      ∙ sym (or_false (has_ended n events)) ∙ sym (ended_with n events (Entered port frame));
-  replies = omega (arith, same, is.replies, replies_with events (Entered port frame));
-}
+pub entered : (events : List Event) (port : ℕ) (extent : Extent) (frame : List ℕ) (old new : Seen)
+    → new.ended.items ≡ old.ended.items ++ false ∷ [] → new.replies ≡ old.replies → new.is_over ≡ old.is_over
+    → IsSeen events old → IsSeen (events ++ Entered port extent frame ∷ []) new
+entered events port extent frame old new flags same over is =
+    let event = Entered port extent frame in
+    record {
+      frames = ap (λ (xs : List Bool). length xs) flags ∙ omega (arith, length-append old.ended.items (false ∷ []), is.frames, frames_with events event);
+      ended = λ n.
+          ap (λ (xs : List Bool). get_or xs n false) flags ∙ flag_more old.ended.items n ∙ is.ended n
+          ∙ sym (or_false (has_ended n events)) ∙ sym (ended_with n events event);
+      replies = omega (arith, same, is.replies, replies_with events event);
+      over = over ∙ is.over ∙ sym (or_false (is_ended events)) ∙ sym (over_with events event);
+    }

@@ -5,13 +5,13 @@ use Rattle.std.specs.Option.{option_and_then}
 use Rattle.script_lines.specs.Text.{lines_of}
 use Rattle.bench_history.specs.Line.{event_of}
 use Rattle.bench_history.specs.declared.event.Event.{Event}
-use Rattle.bench_history.specs.declared.event.Event.TheVariants.{Replied, Entered, Left, Dropped, Waited}
+use Rattle.bench_history.specs.declared.event.Event.TheVariants.{Replied, Entered, Left, Dropped, Lost, Waited, Ended, Nothing}
 use Rattle.bench_history.specs.declared.fault.HistoryFault.{HistoryFault}
 use Rattle.bench_history.specs.declared.fault.HistoryFault.TheVariants.{BadLine, NoMemory}
 
 -- whether an event sends a frame
 abbrev pub is_frame : Event → Bool
-is_frame (Entered port frame) = true
+is_frame (Entered port extent frame) = true
 is_frame _ = false
 
 -- whether it is a reply
@@ -19,11 +19,17 @@ abbrev pub is_reply : Event → Bool
 is_reply (Replied reply) = true
 is_reply _ = false
 
--- whether it ends the frame of a number: the frame left or was dropped
+-- whether it ends the frame of a number: the frame left, was dropped or was lost
 abbrev pub is_end_of : ℕ → Event → Bool
-is_end_of n (Left gem number frame) = number == n
+is_end_of n (Left gem extent number frame) = number == n
 is_end_of n (Dropped number) = number == n
+is_end_of n (Lost number) = number == n
 is_end_of n _ = false
+
+-- whether it ends the observation
+abbrev pub is_the_end : Event → Bool
+is_the_end Ended = true
+is_the_end _ = false
 
 -- how many frames were sent; their numbers are those below
 abbrev pub frames_in : List Event → ℕ
@@ -41,12 +47,22 @@ has_ended n events = list_any (is_end_of n) events
 abbrev pub is_open : ℕ → List Event → Bool
 is_open n events = nat_lt n (frames_in events) && not (has_ended n events)
 
--- whether an event may stand behind others: only an open frame ends, and no more replies are waited for than were seen
+-- whether the observation has ended
+abbrev pub is_ended : List Event → Bool
+is_ended events = list_any is_the_end events
+
+-- whether an event fits others, while the observation goes on: only an open frame ends, and no more replies are waited for than were seen
+abbrev pub fits : List Event → Event → Bool
+fits before (Left gem extent number frame) = is_open number before
+fits before (Dropped number) = is_open number before
+fits before (Lost number) = is_open number before
+fits before (Waited (Some replies)) = nat_le replies (replies_in before)
+fits before _ = true
+
+-- whether an event may stand behind others: once the observation has ended, only what says nothing may
 abbrev pub may_follow : List Event → Event → Bool
-may_follow before (Left gem number frame) = is_open number before
-may_follow before (Dropped number) = is_open number before
-may_follow before (Waited (Some replies)) = nat_le replies (replies_in before)
-may_follow before _ = true
+may_follow before Nothing = true
+may_follow before event = not (is_ended before) && fits before event
 
 -- the event of a line behind others, None where it is bad or may not stand there
 abbrev pub next_of : List Event → List ℕ → Option Event

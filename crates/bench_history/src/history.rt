@@ -9,13 +9,24 @@ use std::alloc::Global;
 
 /// The events of a history, one for each line, in order: that of line L, which are numbered from 1, is at L - 1.
 ///
-/// Lines end as those of a script do: in LF, with one CR before it dropped; the last line needs none. A line of `o HEX` is a message
-/// that was sent, `r HEX` a reply, `f PORT HEX` a frame that was sent into a port, `g N GEM HEX` frame N as it left by a GEM port, `d N`
-/// the end of frame N by a drop, and `w` or `w N` a wait for the replies seen so far or for the first N of them. HEX is an even number of
-/// hexadecimal digits of either case, or none; PORT and GEM are one to five decimal digits, at most 65535; N is one to ten, at most
-/// 4,294,967,295. One space separates, and nothing follows. An empty line and one that begins with `#` say nothing. Every other line is
-/// bad, and so is one of over 20,000 bytes, the CR among them; an end of a frame that no line above sent or that has ended; a wait
-/// for more replies than stand above.
+/// Lines end as those of a script do: in LF, with one CR before it dropped; the last line needs none. A line is one of these:
+///
+/// - `o HEX`: a message was sent to the unit;
+/// - `r HEX`: a reply was seen;
+/// - `f PORT SEEN`: a frame was sent into a port;
+/// - `g N GEM SEEN`: frame N left by a GEM port;
+/// - `s GEM SEEN`: a frame left that no open frame can be;
+/// - `d N`: frame N is known to have been dropped;
+/// - `l N`: frame N was not seen to leave while it was waited for;
+/// - `w` or `w N`: the replies seen so far, or the first N of them, are waited for;
+/// - `e`: the observation ended;
+/// - an empty line, or one that begins with `#`: nothing.
+///
+/// HEX is an even number of hexadecimal digits of either case, or none. SEEN is HEX, or of a frame that had more bytes HEX with `..`
+/// right behind it. PORT is one to five decimal digits, at most 65535; GEM is such a number, or `any` where the GEM port wasn't seen; N
+/// is one to ten digits, at most 4,294,967,295. One space separates, and nothing follows. Every other line is bad, and so is one of over
+/// 20,000 bytes, the CR among them; an end of a frame (`g`, `d`, `l`) that no line above sent or that has ended; a wait for more replies
+/// than stand above; and behind an `e` each line that says something, a second `e` among them.
 ///
 /// It takes time in proportion to the text, and memory in proportion to the number of its lines.
 pub fn read_history<'a>(alloc: Global, text: &'a [u8]) -> Result<Vec<Event<'a>>, HistoryFault>

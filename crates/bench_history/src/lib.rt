@@ -2,8 +2,9 @@
 //! [`read_history`] reads it once, from front to back.
 //!
 //! A line is good or bad in two steps. `specs/Line.antt` defines what it says by itself, and `specs/History.antt` behind which lines
-//! it may stand: a frame ends once, behind the line that sent it, and replies are waited for once they were seen. For the second step
-//! the reader keeps a flag for each frame, by its number, and a count of replies, so it never looks back.
+//! it may stand: a frame ends once, behind the line that sent it, replies are waited for once they were seen, and behind the end of the
+//! observation nothing is seen. For the second step the reader keeps a flag for each frame, by its number, a count of replies, and
+//! whether the observation ended, so it never looks back.
 //!
 //! A text that several threads read part by part is one of [`Pieces`]: each line lies whole in one of them, and the events are the same.
 //!
@@ -13,7 +14,9 @@
 
 mod digits;
 mod event;
+mod extent;
 mod fault;
+mod gem;
 mod history;
 mod joining;
 mod line;
@@ -25,6 +28,8 @@ mod seen;
 
 pub use digits::Digits;
 pub use event::Event;
+pub use extent::Extent;
 pub use fault::HistoryFault;
+pub use gem::SeenGem;
 pub use history::read_history;
 pub use pieces::Pieces;

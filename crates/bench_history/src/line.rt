@@ -1,10 +1,12 @@
 //! What one line of a history says.
 ghost use Rattle.std.specs.Prelude.{◌≡◌, ◌≤◌, ◌==◌, IfSome, length, option_map, position};
 ghost use Rattle.script_lines.specs.Line.{line_limit, port_of, without_cr};
-ghost use Rattle.bench_history.specs.Line.{content_told, entered_by, event_of, frame_told, left_by, number_of, numbered, told, waited_by};
+ghost use Rattle.bench_history.specs.Line.{content_told, end_told, entered_by, event_of, frame_told, gem_of, left_by, number_of, numbered, seen_bytes, strayed_by, told, waited_by};
 
 use crate::digits::Digits;
 use crate::event::Event;
+use crate::extent::Extent;
+use crate::gem::SeenGem;
 use crate::number::read_count;
 use script_lines::{LINE_LIMIT, read_port};
 
@@ -37,14 +39,50 @@ fn split_number(parts: &[u8]) -> Option<(u32, &[u8])>
     Some((number, parts.split_at(space + 1).1))
 }
 
+/// The GEM port that a word names; None where it names none.
+fn read_gem(word: &[u8]) -> Option<SeenGem>
+    ensures { result ≡ gem_of word.now }
+{
+    if word == b"any".as_slice() {
+        return Some(SeenGem::Any);
+    }
+    Some(SeenGem::Port(read_port(word)?))
+}
+
+/// A GEM port, and what stands behind the first space; None where none is named.
+fn split_gem(parts: &[u8]) -> Option<(SeenGem, &[u8])>
+    ensures parts { option_map (λ (cut : _). (cut.0, cut.1.now)) result
+        ≡ numbered gem_of parts.now }
+    ensures within { IfSome result (λ cut. length cut.1.now ≤ length parts.now) }
+{
+    let space = space_in(parts)?;
+    let gem = read_gem(parts.split_at(space).0)?;
+    Some((gem, parts.split_at(space + 1).1))
+}
+
+/// How much of a frame was seen, and the digits of that, by `HEX` or `HEX..`.
+fn read_seen(digits: &[u8]) -> Option<(Extent, Digits<'_>)>
+    requires { length digits.now ≤ line_limit }
+    ensures { result ≡ seen_bytes digits.now }
+{
+    if let Some(front) = digits.strip_suffix(b"..") {
+        return Some((Extent::Front, Digits::of(front)?));
+    }
+    Some((Extent::Whole, Digits::of(digits)?))
+}
+
 /// A frame that entered, by `PORT HEX`.
 fn read_entered(parts: &[u8]) -> Option<Event<'_>>
     requires { length parts.now ≤ line_limit }
     ensures { result ≡ entered_by parts.now }
 {
     let (port, digits) = split_port(parts)?;
-    let frame = Digits::of(digits)?;
-    Some(Event::Entered { port, frame })
+    let (extent, frame) = read_seen(digits)?;
+    Some(Event::Entered {
+        port,
+        extent,
+        frame,
+    })
 }
 
 /// A frame that left, by `N GEM HEX`.
@@ -53,9 +91,42 @@ fn read_left(parts: &[u8]) -> Option<Event<'_>>
     ensures { result ≡ left_by parts.now }
 {
     let (number, parts) = split_number(parts)?;
-    let (gem, digits) = split_port(parts)?;
-    let frame = Digits::of(digits)?;
-    Some(Event::Left { number, gem, frame })
+    let (gem, digits) = split_gem(parts)?;
+    let (extent, frame) = read_seen(digits)?;
+    Some(Event::Left {
+        gem,
+        extent,
+        number,
+        frame,
+    })
+}
+
+/// A stray, by `GEM HEX`.
+fn read_strayed(parts: &[u8]) -> Option<Event<'_>>
+    requires { length parts.now ≤ line_limit }
+    ensures { result ≡ strayed_by parts.now }
+{
+    let (gem, digits) = split_gem(parts)?;
+    let (extent, frame) = read_seen(digits)?;
+    Some(Event::Strayed { gem, extent, frame })
+}
+
+/// What a line says of a frame that was not seen, or of the end of the observation.
+fn read_end_told(content: &[u8]) -> Option<Event<'_>>
+    ensures { result ≡ end_told content.now }
+{
+    if let Some(number) = content.strip_prefix(b"d ") {
+        let number = read_count(number)?;
+        return Some(Event::Dropped { number });
+    }
+    if let Some(number) = content.strip_prefix(b"l ") {
+        let number = read_count(number)?;
+        return Some(Event::Lost { number });
+    }
+    if content == b"e".as_slice() {
+        return Some(Event::Ended);
+    }
+    None
 }
 
 /// What a line says of a frame.
@@ -69,8 +140,10 @@ fn read_frame_told(content: &[u8]) -> Option<Event<'_>>
     if let Some(parts) = content.strip_prefix(b"g ") {
         return read_left(parts);
     }
-    let number = read_count(content.strip_prefix(b"d ")?)?;
-    Some(Event::Dropped { number })
+    if let Some(parts) = content.strip_prefix(b"s ") {
+        return read_strayed(parts);
+    }
+    read_end_told(content)
 }
 
 /// What a line that begins with `w` waits for, by what stands behind that.

@@ -1,6 +1,6 @@
 //! What the lines of a history so far allow the next to say.
 ghost use Rattle.std.specs.Prelude.{◌≡◌, ◌<◌, ◌++◌, ◌^◌, [], ◌∷◌, IfOk, List, slice_set, true};
-ghost use Rattle.bench_history.specs.History.{is_open, may_follow};
+ghost use Rattle.bench_history.specs.History.{fits, is_open, may_follow};
 ghost use Rattle.bench_history.specs.Seen.{IsSeen};
 ghost use Rattle.bench_history.specs.declared.event.Event.{Event};
 
@@ -14,6 +14,8 @@ pub(crate) struct Seen {
     ended: Vec<bool>,
     // How many replies were seen.
     replies: u64,
+    // Whether the observation ended.
+    is_over: bool,
 }
 
 impl Seen {
@@ -24,6 +26,7 @@ impl Seen {
         Seen {
             ended: Vec::new(alloc),
             replies: 0,
+            is_over: false,
         }
     }
 
@@ -35,13 +38,14 @@ impl Seen {
         matches!(self.ended.get(number as usize), Some(false))
     }
 
-    /// Whether an event may stand behind those seen.
-    pub(crate) fn admits(&self, event: &Event<'_>) -> bool
+    /// Whether an event fits those seen, while the observation goes on.
+    fn fits(&self, event: &Event<'_>) -> bool
         ensures { (events : List Event) → IsSeen events self.now
-            → result ≡ may_follow events event.now }
+            → result ≡ fits events event.now }
     {
         match event {
-            Event::Left { number, .. } | Event::Dropped { number } => self.is_open(*number),
+            Event::Left { number, .. } | Event::Dropped { number } | Event::Lost { number } =>
+                self.is_open(*number),
             Event::Waited {
                 replies: Some(replies),
             } => u64::from(*replies) <= self.replies,
@@ -49,10 +53,22 @@ impl Seen {
         }
     }
 
+    /// Whether an event may stand behind those seen.
+    pub(crate) fn admits(&self, event: &Event<'_>) -> bool
+        ensures { (events : List Event) → IsSeen events self.now
+            → result ≡ may_follow events event.now }
+    {
+        match event {
+            Event::Nothing => true,
+            _ => !self.is_over && self.fits(event),
+        }
+    }
+
     /// Marks the frame of a number as ended.
     fn end(&mut self, number: u32)
         ensures ended { self.new.ended.items ≡ slice_set self.old.ended.items number true }
         ensures replies { self.new.replies ≡ self.old.replies }
+        ensures over { self.new.is_over ≡ self.old.is_over }
     {
         if let Some(ended) = self.ended.get_mut(number as usize) {
             *ended = true;
@@ -68,8 +84,10 @@ impl Seen {
     {
         match event {
             Event::Entered { .. } => self.ended.push(false)?,
-            Event::Left { number, .. } | Event::Dropped { number } => self.end(*number),
+            Event::Left { number, .. } | Event::Dropped { number } | Event::Lost { number } =>
+                self.end(*number),
             Event::Replied { .. } => self.replies += 1,
+            Event::Ended => self.is_over = true,
             _ => {}
         }
         Ok(())

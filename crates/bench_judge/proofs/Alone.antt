@@ -49,18 +49,18 @@ join_more {A = A} {B = B} join one other joined a b at_one at_other are = record
 
 -- ---- versions that are found
 
-pub had_more : (events : List Event) (requests : List Request) (frames : List Frame) (found : List (Option ℕ)) (number v : ℕ) (frame : Frame)
-    → AreHad events requests frames found → number < length found → slice_get frames number ≡ Some frame → MayHave events requests frame v
-    → AreHad events requests frames (set found number (Some v))
-had_more events requests frames found number v frame had lt at may n w other at_found at_frame = go (n == number) refl
+pub had_more : {padded : Bool} (events : List Event) (requests : List Request) (frames : List Frame) (found : List (Option ℕ)) (number v : ℕ) (frame : Frame)
+    → AreHad padded events requests frames found → number < length found → slice_get frames number ≡ Some frame → MayHave padded events requests frame v
+    → AreHad padded events requests frames (set found number (Some v))
+had_more {padded} events requests frames found number v frame had lt at may n w other at_found at_frame = go (n == number) refl
   where
-    go : (b : Bool) → (n == number) ≡ b → MayHave events requests other w
+    go : (b : Bool) → (n == number) ≡ b → MayHave padded events requests other w
     go true is =
         let same : n ≡ number = eqb-true n number is in
         let both : Some (Some v) ≡ Some (Some w) = sym (set_same found number (Some v) lt) ∙ ap (slice_get (set found number (Some v))) (sym same) ∙ at_found in
         let version : v ≡ w = cc both in
         let frame_is : frame ≡ other = cc (sym at ∙ ap (slice_get frames) (sym same) ∙ at_frame) in
-        subst (λ f. MayHave events requests f w) frame_is (subst (MayHave events requests frame) version may)
+        subst (λ f. MayHave padded events requests f w) frame_is (subst (MayHave padded events requests frame) version may)
     go false is = had n w other (sym (set_other found number n (Some v) (eqb-false n number is)) ∙ at_found) at_frame
 
 -- ---- versions of frames that are left, and of all
@@ -97,37 +97,37 @@ module _ (events : List Event) (requests : List Request) (frames left : List Fra
   as_before (Some v) frame ended = absurd (cc ended)
   as_before None frame ended = refl
 
-  pub fits_left : (versions : ℕ → ℕ) → Fits true events requests frames versions → Fits true events requests left versions
-  fits_left versions fits = record {
+  pub fits_left : {padded : Bool} (versions : ℕ → ℕ) → Fits padded true events requests frames versions → Fits padded true events requests left versions
+  fits_left {padded} versions fits = record {
     each = λ n here at ended.
         let its = of_number n here at in
         let same : here ≡ its.frame = its.is ∙ as_before its.had its.frame (ap (λ (f : Frame). is_some f.ended) (sym its.is) ∙ ended) in
-        subst (λ f. MayHave events requests f (versions n)) (sym same)
+        subst (λ f. MayHave padded events requests f (versions n)) (sym same)
         (fits.each n its.frame its.at (ap (λ (f : Frame). is_some f.ended) (sym same) ∙ ended));
     ordered = λ bad. absurd (cc bad);
   }
 
-  module _ (others all : List ℕ) (had : AreHad events requests frames found) (joined : AreJoined version_or found others all)
+  module _ {padded : Bool} (others all : List ℕ) (had : AreHad padded events requests frames found) (joined : AreJoined version_or found others all)
       (all_count : length all ≡ length frames) (others_count : length others ≡ length frames)
-      (fits : Fits true events requests left (slice_index others)) where
+      (fits : Fits padded true events requests left (slice_index others)) where
     index_at : (xs : List ℕ) (n x : ℕ) → slice_get xs n ≡ Some x → slice_index xs n ≡ x
     index_at xs n x at = get_or_from_slice_get xs n x 0 at
 
     may_have : (n : ℕ) (frame : Frame) (o : Option ℕ) (other : ℕ) → slice_get frames n ≡ Some frame → is_some frame.ended ≡ true → slice_get found n ≡ Some o
-        → slice_get others n ≡ Some other → MayHave events requests frame (version_or o other)
+        → slice_get others n ≡ Some other → MayHave padded events requests frame (version_or o other)
     may_have n frame (Some v) other at ended at_found at_other = had n v frame at_found at
     may_have n frame None other at ended at_found at_other =
         let here = are_left.each n None frame (omega (arith, slice_get_within frames n frame at, count)) at_found at in
-        subst (MayHave events requests frame) (index_at others n other at_other) (fits.each n frame here ended)
+        subst (MayHave padded events requests frame) (index_at others n other at_other) (fits.each n frame here ended)
 
-    pub fits_all : Fits true events requests frames (slice_index all)
+    pub fits_all : Fits padded true events requests frames (slice_index all)
     fits_all = record {
       each = λ n frame at ended.
           let lt = slice_get_within frames n frame at in
           let o = stands found n (omega (arith, lt, found_count)) in
           let other = stands others n (omega (arith, lt, others_count)) in
           let is = joined.each n o.0 other.0 (omega (arith, lt, all_count)) o.1 other.1 in
-          subst (MayHave events requests frame) (sym (index_at all n (version_or o.0 other.0) is))
+          subst (MayHave padded events requests frame) (sym (index_at all n (version_or o.0 other.0) is))
           (may_have n frame o.0 other.0 at ended o.1 other.1);
       ordered = λ bad. absurd (cc bad);
     }
@@ -139,8 +139,8 @@ none_had zero n v at = absurd (cc at)
 none_had (suc k) zero v at = absurd (cc at)
 none_had (suc k) (suc n) v at = none_had k n v at
 
-pub nothing_had : (events : List Event) (requests : List Request) (frames : List Frame) (found : List (Option ℕ)) → found ≡ replicate (length frames) None
-    → (length found ≡ length frames) × AreHad events requests frames found
+pub nothing_had : {padded : Bool} (events : List Event) (requests : List Request) (frames : List Frame) (found : List (Option ℕ)) → found ≡ replicate (length frames) None
+    → (length found ≡ length frames) × AreHad padded events requests frames found
 nothing_had events requests frames found is = (
   ap (λ (l : List (Option ℕ)). length l) is ∙ length-replicate {A = Option ℕ} (length frames) None,
   λ n v frame at_found at. absurd (none_had (length frames) n v (ap (λ (l : List (Option ℕ)). slice_get l n) (sym is) ∙ at_found)),
@@ -155,35 +155,35 @@ module _ (events : List Event) (requests : List Request) (frames left given_left
   pub alone_within : AreWithin requests frames → AreWithin requests given_left
   alone_within within = subst (AreWithin requests) (sym same_left) (left_within events requests frames left found are_left count found_count within)
 
-  pub alone_none : (o : Option (Vec ℕ Global)) → o ≡ None → IsSwept true events requests given_left o → NoneFit true events requests frames
-  alone_none o is swept versions fits =
-      let none : NoneFit true events requests given_left = subst (IsSwept true events requests given_left) is swept in
-      none versions (subst (λ fs. Fits true events requests fs versions) (sym same_left)
+  pub alone_none : {padded : Bool} (o : Option (Vec ℕ Global)) → o ≡ None → IsSwept padded true events requests given_left o → NoneFit padded true events requests frames
+  alone_none {padded} o is swept versions fits =
+      let none : NoneFit padded true events requests given_left = subst (IsSwept padded true events requests given_left) is swept in
+      none versions (subst (λ fs. Fits padded true events requests fs versions) (sym same_left)
       (fits_left events requests frames left found are_left count found_count versions fits))
 
-  pub alone_some : (o : Option (Vec ℕ Global)) (others : Vec ℕ Global) → o ≡ Some others → IsSwept true events requests given_left o
-      → AreHad events requests frames found
+  pub alone_some : {padded : Bool} (o : Option (Vec ℕ Global)) (others : Vec ℕ Global) → o ≡ Some others → IsSwept padded true events requests given_left o
+      → AreHad padded events requests frames found
       → (given_found : List (Option ℕ)) (given_others all : List ℕ) → given_found ≡ found → given_others ≡ others.items
-      → AreJoined version_or given_found given_others all → length all ≡ length given_others → Fits true events requests frames (slice_index all)
-  alone_some o others is swept had given_found given_others all same same_others joined all_count =
-      let least : AreLeast true events requests given_left others.items = subst (IsSwept true events requests given_left) is swept in
-      let fits : Fits true events requests left (slice_index others.items) =
-      subst (λ fs. Fits true events requests fs (slice_index others.items)) same_left least.least.fits in
+      → AreJoined version_or given_found given_others all → length all ≡ length given_others → Fits padded true events requests frames (slice_index all)
+  alone_some {padded} o others is swept had given_found given_others all same same_others joined all_count =
+      let least : AreLeast padded true events requests given_left others.items = subst (IsSwept padded true events requests given_left) is swept in
+      let fits : Fits padded true events requests left (slice_index others.items) =
+      subst (λ fs. Fits padded true events requests fs (slice_index others.items)) same_left least.least.fits in
       let long : length others.items ≡ length frames = least.count ∙ ap (λ (l : List Frame). length l) same_left ∙ count in
       fits_all events requests frames left found are_left count found_count others.items all had
       (subst (λ l. AreJoined version_or l others.items all) same (subst (λ l. AreJoined version_or given_found l all) same_others joined))
       (all_count ∙ ap (λ (l : List ℕ). length l) same_others ∙ long) long fits
 
 -- what a sweep finds where order counts suits
-pub swept_suits : (events : List Event) (requests : List Request) (frames : List Frame) (r : Result (Option (Vec ℕ Global)) AllocError)
-    → IfOk r (IsSwept false events requests frames) → IfOk r (IsFitted false events requests frames)
-swept_suits events requests frames (Ok None) none = none
-swept_suits events requests frames (Ok (Some versions)) least = (least.least.fits, λ ordered. least.least)
-swept_suits events requests frames (Err e) is = tt
+pub swept_suits : (padded : Bool) (events : List Event) (requests : List Request) (frames : List Frame) (r : Result (Option (Vec ℕ Global)) AllocError)
+    → IfOk r (IsSwept padded false events requests frames) → IfOk r (IsFitted padded false events requests frames)
+swept_suits padded events requests frames (Ok None) none = none
+swept_suits padded events requests frames (Ok (Some versions)) least = (least.least.fits, λ ordered. least.least)
+swept_suits padded events requests frames (Err e) is = tt
 
-pub alone_suits : (events : List Event) (requests : List Request) (frames : List Frame) (r : Result (Option (Vec ℕ Global)) AllocError)
-    → IfOk r (λ found. MatchOption found (NoneFit true events requests frames) (λ versions. Fits true events requests frames (slice_index versions.items)))
-    → IfOk r (IsFitted true events requests frames)
-alone_suits events requests frames (Ok None) none = none
-alone_suits events requests frames (Ok (Some versions)) fits = (fits, λ ordered. absurd (cc ordered))
-alone_suits events requests frames (Err e) is = tt
+pub alone_suits : (padded : Bool) (events : List Event) (requests : List Request) (frames : List Frame) (r : Result (Option (Vec ℕ Global)) AllocError)
+    → IfOk r (λ found. MatchOption found (NoneFit padded true events requests frames) (λ versions. Fits padded true events requests frames (slice_index versions.items)))
+    → IfOk r (IsFitted padded true events requests frames)
+alone_suits padded events requests frames (Ok None) none = none
+alone_suits padded events requests frames (Ok (Some versions)) fits = (fits, λ ordered. absurd (cc ordered))
+alone_suits padded events requests frames (Err e) is = tt

@@ -7,18 +7,17 @@ use Rattle.omci_msg.specs.declared.request.Request.{Request}
 use Rattle.omci_msg.specs.declared.fault.MsgFault.{MsgFault}
 use Rattle.bench_history.specs.History.{replies_in}
 use Rattle.bench_history.specs.declared.event.Event.{Event}
-use Rattle.bench_history.specs.declared.event.Event.TheVariants.{Sent, Replied, Entered, Left, Dropped, Waited, Nothing}
 use Rattle.bench_judge.specs.Asked.{Wanted, wanted}
 use Rattle.bench_judge.specs.Replies.{IsReplyTo, IsRight, is_judged}
-use Rattle.bench_judge.specs.Walk.{AreInOrder, IsAwaited, IsNext, IsWalk, IsWrong}
+use Rattle.bench_judge.specs.Walk.{AreInOrder, IsAwaited, IsNext, IsRefused, IsWalk}
 use Rattle.bench_judge.specs.Windows.{least_behind, waited}
-use Rattle.bench_judge.specs.Scene.{AreFramesOf, IsAdmitted, IsAsking, IsDue, IsScene}
+use Rattle.bench_judge.specs.Scene.{AreFramesOf, IsAsking, IsDue, IsScene}
 use Rattle.bench_judge.specs.declared.asking.Due.{Due}
 use Rattle.bench_judge.specs.declared.scene.Scene.{Scene}
 use Rattle.bench_judge.specs.declared.walk.Awaited.{Awaited}
 use Rattle.bench_judge.specs.declared.walk.Walk.{Walk}
 use Rattle.bench_judge.proofs.Waits.{least_of_none, least_of_some}
-use Rattle.bench_judge.proofs.Whole.{whole_awaited, whole_bounded, whole_frames, whole_right}
+use Rattle.bench_judge.proofs.Whole.{whole_admitted, whole_awaited, whole_bounded, whole_frames, whole_known}
 
 pub ok_of : (r : Result Request MsgFault) (q : Request) → Some q ≡ result_ok r → r ≡ Ok q
 ok_of (Ok x) q is = cc is
@@ -26,7 +25,7 @@ ok_of (Err fault) q is = cc is
 
 -- ---- before all events
 
-pub scene_none : (events : List Event) (scene : Scene) → IsAsking scene.modelled events 0 scene.asking → scene.frames.items ≡ []
+pub scene_none : (events : List Event) (scene : Scene) → IsAsking scene.settings.modelled events 0 scene.asking → scene.frames.items ≡ []
     → scene.replies ≡ 0 → scene.waited ≡ 0 → IsScene events 0 scene
 scene_none events scene asking frames replies waited = record {
   asking = asking;
@@ -40,7 +39,7 @@ scene_none events scene asking frames replies waited = record {
   few = omega (arith, replies);
   waited = waited;
   seen = omega (arith, waited);
-  right = λ i bytes less at. absurd (omega (arith, less));
+  admitted = λ i event less at. absurd (omega (arith, less));
 }
 
 -- ---- the next reply
@@ -52,20 +51,20 @@ past (x ∷ xs) zero none = cc none
 past (x ∷ xs) (suc k) none = omega (arith, past xs k none)
 
 next_due : (events : List Event) (place : ℕ) (scene : Scene) (due : Due) → slice_get scene.asking.due.items scene.replies ≡ Some due
-    → IsScene events place scene → IsDue scene.modelled events place (replies_in (take place events)) due
+    → IsScene events place scene → IsDue scene.settings.modelled events place (replies_in (take place events)) due
 next_due events place scene due at is =
-    subst (λ (k : ℕ). IsDue scene.modelled events place k due) is.replies (is.asking.each scene.replies due at)
+    subst (λ (k : ℕ). IsDue scene.settings.modelled events place k due) is.replies (is.asking.each scene.replies due at)
 
 -- whether it is right is whether it answers what is due
 pub right_by_due : (events : List Event) (place : ℕ) (scene : Scene) (due : Due) (bytes : List ℕ) (result : Bool)
     → slice_get scene.asking.due.items scene.replies ≡ Some due
     → ((modelled : Bool) (w : Wanted) → due.reply ≡ w.reply → due.is_judged ≡ is_judged modelled w.request → Decides result (IsReplyTo modelled w bytes))
-    → IsScene events place scene → Decides result (IsRight scene.modelled (take place events) bytes)
+    → IsScene events place scene → Decides result (IsRight scene.settings.modelled (take place events) bytes)
 right_by_due events place scene due bytes result at decides is =
-    let next : IsDue scene.modelled events place (replies_in (take place events)) due = next_due events place scene due at is in
-    let by = decides scene.modelled next.answers next.reply next.judged in (
+    let next : IsDue scene.settings.modelled events place (replies_in (take place events)) due = next_due events place scene due at is in
+    let by = decides scene.settings.modelled next.answers next.reply next.judged in (
       λ yes. record { answers = next.answers; next = next.at; right = by.0 yes },
-      λ right. by.1 (subst (λ (w : Wanted). IsReplyTo scene.modelled w bytes) (same_Some right.answers next.answers (sym right.next ∙ next.at)) right.right),
+      λ right. by.1 (subst (λ (w : Wanted). IsReplyTo scene.settings.modelled w bytes) (same_Some right.answers next.answers (sym right.next ∙ next.at)) right.right),
     )
 
 none_due : (events : List Event) (place : ℕ) (scene : Scene) → slice_get scene.asking.due.items scene.replies ≡ None → IsScene events place scene
@@ -74,7 +73,7 @@ none_due events place scene none is =
     slice_get_past (wanted (take place events)) (replies_in (take place events)) (omega (arith, past scene.asking.due.items scene.replies none, is.replies, is.asking.count))
 
 pub wrong_by_none : (events : List Event) (place : ℕ) (scene : Scene) (bytes : List ℕ) → slice_get scene.asking.due.items scene.replies ≡ None
-    → IsScene events place scene → Decides false (IsRight scene.modelled (take place events) bytes)
+    → IsScene events place scene → Decides false (IsRight scene.settings.modelled (take place events) bytes)
 wrong_by_none events place scene bytes none is =
     (λ yes. cc yes, λ right. cc (sym right.next ∙ none_due events place scene none is))
 
@@ -82,22 +81,11 @@ pub next_awaited : (events : List Event) (place : ℕ) (scene : Scene) (due : Du
     → slice_get scene.asking.due.items scene.replies ≡ Some due → awaited.sent ≡ due.sent → awaited.reply ≡ due.reply
     → IsScene events place scene → IsAwaited (take place events) awaited
 next_awaited events place scene due awaited at sent reply is =
-    whole_awaited scene.modelled events place due awaited (next_due events place scene due at is) sent reply
+    whole_awaited scene.settings.modelled events place due awaited (next_due events place scene due at is) sent reply
 
 pub none_awaited : (events : List Event) (place : ℕ) (scene : Scene) → slice_get scene.asking.due.items scene.replies ≡ None
     → IsScene events place scene → IsNext (take place events) None
 none_awaited events place scene none is = none_due events place scene none is
-
--- an event that isn't admitted is a wrong reply
-pub wrong_reply : (modelled : Bool) (before : List Event) (event : Event) (o : Option Event) → o ≡ Some event
-    → (IsAdmitted modelled before event → ⊥) → IsWrong modelled before o
-wrong_reply modelled before (Replied bytes) o at wrong = record { bytes = bytes; replied = at; wrong = wrong }
-wrong_reply modelled before (Sent message) o at wrong = absurd (wrong tt)
-wrong_reply modelled before (Entered port bytes) o at wrong = absurd (wrong tt)
-wrong_reply modelled before (Left gem number bytes) o at wrong = absurd (wrong tt)
-wrong_reply modelled before (Dropped number) o at wrong = absurd (wrong tt)
-wrong_reply modelled before (Waited replies) o at wrong = absurd (wrong tt)
-wrong_reply modelled before Nothing o at wrong = absurd (wrong tt)
 
 -- ---- the least version
 
@@ -121,14 +109,16 @@ no_least_missing events place scene some none is =
 
 pub walk_of : (events : List Event) (scene : Scene) (walk : Walk) → AreInOrder events → walk.walked ≤ length events
     → IsScene events walk.walked scene
-    → (walk.walked < length events → IsWrong scene.modelled (take walk.walked events) (slice_get events walk.walked))
+    → (walk.walked < length events → IsRefused scene.settings (take walk.walked events) (slice_get events walk.walked))
     → walk.frames ≡ scene.frames → walk.requests ≡ scene.asking.requests → IsNext (take walk.walked events) walk.awaited
-    → IsWalk scene.modelled events walk
-walk_of events scene walk order within is wrong frames requests awaited = record {
+    → IsWalk scene.settings events walk
+walk_of events scene walk order within is refused frames requests awaited = record {
   within = within;
-  right = whole_right scene.modelled events walk.walked is.right;
-  wrong = wrong;
+  admitted = whole_admitted scene.settings events walk.walked is.admitted;
+  refused = refused;
   requests = ap (λ v. v.items) requests ∙ is.asking.requests;
+  known = whole_known events walk.walked walk.frames.items (subst (λ v. AreFramesOf events walk.walked v.items) (sym frames) is.frames);
+  count = ap (λ v. length v.items) frames ∙ is.frames.count;
   bounded = whole_bounded events walk.walked walk.requests.items walk.frames.items (ap (λ v. v.items) requests ∙ is.asking.requests)
       (subst (λ v. AreFramesOf events walk.walked v.items) (sym frames) is.frames);
   frames = whole_frames events walk.walked walk.frames.items order (subst (λ v. AreFramesOf events walk.walked v.items) (sym frames) is.frames);

@@ -7,9 +7,11 @@ use Rattle.mib_state.specs.After.{after}
 use Rattle.frame_meaning.specs.Meaning.{meaning}
 use Rattle.bench_history.specs.declared.event.Event.{Event}
 use Rattle.bench_history.specs.declared.event.Event.TheVariants.{Entered}
+use Rattle.bench_history.specs.declared.extent.Extent.{Extent}
+use Rattle.bench_sight.specs.Sight.{IsSeenAs}
 use Rattle.bench_judge.specs.Asked.{accepted_of, version}
 use Rattle.bench_judge.specs.Windows.{most_behind}
-use Rattle.bench_judge.specs.Explained.{EndedFrame, IsChoice, IsEnded, IsLeastChoice, IsSeenAs, IsVersionOf}
+use Rattle.bench_judge.specs.Explained.{EndedFrame, IsChoice, IsEnded, IsLeastChoice, IsVersionOf}
 use Rattle.bench_judge.specs.Frames.{AreFrames, Fits, FitsLeast, IsKept, IsKeptIn, IsKeptOf, IsSeenBy, MayHave}
 use Rattle.bench_judge.specs.declared.frame.Frame.{Frame}
 use Rattle.bench_judge.proofs.Fronts.{most_grows}
@@ -31,59 +33,61 @@ within_front k all f v is le =
     let same : most_behind (take f.ended (take k all)) ≡ most_behind (take f.ended all) = ap most_behind (take-take f.ended k all (omega (arith, lt))) in
     omega (arith, le, same, most_grows f.ended k all (omega (arith, lt)))
 
-entered_as : (p q : ℕ) (a b : List ℕ) → Some (Entered p a) ≡ Some (Entered q b) → (p ≡ q) × (a ≡ b)
-entered_as p q a b is = (cc is, cc is)
+pub entered_as : (p q : ℕ) (x y : Extent) (a b : List ℕ) → Some (Entered p x a) ≡ Some (Entered q y b) → (p ≡ q) × (x ≡ y) × (a ≡ b)
+entered_as p q x y a b is = (cc is, cc is, cc is)
 
-some_as : {A : Type 0} (x y : A) → Some x ≡ Some y → x ≡ y
+pub some_as : {A : Type 0} (x y : A) → Some x ≡ Some y → x ≡ y
 some_as x y is = cc is
 
-same_seen : (e : Entities) (p q : ℕ) (a b : List ℕ) (x y : Event) → p ≡ q → a ≡ b → x ≡ y
-    → IsSeenAs (meaning e p a) x → IsSeenAs (meaning e q b) y
-same_seen e p q a b x y port bytes seen shows =
-    subst (λ z. IsSeenAs (meaning e q b) z) seen (subst (λ c. IsSeenAs (meaning e q c) x) bytes (subst (λ r. IsSeenAs (meaning e r a) x) port shows))
+pub same_seen : (padded : Bool) (e : Entities) (p q : ℕ) (s t : Extent) (a b : List ℕ) (x y : Event) → p ≡ q → s ≡ t → a ≡ b → x ≡ y
+    → IsSeenAs padded (meaning e p a) s x → IsSeenAs padded (meaning e q b) t y
+same_seen padded e p q s t a b x y port extent bytes seen shows =
+    subst (λ z. IsSeenAs padded (meaning e q b) t z) seen (subst (λ u. IsSeenAs padded (meaning e q b) u x) extent
+    (subst (λ c. IsSeenAs padded (meaning e q c) s x) bytes (subst (λ r. IsSeenAs padded (meaning e r a) s x) port shows)))
 
 module _ (k : ℕ) (all : List Event) (requests : List Request) (begins : BeginWith requests (take k all)) where
   abbrev pub events : List Event
   events = take k all
 
-  may_have : (f : EndedFrame) (frame : Frame) (v : ℕ) → IsEnded events f → IsKept events f frame → IsVersionOf events f v → MayHave all requests frame v
-  may_have f frame v is kept version =
+  may_have : {padded : Bool} (f : EndedFrame) (frame : Frame) (v : ℕ) → IsEnded events f → IsKept events f frame → IsVersionOf padded events f v → MayHave padded all requests frame v
+  may_have {padded} f frame v is kept version =
       record {
         least = omega (arith, kept.least, version.least);
         most = omega (arith, kept.most, version.most);
         seen = record {
           port = f.port;
+          extent = f.extent;
           bytes = f.bytes;
-          entered = ap (slice_get all) kept.sent ∙ (in_front k f.sent all (Entered f.port f.bytes) is.entered).1;
+          entered = ap (slice_get all) kept.sent ∙ (in_front k f.sent all (Entered f.port f.extent f.bytes) is.entered).1;
           end = f.ended;
           ended = kept.ended;
           seen = f.seen;
           at_end = (in_front k f.ended all f.seen is.seen).1;
-          shows = subst (λ e. IsSeenAs (meaning e f.port f.bytes) f.seen) (sym (version_by requests events v begins (within_front k all f v is version.most))) version.seen;
+          shows = subst (λ e. IsSeenAs padded (meaning e f.port f.bytes) f.extent f.seen) (sym (version_by requests events v begins (within_front k all f v is version.most))) version.seen;
         };
       }
 
-  version_of : (f : EndedFrame) (frame : Frame) (v : ℕ) → IsEnded events f → IsKept events f frame → MayHave all requests frame v → IsVersionOf events f v
-  version_of f frame v is kept may =
+  version_of : {padded : Bool} (f : EndedFrame) (frame : Frame) (v : ℕ) → IsEnded events f → IsKept events f frame → MayHave padded all requests frame v → IsVersionOf padded events f v
+  version_of {padded} f frame v is kept may =
       let most : v ≤ most_behind (take f.ended events) = omega (arith, kept.most, may.most) in
-      let s : IsSeenBy all frame (after (take v requests)) = may.seen in
-      let sent = entered_as s.port f.port s.bytes f.bytes (sym s.entered ∙ ap (slice_get all) kept.sent ∙ (in_front k f.sent all (Entered f.port f.bytes) is.entered).1) in
+      let s : IsSeenBy padded all frame (after (take v requests)) = may.seen in
+      let sent = entered_as s.port f.port s.extent f.extent s.bytes f.bytes (sym s.entered ∙ ap (slice_get all) kept.sent ∙ (in_front k f.sent all (Entered f.port f.extent f.bytes) is.entered).1) in
       let end = some_as s.end f.ended (sym s.ended ∙ kept.ended) in
       let seen = some_as s.seen f.seen (sym s.at_end ∙ ap (slice_get all) end ∙ (in_front k f.ended all f.seen is.seen).1) in
       record {
         least = omega (arith, kept.least, may.least);
         most = most;
-        seen = subst (λ e. IsSeenAs (meaning e f.port f.bytes) f.seen) (version_by requests events v begins (within_front k all f v is most))
-            (same_seen (after (take v requests)) s.port f.port s.bytes f.bytes s.seen f.seen sent.0 sent.1 seen s.shows);
+        seen = subst (λ e. IsSeenAs padded (meaning e f.port f.bytes) f.extent f.seen) (version_by requests events v begins (within_front k all f v is most))
+            (same_seen padded (after (take v requests)) s.port f.port s.extent f.extent s.bytes f.bytes s.seen f.seen sent.0 sent.1 sent.2 seen s.shows);
       }
 
-  pub fits_of_choice : (unordered : Bool) (frames : List Frame) (versions : ℕ → ℕ) → AreFrames events frames
-      → IsChoice unordered events versions → Fits unordered all requests frames versions
-  fits_of_choice unordered frames versions are choice =
+  pub fits_of_choice : {padded : Bool} (unordered : Bool) (frames : List Frame) (versions : ℕ → ℕ) → AreFrames events frames
+      → IsChoice padded unordered events versions → Fits padded unordered all requests frames versions
+  fits_of_choice {padded} unordered frames versions are choice =
       record {
         each = λ n frame at ended.
             let o : IsKeptOf events n frame = are.only n frame at ended in
-            may_have o.f frame (versions n) o.is o.kept (subst (λ m. IsVersionOf events o.f (versions m)) o.number (choice.each o.f o.is));
+            may_have o.f frame (versions n) o.is o.kept (subst (λ m. IsVersionOf padded events o.f (versions m)) o.number (choice.each o.f o.is));
         ordered = λ order m n one other at_m at_n ended_m ended_n port lt.
             let o : IsKeptOf events m one = are.only m one at_m ended_m in
             let p : IsKeptOf events n other = are.only n other at_n ended_n in
@@ -92,8 +96,8 @@ module _ (k : ℕ) (all : List Event) (requests : List Request) (begins : BeginW
             omega (arith, le, ap versions o.number, ap versions p.number);
       }
 
-  pub choice_of_fits : (unordered : Bool) (frames : List Frame) (versions : ℕ → ℕ) → AreFrames events frames
-      → Fits unordered all requests frames versions → IsChoice unordered events versions
+  pub choice_of_fits : {padded : Bool} (unordered : Bool) (frames : List Frame) (versions : ℕ → ℕ) → AreFrames events frames
+      → Fits padded unordered all requests frames versions → IsChoice padded unordered events versions
   choice_of_fits unordered frames versions are fits =
       record {
         each = λ f is.
@@ -106,8 +110,8 @@ module _ (k : ℕ) (all : List Event) (requests : List Request) (begins : BeginW
             (o.kept.port ∙ port ∙ sym p.kept.port) lt;
       }
 
-  pub least_of_fits : (unordered : Bool) (frames : List Frame) (versions : ℕ → ℕ) → AreFrames events frames
-      → FitsLeast unordered all requests frames versions → IsLeastChoice unordered events versions
+  pub least_of_fits : {padded : Bool} (unordered : Bool) (frames : List Frame) (versions : ℕ → ℕ) → AreFrames events frames
+      → FitsLeast padded unordered all requests frames versions → IsLeastChoice padded unordered events versions
   least_of_fits unordered frames versions are fits =
       record {
         choice = choice_of_fits unordered frames versions are fits.fits;

@@ -1,11 +1,14 @@
 -- Frames and replies that are counted, one event on.
 use Rattle.std.proofs.Common.{◌≡◌, ◌≤◌, ◌+◌, ℕ, Bool, true, false, cond, ◌||◌, List, [], ◌∷◌, ◌++◌, take, drop, Some, refl, ap, ◌∙◌, arith}
+use Rattle.std.proofs.Math.Path.{fun_ext}
 use Rattle.std.specs.List.{count_by, slice_get}
 use Rattle.std.proofs.lemmas.List.{take-append-drop, take-take}
 use Rattle.std.proofs.lemmas.List.Folds.{list_any-append}
 use Rattle.std.proofs.lemmas.List.Sums.{sum_by-append}
 use Rattle.bench_history.specs.History.{frames_in, has_ended, is_end_of, is_frame, is_reply, replies_in}
 use Rattle.bench_history.specs.declared.event.Event.{Event}
+use Rattle.bench_judge.specs.Counted.{AreKnown, is_known, is_known_in}
+use Rattle.bench_judge.specs.declared.frame.Frame.{Frame}
 use Rattle.bench_judge.proofs.Places.{take_with}
 
 counted : {X : Type 0} (p : X → Bool) (xs : List X) (i : ℕ) (x : X) → slice_get xs i ≡ Some x
@@ -42,3 +45,8 @@ counted_front p xs i j within =
 
 pub frames_front : (events : List Event) (i j : ℕ) → i ≤ j → frames_in (take i events) ≤ frames_in (take j events)
 frames_front events i j within = counted_front is_frame events i j within
+
+-- ---- of which frames enough is known
+
+pub known_same : (events : List Event) (frames : List Frame) → AreKnown events frames → is_known_in frames ≡ is_known events
+known_same events frames known = fun_ext known

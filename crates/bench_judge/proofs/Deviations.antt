@@ -1,10 +1,7 @@
 -- What is said of a frame of kept frames holds of events.
 use Rattle.std.proofs.Common.{◌≡◌, ℕ, ◌≤◌, max, Bool, true, false, List, take, None, Some, is_some, refl, ap, sym, subst, ◌∙◌, arith}
-use Rattle.std.proofs.lemmas.Bool.{eqb-true}
 use Rattle.omci_msg.specs.declared.request.Request.{Request}
-use Rattle.bench_history.specs.History.{is_end_of}
 use Rattle.bench_history.specs.declared.event.Event.{Event}
-use Rattle.bench_history.specs.declared.event.Event.TheVariants.{Sent, Replied, Entered, Left, Dropped, Waited, Nothing}
 use Rattle.bench_judge.specs.Explained.{EndedFrame, IsEnded}
 use Rattle.bench_judge.specs.Frames.{AreFrames, FitsLeast, IsKeptIn, IsKeptOf}
 use Rattle.bench_judge.specs.Cut.{IsGreatestFit, Suits}
@@ -12,16 +9,6 @@ use Rattle.bench_judge.specs.Bounds.{HasEndedAt, IsFirstOf, IsLastOf, IsLeastLef
 use Rattle.bench_judge.specs.Judged.{IsAtLeast, IsAtMost, IsFirstBehind, IsGreatestVersion, IsLastBefore, IsLeastVersion}
 use Rattle.bench_judge.specs.declared.frame.Frame.{Frame}
 use Rattle.bench_judge.proofs.Choices.{BeginWith, choice_of_fits, fits_of_choice}
-
--- an event ends the frame of one number
-pub one_number : (a b : ℕ) (event : Event) → is_end_of a event ≡ true → is_end_of b event ≡ true → a ≡ b
-one_number a b (Left gem number frame) is also = sym (eqb-true number a is) ∙ eqb-true number b also
-one_number a b (Dropped number) is also = sym (eqb-true number a is) ∙ eqb-true number b also
-one_number a b (Sent message) is also = absurd (cc is)
-one_number a b (Replied reply) is also = absurd (cc is)
-one_number a b (Entered port frame) is also = absurd (cc is)
-one_number a b (Waited replies) is also = absurd (cc is)
-one_number a b Nothing is also = absurd (cc is)
 
 both_ways : (a b : ℕ) → a ≤ b → b ≤ a → a ≡ b
 both_ways a b le ge = omega (arith, le, ge)
@@ -59,7 +46,7 @@ module _ (k : ℕ) (all : List Event) (requests : List Request) (begins : BeginW
           },
         )
 
-    least_version : (versions : ℕ → ℕ) (g : EndedFrame) → FitsLeast false all requests frames versions → IsEnded events g → IsLeastVersion false events g (versions g.number)
+    least_version : {padded : Bool} (versions : ℕ → ℕ) (g : EndedFrame) → FitsLeast padded false all requests frames versions → IsEnded events g → IsLeastVersion padded false events g (versions g.number)
     least_version versions g fits is =
         let o : IsKeptIn events frames g = are.each g is in
         record {
@@ -70,8 +57,8 @@ module _ (k : ℕ) (all : List Event) (requests : List Request) (begins : BeginW
         }
 
     -- the least version that is left
-    pub at_least_is : (unordered : Bool) (versions : ℕ → ℕ) (least bound : ℕ) → Suits unordered all requests frames versions
-        → IsLeastLeft unordered frames versions f.port f.number least bound → IsAtLeast unordered events f least bound
+    pub at_least_is : {padded : Bool} (unordered : Bool) (versions : ℕ → ℕ) (least bound : ℕ) → Suits padded unordered all requests frames versions
+        → IsLeastLeft unordered frames versions f.port f.number least bound → IsAtLeast padded unordered events f least bound
     at_least_is true versions least bound fits left =
         record { alone = λ is. left; behind = λ bad. absurd (cc bad); first = λ bad. absurd (cc bad) }
     at_least_is false versions least bound fits (Some n, last, is) =
@@ -112,7 +99,7 @@ module _ (k : ℕ) (all : List Event) (requests : List Request) (begins : BeginW
           },
         )
 
-    greatest_version_is : (n v : ℕ) (g : EndedFrame) → n ≡ g.number → IsGreatestFit false all requests frames n v → IsGreatestVersion false events g v
+    greatest_version_is : {padded : Bool} (n v : ℕ) (g : EndedFrame) → n ≡ g.number → IsGreatestFit padded false all requests frames n v → IsGreatestVersion padded false events g v
     greatest_version_is n v g same fit =
         record {
           versions = fit.versions;
@@ -123,7 +110,7 @@ module _ (k : ℕ) (all : List Event) (requests : List Request) (begins : BeginW
         }
 
     -- the greatest version that is left
-    pub at_most_is : (unordered : Bool) (most bound : ℕ) → IsMostLeft unordered all requests frames f.port f.number most bound → IsAtMost unordered events f most bound
+    pub at_most_is : {padded : Bool} (unordered : Bool) (most bound : ℕ) → IsMostLeft padded unordered all requests frames f.port f.number most bound → IsAtMost padded unordered events f most bound
     at_most_is true most bound left =
         record { alone = λ is. left; before = λ bad. absurd (cc bad); last = λ bad. absurd (cc bad) }
     at_most_is false most bound (Some n, first, left) =

@@ -11,6 +11,7 @@ use Rattle.frame_meaning.specs.declared.verdict.Verdict.{Verdict}
 use Rattle.bench_history.specs.History.{is_end_of}
 use Rattle.bench_history.specs.declared.event.Event.{Event}
 use Rattle.bench_history.specs.declared.event.Event.TheVariants.{Entered}
+use Rattle.bench_history.specs.declared.extent.Extent.{Extent}
 use Rattle.bench_judge.specs.Asked.{accepted_of, version}
 use Rattle.bench_judge.specs.Windows.{least_behind, most_behind}
 use Rattle.bench_judge.specs.Explained.{EndedFrame, IsEnded}
@@ -26,20 +27,21 @@ use Rattle.bench_judge.specs.declared.settings.JudgeSettings.{JudgeSettings}
 use Rattle.bench_judge.specs.declared.walk.Walk.{Walk}
 use Rattle.bench_judge.proofs.Choices.{BeginWith, fits_of_choice}
 use Rattle.bench_judge.proofs.Cuts.{cut_frames, cut_within}
-use Rattle.bench_judge.proofs.Deviations.{at_least_is, at_most_is, one_number}
+use Rattle.bench_judge.proofs.Deviations.{at_least_is, at_most_is}
 use Rattle.bench_judge.proofs.Fronts.{ended_in_front, most_grows, version_front}
 use Rattle.bench_judge.proofs.Joined.{same_runs}
 use Rattle.bench_judge.proofs.Lists.{read_is}
 use Rattle.bench_judge.proofs.Swept.{begin_shorter}
 use Rattle.bench_judge.proofs.Turns.{EndsAt, turn_ends}
+use Rattle.bench_judge.proofs.Whole.{one_number}
 
 -- what is left is no more than the window has
-pub most_left : (unordered : Bool) (events : List Event) (requests : List Request) (frames : List Frame) (port n most bound : ℕ)
-    → IsMostLeft unordered events requests frames port n most bound → bound ≤ most
-most_left true events requests frames port n most bound is = omega (arith, is)
-most_left false events requests frames port n most bound (Some m, first, left) =
+pub most_left : (padded : Bool) (unordered : Bool) (events : List Event) (requests : List Request) (frames : List Frame) (port n most bound : ℕ)
+    → IsMostLeft padded unordered events requests frames port n most bound → bound ≤ most
+most_left padded true events requests frames port n most bound is = omega (arith, is)
+most_left padded false events requests frames port n most bound (Some m, first, left) =
     let le = min-le_left most left.0 in omega (arith, left.2, le)
-most_left false events requests frames port n most bound (None, first, left) = omega (arith, left)
+most_left padded false events requests frames port n most bound (None, first, left) = omega (arith, left)
 
 -- runs by the same verdicts
 pub same_verdicts : (one other : ℕ → Verdict) (sent : List ℕ) (from to : ℕ) (runs : List Run) → ((v : ℕ) → v ≤ to → one v ≡ other v)
@@ -50,8 +52,8 @@ same_verdicts one other sent from to runs same are =
       some = λ le. same_runs one other sent from (to + 1) runs (λ v lt. same v (omega (arith, lt))) (are.some le);
     }
 
-module _ (settings : JudgeSettings) (events : List Event) (walk : Walk) (place : ℕ) (order : AreInOrder events) (known : IsWalk settings.modelled events walk)
-    (lt : place < walk.walked) (turn : IsTurn settings.unordered events place) where
+module _ (settings : JudgeSettings) (events : List Event) (walk : Walk) (place : ℕ) (order : AreInOrder events) (known : IsWalk settings events walk)
+    (lt : place < walk.walked) (turn : IsTurn settings.padded settings.unordered events place) where
   pub within : place < length events
   within = omega (arith, lt, known.within)
 
@@ -88,7 +90,7 @@ module _ (settings : JudgeSettings) (events : List Event) (walk : Walk) (place :
   sent_front : take f.sent (take walk.walked events) ≡ take f.sent events
   sent_front = take-take f.sent walk.walked events (omega (arith, e.is.later, e.ended, lt))
 
-  pub sent_at : (frame : Frame) → frame ≡ kept.frame → slice_get events frame.sent ≡ Some (Entered f.port f.bytes)
+  pub sent_at : (frame : Frame) → frame ≡ kept.frame → slice_get events frame.sent ≡ Some (Entered f.port f.extent f.bytes)
   sent_at frame is = ap (λ (x : Frame). slice_get events x.sent) is ∙ ap (slice_get events) kept.kept.sent ∙ e.is.entered
 
   pub sent_within : (frame : Frame) → frame ≡ kept.frame → frame.sent < place
@@ -114,7 +116,7 @@ module _ (settings : JudgeSettings) (events : List Event) (walk : Walk) (place :
     begins : BeginWith requests (take place events)
     begins = begin_shorter place walk.walked events requests (omega (arith, lt)) accepts
 
-    pub not_none : IsFitted settings.unordered events requests frames None → ⊥
+    pub not_none : IsFitted settings.padded settings.unordered events requests frames None → ⊥
     not_none none = none turn.before.0 (fits_of_choice place events requests begins settings.unordered frames turn.before.0 cut_are turn.before.1)
 
     pub cut_long : (n : ℕ) → n ≡ f.number → n < length frames
@@ -140,15 +142,15 @@ module _ (settings : JudgeSettings) (events : List Event) (walk : Walk) (place :
         ap (λ e. meaning e frame.port sent) entities ∙ ap₂ (λ p b. meaning (version events v) p b) port bytes
 
     -- all of it together
-    pub wrong_frame_is : (n : ℕ) (frame : Frame) (versions : ℕ → ℕ) (at_least at_most : ℕ) (sent : List ℕ) (end : End) (runs : Vec Run Global)
-        → n ≡ f.number → frame ≡ kept.frame → Suits settings.unordered events requests frames versions
+    pub wrong_frame_is : (n : ℕ) (frame : Frame) (versions : ℕ → ℕ) (at_least at_most : ℕ) (extent : Extent) (sent : List ℕ) (end : End) (runs : Vec Run Global)
+        → n ≡ f.number → frame ≡ kept.frame → Suits settings.padded settings.unordered events requests frames versions
         → IsLeastLeft settings.unordered frames versions frame.port n frame.least at_least
-        → IsMostLeft settings.unordered events requests frames frame.port n frame.most at_most
-        → sent ≡ f.bytes → IsEndAs f.seen end
+        → IsMostLeft settings.padded settings.unordered events requests frames frame.port n frame.most at_most
+        → extent ≡ f.extent → sent ≡ f.bytes → IsEndAs f.seen end
         → AreRuns (λ v. meaning (after (take v requests)) frame.port sent) sent at_least at_most runs.items
         → IsWrongFrame settings events place
-        (record { number = n; port = frame.port; sent_line = frame.sent + 1; sent = sent; seen = end; at_least = at_least; at_most = at_most; runs = runs })
-    wrong_frame_is n frame versions at_least at_most sent end runs number is fits least most bytes ended are =
+        (record { number = n; port = frame.port; sent_line = frame.sent + 1; extent = extent; sent = sent; seen = end; at_least = at_least; at_most = at_most; runs = runs })
+    wrong_frame_is n frame versions at_least at_most extent sent end runs number is fits least most known bytes ended are =
         let port : frame.port ≡ f.port = ap (λ (x : Frame). x.port) is ∙ kept.kept.port in
         record {
           f = f;
@@ -157,42 +159,43 @@ module _ (settings : JudgeSettings) (events : List Event) (walk : Walk) (place :
           number = number;
           port = port;
           line = ap (λ m. m + 1) (ap (λ (x : Frame). x.sent) is ∙ kept.kept.sent);
+          extent = known;
           sent = bytes;
           seen = ended;
-          at_least = subst (λ l. IsAtLeast settings.unordered (take place events) f l at_least)
+          at_least = subst (λ l. IsAtLeast settings.padded settings.unordered (take place events) f l at_least)
               (ap (λ (x : Frame). x.least) is ∙ kept.kept.least ∙ ap least_behind sent_front)
               (at_least_is place events requests begins frames cut_are f settings.unordered versions frame.least at_least fits
               (subst (λ m. IsLeastLeft settings.unordered frames versions f.port m frame.least at_least) number
               (subst (λ p. IsLeastLeft settings.unordered frames versions p n frame.least at_least) port least)));
-          at_most = subst (λ m. IsAtMost settings.unordered (take place events) f m at_most) (most_is frame is)
+          at_most = subst (λ m. IsAtMost settings.padded settings.unordered (take place events) f m at_most) (most_is frame is)
               (at_most_is place events requests begins frames cut_are f settings.unordered frame.most at_most
-              (subst (λ m. IsMostLeft settings.unordered events requests frames f.port m frame.most at_most) number
-              (subst (λ p. IsMostLeft settings.unordered events requests frames p n frame.most at_most) port most)));
+              (subst (λ m. IsMostLeft settings.padded settings.unordered events requests frames f.port m frame.most at_most) number
+              (subst (λ p. IsMostLeft settings.padded settings.unordered events requests frames p n frame.most at_most) port most)));
           runs = subst (λ b. AreRuns (λ v. meaning (version events v) f.port f.bytes) b at_least at_most runs.items) bytes
               (same_verdicts (λ v. meaning (after (take v requests)) frame.port sent) (λ v. meaning (version events v) f.port f.bytes) sent at_least at_most runs.items
-              (λ v le. meant frame sent v is bytes (let top = most_left settings.unordered events requests frames frame.port n frame.most at_most most in omega (arith, le, top))) are);
+              (λ v le. meant frame sent v is bytes (let top = most_left settings.padded settings.unordered events requests frames frame.port n frame.most at_most most in omega (arith, le, top))) are);
         }
 
     -- the same, with what each call was given
-    pub wrong_frame_by : (n : ℕ) (frame : Frame) (at_least at_most : ℕ) (sent : List ℕ) (end : End) (runs : Vec Run Global)
+    pub wrong_frame_by : (n : ℕ) (frame : Frame) (at_least at_most : ℕ) (extent : Extent) (sent : List ℕ) (end : End) (runs : Vec Run Global)
         → n ≡ f.number → frame ≡ kept.frame
         → (swept_requests : List Request) (swept_frames : List Frame) (found : Option (Vec ℕ Global)) (versions : Vec ℕ Global)
-        → swept_requests ≡ requests → swept_frames ≡ frames → found ≡ Some versions → IsFitted settings.unordered events swept_requests swept_frames found
+        → swept_requests ≡ requests → swept_frames ≡ frames → found ≡ Some versions → IsFitted settings.padded settings.unordered events swept_requests swept_frames found
         → (given : List ℕ) → given ≡ versions.items
         → IsLeastLeft settings.unordered frames (slice_index given) frame.port n frame.least at_least
-        → IsMostLeft settings.unordered events requests frames frame.port n frame.most at_most
-        → sent ≡ f.bytes → IsEndAs f.seen end
+        → IsMostLeft settings.padded settings.unordered events requests frames frame.port n frame.most at_most
+        → extent ≡ f.extent → sent ≡ f.bytes → IsEndAs f.seen end
         → (run_requests : List Request) (bytes : List ℕ) → run_requests ≡ requests → bytes ≡ sent
         → AreRuns (λ v. meaning (after (take v run_requests)) frame.port bytes) bytes at_least at_most runs.items
         → IsWrongFrame settings events place
-        (record { number = n; port = frame.port; sent_line = frame.sent + 1; sent = sent; seen = end; at_least = at_least; at_most = at_most; runs = runs })
-    wrong_frame_by n frame at_least at_most sent end runs number is swept_requests swept_frames found versions same_r same_f some swept given same_v least most bytes ended
+        (record { number = n; port = frame.port; sent_line = frame.sent + 1; extent = extent; sent = sent; seen = end; at_least = at_least; at_most = at_most; runs = runs })
+    wrong_frame_by n frame at_least at_most extent sent end runs number is swept_requests swept_frames found versions same_r same_f some swept given same_v least most known bytes ended
         run_requests run_bytes same_run same_bytes are =
-        let fits : Suits settings.unordered events requests frames (slice_index versions.items) =
-        subst (λ r. Suits settings.unordered events r frames (slice_index versions.items)) same_r
-        (subst (λ fs. Suits settings.unordered events swept_requests fs (slice_index versions.items)) same_f
-        (subst (IsFitted settings.unordered events swept_requests swept_frames) some swept)) in
-        wrong_frame_is n frame (slice_index versions.items) at_least at_most sent end runs number is fits
-        (subst (λ l. IsLeastLeft settings.unordered frames (slice_index l) frame.port n frame.least at_least) same_v least) most bytes ended
+        let fits : Suits settings.padded settings.unordered events requests frames (slice_index versions.items) =
+        subst (λ r. Suits settings.padded settings.unordered events r frames (slice_index versions.items)) same_r
+        (subst (λ fs. Suits settings.padded settings.unordered events swept_requests fs (slice_index versions.items)) same_f
+        (subst (IsFitted settings.padded settings.unordered events swept_requests swept_frames) some swept)) in
+        wrong_frame_is n frame (slice_index versions.items) at_least at_most extent sent end runs number is fits
+        (subst (λ l. IsLeastLeft settings.unordered frames (slice_index l) frame.port n frame.least at_least) same_v least) most known bytes ended
         (subst (λ r. AreRuns (λ v. meaning (after (take v r)) frame.port sent) sent at_least at_most runs.items) same_run
         (subst (λ b. AreRuns (λ v. meaning (after (take v run_requests)) frame.port b) b at_least at_most runs.items) same_bytes are))

@@ -10,11 +10,12 @@ use Rattle.mib_state.specs.After.{accepted, accepted_from, after, after_from, is
 use Rattle.frame_meaning.specs.Meaning.{meaning}
 use Rattle.bench_history.specs.History.{frames_in}
 use Rattle.bench_history.specs.declared.event.Event.{Event}
-use Rattle.bench_history.specs.declared.event.Event.TheVariants.{Entered, Replied}
+use Rattle.bench_history.specs.declared.event.Event.TheVariants.{Entered}
 use Rattle.bench_judge.specs.Asked.{accepted_of, asked, request_in, version}
-use Rattle.bench_judge.specs.Replies.{AreRight, IsRight}
+use Rattle.bench_sight.specs.Sight.{IsSeenAs}
+use Rattle.bench_judge.specs.Admitted.{AreAdmitted, IsAdmitted}
 use Rattle.bench_judge.specs.Windows.{least_behind, most_behind}
-use Rattle.bench_judge.specs.Explained.{EndedFrame, IsChoice, IsEnded, IsExplained, IsSeenAs, IsVersionOf}
+use Rattle.bench_judge.specs.Explained.{EndedFrame, IsChoice, IsEnded, IsExplained, IsVersionOf}
 use Rattle.bench_judge.specs.declared.settings.JudgeSettings.{JudgeSettings}
 use Rattle.bench_judge.proofs.Lists.{front_has, in_front}
 
@@ -60,7 +61,7 @@ most_grows i k events le =
 -- one of a front is one of all
 pub ended_of_front : (k : ℕ) (events : List Event) (f : EndedFrame) → IsEnded (take k events) f → (f.ended < k) × IsEnded events f
 ended_of_front k events f is =
-    let sent = in_front k f.sent events (Entered f.port f.bytes) is.entered in
+    let sent = in_front k f.sent events (Entered f.port f.extent f.bytes) is.entered in
     let ended = in_front k f.ended events f.seen is.seen in (
       ended.0,
       record {
@@ -69,6 +70,7 @@ ended_of_front k events f is =
         later = is.later;
         seen = ended.1;
         is_end = is.is_end;
+        enough = is.enough;
       },
     )
 
@@ -81,41 +83,42 @@ ended_in_front k events f lt is =
       later = is.later;
       seen = front_has k f.ended events lt ∙ is.seen;
       is_end = is.is_end;
+      enough = is.enough;
     }
 
 -- ---- versions
 
 -- a version that a frame of a front may have in all it may have in the front
-pub version_in_front : (k v : ℕ) (events : List Event) (f : EndedFrame) → f.sent < f.ended → f.ended < k
-    → IsVersionOf events f v → IsVersionOf (take k events) f v
-version_in_front k v events f later lt is =
+pub version_in_front : {padded : Bool} (k v : ℕ) (events : List Event) (f : EndedFrame) → f.sent < f.ended → f.ended < k
+    → IsVersionOf padded events f v → IsVersionOf padded (take k events) f v
+version_in_front {padded} k v events f later lt is =
     record {
       least = subst (λ l. least_behind l ≤ v) (sym (take-take f.sent k events (omega (arith, later, lt)))) is.least;
       most = subst (λ l. v ≤ most_behind l) (sym (take-take f.ended k events (omega (arith, lt)))) is.most;
-      seen = subst (λ e. IsSeenAs (meaning e f.port f.bytes) f.seen) (version_front k v events (omega (arith, is.most, most_grows f.ended k events (omega (arith, lt))))) is.seen;
+      seen = subst (λ e. IsSeenAs padded (meaning e f.port f.bytes) f.extent f.seen) (version_front k v events (omega (arith, is.most, most_grows f.ended k events (omega (arith, lt))))) is.seen;
     }
 
 -- and the other way round
-pub version_of_front : (k v : ℕ) (events : List Event) (f : EndedFrame) → f.sent < f.ended → f.ended < k
-    → IsVersionOf (take k events) f v → IsVersionOf events f v
-version_of_front k v events f later lt is =
+pub version_of_front : {padded : Bool} (k v : ℕ) (events : List Event) (f : EndedFrame) → f.sent < f.ended → f.ended < k
+    → IsVersionOf padded (take k events) f v → IsVersionOf padded events f v
+version_of_front {padded} k v events f later lt is =
     let least = subst (λ l. least_behind l ≤ v) (take-take f.sent k events (omega (arith, later, lt))) is.least in
     let most : v ≤ most_behind (take f.ended events) = subst (λ l. v ≤ most_behind l) (take-take f.ended k events (omega (arith, lt))) is.most in
     record {
       least = least;
       most = most;
-      seen = subst (λ e. IsSeenAs (meaning e f.port f.bytes) f.seen) (sym (version_front k v events (omega (arith, most, most_grows f.ended k events (omega (arith, lt)))))) is.seen;
+      seen = subst (λ e. IsSeenAs padded (meaning e f.port f.bytes) f.extent f.seen) (sym (version_front k v events (omega (arith, most, most_grows f.ended k events (omega (arith, lt)))))) is.seen;
     }
 
 -- ---- explained fronts
 
-pub right_front : (modelled : Bool) (k : ℕ) (events : List Event) → AreRight modelled events → AreRight modelled (take k events)
-right_front modelled k events right i bytes is =
-    let at = in_front k i events (Replied bytes) is in
-    subst (λ l. IsRight modelled l bytes) (sym (take-take i k events (omega (arith, at.0)))) (right i bytes at.1)
+pub admitted_front : (settings : JudgeSettings) (k : ℕ) (events : List Event) → AreAdmitted settings events → AreAdmitted settings (take k events)
+admitted_front settings k events admitted i event is =
+    let at = in_front k i events event is in
+    subst (λ l. IsAdmitted settings l event) (sym (take-take i k events (omega (arith, at.0)))) (admitted i event at.1)
 
-pub choice_front : (unordered : Bool) (k : ℕ) (events : List Event) (versions : ℕ → ℕ)
-    → IsChoice unordered events versions → IsChoice unordered (take k events) versions
+pub choice_front : {padded : Bool} (unordered : Bool) (k : ℕ) (events : List Event) (versions : ℕ → ℕ)
+    → IsChoice padded unordered events versions → IsChoice padded unordered (take k events) versions
 choice_front unordered k events versions choice =
     record {
       each = λ f is.
@@ -128,7 +131,7 @@ choice_front unordered k events versions choice =
 pub explained_front : (settings : JudgeSettings) (k : ℕ) (events : List Event) → IsExplained settings events → IsExplained settings (take k events)
 explained_front settings k events is =
     record {
-      replies = right_front settings.modelled k events is.replies;
+      admitted = admitted_front settings k events is.admitted;
       versions = is.versions;
       choice = choice_front settings.unordered k events is.versions is.choice;
     }

@@ -25,12 +25,12 @@ pub mod Raised
 pub mod Requests
 pub mod Risen
 pub mod Rises
+pub mod SeenBy
 pub mod Settling
 pub mod Sightings
-pub mod Spelling
 pub mod Swept
 pub mod Turns
-pub mod Verdicts
 pub mod Waits
+pub mod WasJudged
 pub mod Whole
 pub mod Wrongs

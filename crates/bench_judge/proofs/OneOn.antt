@@ -1,37 +1,41 @@
 -- What is kept of events, one event on.
-use Rattle.std.proofs.Common.{◌≡◌, ◌<◌, ◌≤◌, ◌+◌, ℕ, Bool, true, false, cond, eqb, ltb, not, List, [], ◌∷◌, ◌++◌, length, take, set, max, Option, Some, None, inl, inr, refl, ap, sym, subst, ◌∙◌, arith}
+use Rattle.std.proofs.Common.{◌≡◌, ◌<◌, ◌≤◌, ◌+◌, ℕ, Bool, true, false, ◌&&◌, cond, eqb, leb, ltb, not, List, [], ◌∷◌, ◌++◌, length, take, set, max, Option, Some, None, inl, inr, refl, ap, sym, subst, ◌∙◌, arith}
 use Rattle.std.specs.List.{slice_get}
 use Rattle.std.proofs.lemmas.Bool.{and_parts, cases_lt, leb-true, ltb-true}
 use Rattle.std.proofs.lemmas.Option.{same_Some, slice_get_within}
 use Rattle.omci_msg.specs.declared.request.Request.{Request}
-use Rattle.bench_history.specs.History.{frames_in, has_ended, is_end_of, is_frame, is_reply, may_follow, replies_in}
+use Rattle.bench_history.specs.History.{frames_in, has_ended, is_end_of, is_ended, is_frame, is_open, is_reply, may_follow, replies_in}
 use Rattle.bench_history.specs.declared.event.Event.{Event}
-use Rattle.bench_history.specs.declared.event.Event.TheVariants.{Sent, Replied, Entered, Left, Dropped, Waited, Nothing}
+use Rattle.bench_history.specs.declared.event.Event.TheVariants.{Sent, Replied, Entered, Left, Strayed, Dropped, Lost, Waited, Ended, Nothing}
+use Rattle.bench_history.specs.declared.extent.Extent.{Extent}
+use Rattle.bench_history.specs.declared.gem.SeenGem.{SeenGem}
+use Rattle.bench_sight.specs.Sight.{is_enough}
+use Rattle.bench_judge.specs.Admitted.{IsAdmitted}
 use Rattle.bench_judge.specs.Asked.{request_in, wanted}
 use Rattle.bench_judge.specs.Replies.{IsRight}
 use Rattle.bench_judge.specs.Windows.{most_behind, waited, waits_for}
-use Rattle.bench_judge.specs.Scene.{AreFramesOf, AreRightUpTo, IsAdmitted, IsAsking, IsScene}
+use Rattle.bench_judge.specs.Scene.{AreAdmittedUpTo, AreFramesOf, IsAsking, IsScene, ended_by}
 use Rattle.bench_judge.specs.declared.asking.Asking.{Asking}
 use Rattle.bench_judge.specs.declared.frame.Frame.{Frame}
 use Rattle.bench_judge.specs.declared.scene.Scene.{Scene}
+use Rattle.bench_judge.specs.declared.settings.JudgeSettings.{JudgeSettings}
 use Rattle.bench_judge.proofs.Places.{element_at}
 use Rattle.bench_judge.proofs.Counted.{replies_with}
 use Rattle.bench_judge.proofs.Messages.{asking_same, asks_nothing, wanted_grows}
 use Rattle.bench_judge.proofs.Sightings.{IsSentFrame, frames_ended, frames_more, frames_same}
 use Rattle.bench_judge.proofs.Waits.{waited_with}
 
--- ---- the replies
+-- ---- what is admitted
 
-right_more : (modelled : Bool) (events : List Event) (place : ℕ) (event : Event) → slice_get events place ≡ Some event
-    → IsAdmitted modelled (take place events) event → AreRightUpTo modelled events place → AreRightUpTo modelled events (place + 1)
-right_more modelled events place event at admitted right i bytes less here =
+admitted_more : (settings : JudgeSettings) (events : List Event) (place : ℕ) (event : Event) → slice_get events place ≡ Some event
+    → IsAdmitted settings (take place events) event → AreAdmittedUpTo settings events place → AreAdmittedUpTo settings events (place + 1)
+admitted_more settings events place event at admitted before i other less here =
     elim (cases_lt i place) [
-      | inl above ↦ right i bytes above here
+      | inl above ↦ before i other above here
       | inr not_above ↦
           let same : i ≡ place = omega (arith, less, not_above) in
-          let is : event ≡ Replied bytes = same_Some event (Replied bytes) (sym at ∙ ap (slice_get events) (sym same) ∙ here) in
-          let admits : IsAdmitted modelled (take place events) (Replied bytes) = subst (λ (e : Event). IsAdmitted modelled (take place events) e) is admitted in
-          subst (λ (k : ℕ). IsRight modelled (take k events) bytes) (sym same) admits
+          let is : event ≡ other = same_Some event other (sym at ∙ ap (slice_get events) (sym same) ∙ here) in
+          subst (λ (k : ℕ). IsAdmitted settings (take k events) other) (sym same) (subst (λ (e : Event). IsAdmitted settings (take place events) e) is admitted)
     ]
 
 at_most_one : (b : Bool) → cond b 1 0 ≤ 1
@@ -41,15 +45,15 @@ at_most_one false = omega arith
 -- no more replies are waited for than were seen
 waits_within : (before : List Event) (replies : Option ℕ) (n : ℕ) → n ≡ replies_in before → may_follow before (Waited replies) ≡ true
     → waits_for before (Waited replies) ≤ n
-waits_within before (Some k) n same may = omega (arith, same, leb-true k (replies_in before) may)
+waits_within before (Some k) n same may = omega (arith, same, leb-true k (replies_in before) (and_parts (not (is_ended before)) (leb k (replies_in before)) may).1)
 waits_within before None n same may = omega (arith, same)
 
 -- ---- an event more
 
 -- what an event adds
 pub record IsOneOn (events : List Event) (place : ℕ) (event : Event) (old new : Scene) : Type 0 where
-  pub modelled : new.modelled ≡ old.modelled
-  pub asking : IsAsking old.modelled events (place + 1) new.asking
+  pub settings : new.settings ≡ old.settings
+  pub asking : IsAsking old.settings.modelled events (place + 1) new.asking
   pub frames : AreFramesOf events (place + 1) new.frames.items
   pub replies : new.replies ≡ old.replies + cond (is_reply event) 1 0
   pub answered : new.replies ≤ length old.asking.due.items
@@ -57,36 +61,36 @@ pub record IsOneOn (events : List Event) (place : ℕ) (event : Event) (old new 
   pub seen : waits_for (take place events) event ≤ old.replies
 
 one_on : (events : List Event) (place : ℕ) (event : Event) (old new : Scene) → slice_get events place ≡ Some event
-    → IsAdmitted old.modelled (take place events) event
+    → IsAdmitted old.settings (take place events) event
     → IsOneOn events place event old new → IsScene events place old → IsScene events (place + 1) new
 one_on events place event old new at admitted one is =
     let one_reply : cond (is_reply event) 1 0 ≤ 1 = at_most_one (is_reply event) in
     record {
-      asking = subst (λ (m : Bool). IsAsking m events (place + 1) new.asking) (sym one.modelled) one.asking;
+      asking = subst (λ (s : JudgeSettings). IsAsking s.modelled events (place + 1) new.asking) (sym one.settings) one.asking;
       frames = one.frames;
       replies = omega (arith, one.replies, is.replies, replies_with events place event at);
       answered = omega (arith, one.answered, is.asking.count, one.asking.count, wanted_grows events place event at);
       few = omega (arith, one.replies, is.few, one_reply);
       waited = one.waited ∙ ap (λ (w : ℕ). max w (waits_for (take place events) event)) is.waited ∙ sym (waited_with events place event at);
       seen = omega (arith, one.waited, one.replies, one.seen, is.seen);
-      right = subst (λ (m : Bool). AreRightUpTo m events (place + 1)) (sym one.modelled) (right_more old.modelled events place event at admitted is.right);
+      admitted = subst (λ (s : JudgeSettings). AreAdmittedUpTo s events (place + 1)) (sym one.settings) (admitted_more old.settings events place event at admitted is.admitted);
     }
 
 -- what an event that was no message leaves
 unasked : (events : List Event) (place : ℕ) (event : Event) (old : Scene) → slice_get events place ≡ Some event → request_in event ≡ None
-    → IsScene events place old → IsAsking old.modelled events (place + 1) old.asking
+    → IsScene events place old → IsAsking old.settings.modelled events (place + 1) old.asking
 unasked events place event old at none is =
-    asking_same old.modelled events place old.asking (asks_nothing events place event at none) is.asking
+    asking_same old.settings.modelled events place old.asking (asks_nothing events place event at none) is.asking
 
 -- ---- each kind of event
 
 pub scene_sent : (events : List Event) (place : ℕ) (message : List ℕ) (old new : Scene) → slice_get events place ≡ Some (Sent message)
-    → new.modelled ≡ old.modelled → IsAsking old.modelled events (place + 1) new.asking → new.frames ≡ old.frames
+    → new.settings ≡ old.settings → IsAsking old.settings.modelled events (place + 1) new.asking → new.frames ≡ old.frames
     → new.replies ≡ old.replies → new.waited ≡ old.waited
     → IsScene events place old → IsScene events (place + 1) new
-scene_sent events place message old new at modelled asking frames replies waited is =
+scene_sent events place message old new at same_settings asking frames replies waited is =
     one_on events place (Sent message) old new at tt (record {
-      modelled = modelled;
+      settings = same_settings;
       asking = asking;
       frames = subst (λ (fs : List Frame). AreFramesOf events (place + 1) fs) (sym (ap (λ v. v.items) frames))
           (frames_same events place (Sent message) old.frames.items at refl (λ n. refl) is.frames);
@@ -97,15 +101,15 @@ scene_sent events place message old new at modelled asking frames replies waited
     }) is
 
 pub scene_replied : (events : List Event) (place : ℕ) (bytes : List ℕ) (old new : Scene) → slice_get events place ≡ Some (Replied bytes)
-    → IsRight old.modelled (take place events) bytes
-    → new.modelled ≡ old.modelled → new.asking ≡ old.asking → new.frames ≡ old.frames
+    → IsRight old.settings.modelled (take place events) bytes
+    → new.settings ≡ old.settings → new.asking ≡ old.asking → new.frames ≡ old.frames
     → new.replies ≡ old.replies + 1 → new.waited ≡ old.waited
     → IsScene events place old → IsScene events (place + 1) new
-scene_replied events place bytes old new at right modelled asking frames replies waited is =
+scene_replied events place bytes old new at right same_settings asking frames replies waited is =
     let next = slice_get_within (wanted (take place events)) (replies_in (take place events)) right.answers right.next in
     one_on events place (Replied bytes) old new at right (record {
-      modelled = modelled;
-      asking = subst (λ (a : Asking). IsAsking old.modelled events (place + 1) a) (sym asking) (unasked events place (Replied bytes) old at refl is);
+      settings = same_settings;
+      asking = subst (λ (a : Asking). IsAsking old.settings.modelled events (place + 1) a) (sym asking) (unasked events place (Replied bytes) old at refl is);
       frames = subst (λ (fs : List Frame). AreFramesOf events (place + 1) fs) (sym (ap (λ v. v.items) frames))
           (frames_same events place (Replied bytes) old.frames.items at refl (λ n. refl) is.frames);
       replies = replies;
@@ -114,17 +118,17 @@ scene_replied events place bytes old new at right modelled asking frames replies
       seen = omega arith;
     }) is
 
-pub scene_entered : (events : List Event) (place port : ℕ) (bytes : List ℕ) (frame : Frame) (old new : Scene)
-    → slice_get events place ≡ Some (Entered port bytes) → IsSentFrame events place port frame
-    → new.modelled ≡ old.modelled → new.asking ≡ old.asking → new.frames.items ≡ old.frames.items ++ frame ∷ []
+pub scene_entered : (events : List Event) (place port : ℕ) (extent : Extent) (bytes : List ℕ) (frame : Frame) (old new : Scene)
+    → slice_get events place ≡ Some (Entered port extent bytes) → IsSentFrame events place port (is_enough extent bytes) frame
+    → new.settings ≡ old.settings → new.asking ≡ old.asking → new.frames.items ≡ old.frames.items ++ frame ∷ []
     → new.replies ≡ old.replies → new.waited ≡ old.waited
     → IsScene events place old → IsScene events (place + 1) new
-scene_entered events place port bytes frame old new at sent modelled asking frames replies waited is =
-    one_on events place (Entered port bytes) old new at tt (record {
-      modelled = modelled;
-      asking = subst (λ (a : Asking). IsAsking old.modelled events (place + 1) a) (sym asking) (unasked events place (Entered port bytes) old at refl is);
+scene_entered events place port extent bytes frame old new at sent same_settings asking frames replies waited is =
+    one_on events place (Entered port extent bytes) old new at tt (record {
+      settings = same_settings;
+      asking = subst (λ (a : Asking). IsAsking old.settings.modelled events (place + 1) a) (sym asking) (unasked events place (Entered port extent bytes) old at refl is);
       frames = subst (λ (fs : List Frame). AreFramesOf events (place + 1) fs) (sym frames)
-          (frames_more events place port bytes old.frames.items frame at sent is.frames);
+          (frames_more events place port extent bytes old.frames.items frame at sent is.frames);
       replies = omega (arith, replies);
       answered = omega (arith, replies, is.answered);
       waited = omega (arith, waited);
@@ -133,13 +137,13 @@ scene_entered events place port bytes frame old new at sent modelled asking fram
 
 pub scene_waited : (events : List Event) (place : ℕ) (replies : Option ℕ) (old new : Scene) → slice_get events place ≡ Some (Waited replies)
     → may_follow (take place events) (Waited replies) ≡ true
-    → new.modelled ≡ old.modelled → new.asking ≡ old.asking → new.frames ≡ old.frames → new.replies ≡ old.replies
+    → new.settings ≡ old.settings → new.asking ≡ old.asking → new.frames ≡ old.frames → new.replies ≡ old.replies
     → new.waited ≡ max old.waited (waits_for (take place events) (Waited replies))
     → IsScene events place old → IsScene events (place + 1) new
-scene_waited events place replies old new at may modelled asking frames same waited is =
+scene_waited events place replies old new at may same_settings asking frames same waited is =
     one_on events place (Waited replies) old new at tt (record {
-      modelled = modelled;
-      asking = subst (λ (a : Asking). IsAsking old.modelled events (place + 1) a) (sym asking) (unasked events place (Waited replies) old at refl is);
+      settings = same_settings;
+      asking = subst (λ (a : Asking). IsAsking old.settings.modelled events (place + 1) a) (sym asking) (unasked events place (Waited replies) old at refl is);
       frames = subst (λ (fs : List Frame). AreFramesOf events (place + 1) fs) (sym (ap (λ v. v.items) frames))
           (frames_same events place (Waited replies) old.frames.items at refl (λ n. refl) is.frames);
       replies = omega (arith, same);
@@ -148,17 +152,35 @@ scene_waited events place replies old new at may modelled asking frames same wai
       seen = waits_within (take place events) replies old.replies is.replies may;
     }) is
 
-pub scene_nothing : (events : List Event) (place : ℕ) (old : Scene) → slice_get events place ≡ Some Nothing
+-- what asks nothing, sends no frame and ends none, and waits for nothing
+pub record IsIdle (event : Event) : Type 0 where
+  pub asks : request_in event ≡ None
+  pub enters : is_frame event ≡ false
+  pub ends : (n : ℕ) → is_end_of n event ≡ false
+  pub replies : is_reply event ≡ false
+  pub waits : (before : List Event) → waits_for before event ≡ 0
+
+pub nothing_idle : IsIdle Nothing
+nothing_idle = record { asks = refl; enters = refl; ends = λ n. refl; replies = refl; waits = λ before. refl }
+
+pub ended_idle : IsIdle Ended
+ended_idle = record { asks = refl; enters = refl; ends = λ n. refl; replies = refl; waits = λ before. refl }
+
+pub stray_idle : (gem : SeenGem) (extent : Extent) (bytes : List ℕ) → IsIdle (Strayed gem extent bytes)
+stray_idle gem extent bytes = record { asks = refl; enters = refl; ends = λ n. refl; replies = refl; waits = λ before. refl }
+
+pub scene_idle : (events : List Event) (place : ℕ) (event : Event) (old : Scene) → slice_get events place ≡ Some event → IsIdle event
+    → IsAdmitted old.settings (take place events) event
     → IsScene events place old → IsScene events (place + 1) old
-scene_nothing events place old at is =
-    one_on events place Nothing old old at tt (record {
-      modelled = refl;
-      asking = unasked events place Nothing old at refl is;
-      frames = frames_same events place Nothing old.frames.items at refl (λ n. refl) is.frames;
-      replies = omega arith;
+scene_idle events place event old at idle admitted is =
+    one_on events place event old old at admitted (record {
+      settings = refl;
+      asking = unasked events place event old at idle.asks is;
+      frames = frames_same events place event old.frames.items at idle.enters idle.ends is.frames;
+      replies = omega (arith, ap {B = ℕ} (λ (b : Bool). cond b 1 0) idle.replies);
       answered = is.answered;
-      waited = omega arith;
-      seen = omega arith;
+      waited = omega (arith, idle.waits (take place events));
+      seen = omega (arith, idle.waits (take place events));
     }) is
 
 -- ---- a frame that is ended
@@ -170,18 +192,23 @@ pub record IsEnd (number : ℕ) (event : Event) : Type 0 where
   pub enters : is_frame event ≡ false
   pub replies : is_reply event ≡ false
   pub waits : (before : List Event) → waits_for before event ≡ 0
-  pub admitted : (modelled : Bool) (before : List Event) → IsAdmitted modelled before event
+  pub admitted : (settings : JudgeSettings) (before : List Event) → IsAdmitted settings before event
   pub sent : (before : List Event) → may_follow before event ≡ true → number < frames_in before
 
-pub left_ends : (gem number : ℕ) (bytes : List ℕ) → IsEnd number (Left gem number bytes)
-left_ends gem number bytes = record {
+-- an event that may follow speaks of an open frame
+open_frame : (before : List Event) (number : ℕ) → not (is_ended before) && is_open number before ≡ true → number < frames_in before
+open_frame before number may =
+    ltb-true number (frames_in before) (and_parts (ltb number (frames_in before)) (not (has_ended number before)) (and_parts (not (is_ended before)) (is_open number before) may).1).0
+
+pub left_ends : (gem : SeenGem) (extent : Extent) (number : ℕ) (bytes : List ℕ) → IsEnd number (Left gem extent number bytes)
+left_ends gem extent number bytes = record {
   ends = λ n. refl;
   asks = refl;
   enters = refl;
   replies = refl;
   waits = λ before. refl;
-  admitted = λ modelled before. tt;
-  sent = λ before may. ltb-true number (frames_in before) (and_parts (ltb number (frames_in before)) (not (has_ended number before)) may).0;
+  admitted = λ settings before. tt;
+  sent = λ before may. open_frame before number may;
 }
 
 pub dropped_ends : (number : ℕ) → IsEnd number (Dropped number)
@@ -191,28 +218,39 @@ dropped_ends number = record {
   enters = refl;
   replies = refl;
   waits = λ before. refl;
-  admitted = λ modelled before. tt;
-  sent = λ before may. ltb-true number (frames_in before) (and_parts (ltb number (frames_in before)) (not (has_ended number before)) may).0;
+  admitted = λ settings before. tt;
+  sent = λ before may. open_frame before number may;
+}
+
+pub lost_ends : (number : ℕ) → IsEnd number (Lost number)
+lost_ends number = record {
+  ends = λ n. refl;
+  asks = refl;
+  enters = refl;
+  replies = refl;
+  waits = λ before. refl;
+  admitted = λ settings before. tt;
+  sent = λ before may. open_frame before number may;
 }
 
 pub scene_ended : (events : List Event) (place number most : ℕ) (event : Event) (old new : Scene)
     → slice_get events place ≡ Some event → IsEnd number event → may_follow (take place events) event ≡ true
-    → new.modelled ≡ old.modelled → new.asking ≡ old.asking
+    → new.settings ≡ old.settings → new.asking ≡ old.asking
     → most ≡ length old.asking.requests.items
     → ((frame : Frame) → slice_get old.frames.items number ≡ Some frame
-    → new.frames.items ≡ set old.frames.items number (record frame { ended = Some place; most = most }))
+    → new.frames.items ≡ set old.frames.items number (ended_by place most frame))
     → new.replies ≡ old.replies → new.waited ≡ old.waited
     → IsScene events place old → IsScene events (place + 1) new
-scene_ended events place number most event old new at ends may modelled asking greatest frames replies waited is =
+scene_ended events place number most event old new at ends may same_settings asking greatest frames replies waited is =
     let within : number < length old.frames.items = omega (arith, ends.sent (take place events) may, is.frames.count) in
     let here = element_at old.frames.items number within in
     let frame : Frame = here.0 in
     let behind : most ≡ most_behind (take place events) = greatest ∙ ap (λ (qs : List Request). length qs) is.asking.requests in
-    let written : new.frames.items ≡ set old.frames.items number (record frame { ended = Some place; most = most_behind (take place events) }) =
-    frames frame here.1 ∙ ap (λ (m : ℕ). set old.frames.items number (record frame { ended = Some place; most = m })) behind in
-    one_on events place event old new at (ends.admitted old.modelled (take place events)) (record {
-      modelled = modelled;
-      asking = subst (λ (a : Asking). IsAsking old.modelled events (place + 1) a) (sym asking) (unasked events place event old at ends.asks is);
+    let written : new.frames.items ≡ set old.frames.items number (ended_by place (most_behind (take place events)) frame) =
+    frames frame here.1 ∙ ap (λ (m : ℕ). set old.frames.items number (ended_by place m frame)) behind in
+    one_on events place event old new at (ends.admitted old.settings (take place events)) (record {
+      settings = same_settings;
+      asking = subst (λ (a : Asking). IsAsking old.settings.modelled events (place + 1) a) (sym asking) (unasked events place event old at ends.asks is);
       frames = subst (λ (fs : List Frame). AreFramesOf events (place + 1) fs) (sym written)
           (frames_ended events place number event old.frames.items frame at ends.enters ends.ends here.1 is.frames);
       replies = omega (arith, replies, ap {B = ℕ} (λ (b : Bool). cond b 1 0) ends.replies);

@@ -301,9 +301,9 @@ last_of_queue unordered frames n port tails of_port is m lt of_m one =
 
 -- ---- all frames
 
-pub begins : (unordered : Bool) (events : List Event) (requests : List Request) (frames : List Frame) (sweep : SweepState)
+pub begins : {padded : Bool} (unordered : Bool) (events : List Event) (requests : List Request) (frames : List Frame) (sweep : SweepState)
     → AreQueued unordered frames (length frames) sweep.next.items sweep.waiting.items → sweep.versions.items ≡ replicate (length frames) 0
-    → IsSoFar unordered events requests frames 0 0 sweep
+    → IsSoFar padded unordered events requests frames 0 0 sweep
 begins unordered events requests frames sweep is zeros = record {
   done = λ n. false;
   linked = record {

@@ -42,15 +42,16 @@ record StandsLike (frames : List Frame) (m : ℕ) (x : Frame) : Type 0 where
   at : slice_get frames m ≡ Some y
   like : IsLike x y
 
-module _ (unordered : Bool) (events : List Event) (requests : List Request) where
-  may_like : (x y : Frame) (v : ℕ) → IsLike x y → y.least ≤ v → MayHave events requests x v → MayHave events requests y v
+module _ (padded unordered : Bool) (events : List Event) (requests : List Request) where
+  may_like : (x y : Frame) (v : ℕ) → IsLike x y → y.least ≤ v → MayHave padded events requests x v → MayHave padded events requests y v
   may_like x y v like least may =
-      let s : IsSeenBy events x (after (take v requests)) = may.seen in
+      let s : IsSeenBy padded events x (after (take v requests)) = may.seen in
       record {
         least = least;
         most = omega (arith, like.most, may.most);
         seen = record {
           port = s.port;
+          extent = s.extent;
           bytes = s.bytes;
           entered = ap (slice_get events) like.sent ∙ s.entered;
           end = s.end;
@@ -96,17 +97,17 @@ module _ (unordered : Bool) (events : List Event) (requests : List Request) wher
         ] refl
 
     -- versions that fit the raised frames fit the frames, and that of the raised one isn't under the bound
-    pub fits_back : (v : ℕ → ℕ) → Fits unordered events requests raised v → Fits unordered events requests frames v × (from ≤ v n)
+    pub fits_back : (v : ℕ → ℕ) → Fits padded unordered events requests raised v → Fits padded unordered events requests frames v × (from ≤ v n)
     fits_back v fits = (
       record {
         each = λ m x at_m ended_m.
-            elim (m == n) as (λ b. (m == n) ≡ b → MayHave events requests x (v m)) [
+            elim (m == n) as (λ b. (m == n) ≡ b → MayHave padded events requests x (v m)) [
               | true ↦ λ same.
                   let here : m ≡ n = eqb-true m n same in
                   let x_is : f ≡ x = some_is f x (sym at ∙ ap (slice_get frames) (sym here) ∙ at_m) in
-                  let may : MayHave events requests g (v n) = fits.each n g at_raised ended in
-                  subst (λ k. MayHave events requests x (v k)) (sym here)
-                  (subst (λ z. MayHave events requests z (v n)) x_is (may_like g f (v n) back_like (omega (arith, over, may.least)) may))
+                  let may : MayHave padded events requests g (v n) = fits.each n g at_raised ended in
+                  subst (λ k. MayHave padded events requests x (v k)) (sym here)
+                  (subst (λ z. MayHave padded events requests z (v n)) x_is (may_like g f (v n) back_like (omega (arith, over, may.least)) may))
               | false ↦ λ differ. fits.each m x (set_other frames n m g (eqb-false m n differ) ∙ at_m) ended_m
             ] refl;
         ordered = λ order m k one other at_m at_k ended_m ended_k port lt.
@@ -118,17 +119,17 @@ module _ (unordered : Bool) (events : List Event) (requests : List Request) wher
     )
 
     -- and the other way round
-    pub fits_on : (v : ℕ → ℕ) → Fits unordered events requests frames v → from ≤ v n → Fits unordered events requests raised v
+    pub fits_on : (v : ℕ → ℕ) → Fits padded unordered events requests frames v → from ≤ v n → Fits padded unordered events requests raised v
     fits_on v fits le =
         record {
           each = λ m y at_m ended_m.
-              elim (m == n) as (λ b. (m == n) ≡ b → MayHave events requests y (v m)) [
+              elim (m == n) as (λ b. (m == n) ≡ b → MayHave padded events requests y (v m)) [
                 | true ↦ λ same.
                     let here : m ≡ n = eqb-true m n same in
                     let y_is : g ≡ y = some_is g y (sym at_raised ∙ ap (slice_get raised) (sym here) ∙ at_m) in
-                    let may : MayHave events requests f (v n) = fits.each n f at ended in
-                    subst (λ k. MayHave events requests y (v k)) (sym here)
-                    (subst (λ z. MayHave events requests z (v n)) y_is (may_like f g (v n) g_like le may))
+                    let may : MayHave padded events requests f (v n) = fits.each n f at ended in
+                    subst (λ k. MayHave padded events requests y (v k)) (sym here)
+                    (subst (λ z. MayHave padded events requests z (v n)) y_is (may_like f g (v n) g_like le may))
                 | false ↦ λ differ. fits.each m y (sym (set_other frames n m g (eqb-false m n differ)) ∙ at_m) ended_m
               ] refl;
           ordered = λ order m k one other at_m at_k ended_m ended_k port lt.
@@ -137,8 +138,8 @@ module _ (unordered : Bool) (events : List Event) (requests : List Request) wher
               fits.ordered order m k a.y b.y a.at b.at (ap is_some a.like.ended ∙ ended_m) (ap is_some b.like.ended ∙ ended_k) (a.like.port ∙ port ∙ sym b.like.port) lt;
         }
 
-    by_found : (found : Option (Vec ℕ Global)) → IsSwept unordered events requests raised found
-        → Decides (is_some found) ((v : ℕ → ℕ) × Fits unordered events requests frames v × (from ≤ v n))
+    by_found : (found : Option (Vec ℕ Global)) → IsSwept padded unordered events requests raised found
+        → Decides (is_some found) ((v : ℕ → ℕ) × Fits padded unordered events requests frames v × (from ≤ v n))
     by_found None none = ((λ bad. absurd (true≢false (sym bad))), λ some. absurd (none some.0 (fits_on some.0 some.1 some.2)))
     by_found (Some versions) least = (
       (λ yes. let back = fits_back (by_number versions) least.least.fits in (by_number versions, back.0, back.1)),
@@ -146,11 +147,11 @@ module _ (unordered : Bool) (events : List Event) (requests : List Request) wher
     )
 
     -- so the sweep of the raised frames decides
-    pub raised_decides : (swept : List Frame) (found : Option (Vec ℕ Global)) (r : Bool) → swept ≡ raised → IsSwept unordered events requests swept found → r ≡ is_some found
-        → Decides r ((v : ℕ → ℕ) × Fits unordered events requests frames v × (from ≤ v n))
+    pub raised_decides : (swept : List Frame) (found : Option (Vec ℕ Global)) (r : Bool) → swept ≡ raised → IsSwept padded unordered events requests swept found → r ≡ is_some found
+        → Decides r ((v : ℕ → ℕ) × Fits padded unordered events requests frames v × (from ≤ v n))
     raised_decides swept found r same is decides =
-        subst (λ b. Decides b ((v : ℕ → ℕ) × Fits unordered events requests frames v × (from ≤ v n))) (sym decides)
-        (by_found found (subst (λ fs. IsSwept unordered events requests fs found) same is))
+        subst (λ b. Decides b ((v : ℕ → ℕ) × Fits padded unordered events requests frames v × (from ≤ v n))) (sym decides)
+        (by_found found (subst (λ fs. IsSwept padded unordered events requests fs found) same is))
 
     g_most : g.most ≡ f.most
     g_most = refl
@@ -159,8 +160,8 @@ module _ (unordered : Bool) (events : List Event) (requests : List Request) wher
     raised_within within m y at_m = let a = of_raised m y at_m in omega (arith, a.like.most, within m a.y a.at)
 
 -- no events have a choice
-pub no_events : (unordered : Bool) (v : ℕ → ℕ) → IsChoice unordered [] v
-no_events unordered v =
+pub no_events : (padded unordered : Bool) (v : ℕ → ℕ) → IsChoice padded unordered [] v
+no_events padded unordered v =
     record {
       each = λ f is. absurd (cc is.entered);
       ordered = λ order f g is_f is_g port lt. absurd (cc is_f.entered);

@@ -50,7 +50,7 @@ same_port : (o p : Option Frame) (one other : Frame) → o ≡ Some one → p �
 same_port o p one other is are same = sym (ap port_in is) ∙ same ∙ ap port_in are
 
 -- of two frames of a queue the one behind has no smaller version
-not_before : (unordered : Bool) (events : List Event) (requests : List Request) (frames : List Frame) (other : ℕ → ℕ) → Fits unordered events requests frames other
+not_before : {padded : Bool} (unordered : Bool) (events : List Event) (requests : List Request) (frames : List Frame) (other : ℕ → ℕ) → Fits padded unordered events requests frames other
     → (m n : ℕ) → has_end frames m ≡ true → has_end frames n ≡ true → IsOneQueue unordered frames m n → m ≤ n → other m ≤ other n
 not_before true events requests frames other fits m n of_m of_n one le =
     let same : other m ≡ other n = ap other one in
@@ -70,15 +70,15 @@ in_queue true frames m n one other order at_m at_n same = absurd (cc)
 in_queue false frames m n one other order at_m at_n same = ap port_in at_m ∙ same ∙ sym (ap port_in at_n)
 
 -- a version that a frame may have in a choice
-may_in : (unordered : Bool) (events : List Event) (requests : List Request) (frames : List Frame) (other : ℕ → ℕ) → Fits unordered events requests frames other
-    → (n : ℕ) (frame : Frame) → slice_get frames n ≡ Some frame → has_end frames n ≡ true → MayHave events requests frame (other n)
+may_in : {padded : Bool} (unordered : Bool) (events : List Event) (requests : List Request) (frames : List Frame) (other : ℕ → ℕ) → Fits padded unordered events requests frames other
+    → (n : ℕ) (frame : Frame) → slice_get frames n ≡ Some frame → has_end frames n ≡ true → MayHave padded events requests frame (other n)
 may_in unordered events requests frames other fits n frame at is = fits.each n frame at (sym (ap is_ended at) ∙ is)
 
 -- ---- the head of a queue is given a version
 
-module _ (unordered : Bool) (events : List Event) (requests : List Request) (frames : List Frame) (v slot : ℕ) (next waiting versions : List ℕ) (done : ℕ → Bool)
+module _ {padded : Bool} (unordered : Bool) (events : List Event) (requests : List Request) (frames : List Frame) (v slot : ℕ) (next waiting versions : List ℕ) (done : ℕ → Bool)
     (here : IsSlot frames waiting slot) (long : length versions ≡ length frames) (lead : AreAhead frames next) (linked : AreLinked unordered frames next)
-    (waits : AreWaiting unordered frames waiting done) (settled : AreSettled unordered events requests frames v done versions) (tried : AreTried unordered events requests frames v slot waiting) where
+    (waits : AreWaiting unordered frames waiting done) (settled : AreSettled padded unordered events requests frames v done versions) (tried : AreTried padded unordered events requests frames v slot waiting) where
   abbrev n : ℕ
   n = slice_index waiting slot
 
@@ -239,7 +239,7 @@ module _ (unordered : Bool) (events : List Event) (requests : List Request) (fra
                 }
           ]
 
-  tried_next : AreTried unordered events requests frames v slot waiting_now
+  tried_next : AreTried padded unordered events requests frames v slot waiting_now
   tried_next = record {
     above = λ other fits s is.
         elim (cases_eq s slot) [
@@ -258,16 +258,16 @@ module _ (unordered : Bool) (events : List Event) (requests : List Request) (fra
         tried.room s frame (slot_before s ne is) lt (ap (slice_get frames) (sym (slot_other s ne)) ∙ at);
   }
 
-  module _ (may : (frame : Frame) → slice_get frames n ≡ Some frame → MayHave events requests frame v) where
-    settled_next : AreSettled unordered events requests frames v done_now versions_now
+  module _ (may : (frame : Frame) → slice_get frames n ≡ Some frame → MayHave padded events requests frame v) where
+    settled_next : AreSettled padded unordered events requests frames v done_now versions_now
     settled_next = record {
       ended = λ k is. elim (cases_eq k n) [
         | inl e ↦ subst (λ (m : ℕ). has_end frames m ≡ true) (sym e) has_n
         | inr ne ↦ settled.ended k (before k ne is)
       ];
       may = λ k frame is at. elim (cases_eq k n) [
-        | inl e ↦ subst (λ (version : ℕ). MayHave events requests frame version) (sym (version_now k e)) (may frame (ap (slice_get frames) (sym e) ∙ at))
-        | inr ne ↦ subst (λ (version : ℕ). MayHave events requests frame version) (sym (version_other k ne)) (settled.may k frame (before k ne is) at)
+        | inl e ↦ subst (λ (version : ℕ). MayHave padded events requests frame version) (sym (version_now k e)) (may frame (ap (slice_get frames) (sym e) ∙ at))
+        | inr ne ↦ subst (λ (version : ℕ). MayHave padded events requests frame version) (sym (version_other k ne)) (settled.may k frame (before k ne is) at)
       ];
       so_far = λ k is. elim (cases_eq k n) [
         | inl e ↦ omega (arith, version_now k e)
@@ -304,45 +304,45 @@ module _ (unordered : Bool) (events : List Event) (requests : List Request) (fra
             ]
 
 -- a frame that may have the version is done, and the next of its queue comes to the head
-pub settles : (unordered : Bool) (events : List Event) (requests : List Request) (frames : List Frame) (v slot : ℕ) (old new : SweepState)
+pub settles : {padded : Bool} (unordered : Bool) (events : List Event) (requests : List Request) (frames : List Frame) (v slot : ℕ) (old new : SweepState)
     → IsSlot frames old.waiting.items slot → length old.versions.items ≡ length frames → AreAhead frames old.next.items
-    → IsSoFar unordered events requests frames v slot old
-    → ((frame : Frame) → slice_get frames (slice_index old.waiting.items slot) ≡ Some frame → MayHave events requests frame v)
+    → IsSoFar padded unordered events requests frames v slot old
+    → ((frame : Frame) → slice_get frames (slice_index old.waiting.items slot) ≡ Some frame → MayHave padded events requests frame v)
     → new.next.items ≡ old.next.items
     → new.waiting.items ≡ set old.waiting.items slot (slice_index old.next.items (slice_index old.waiting.items slot))
     → new.versions.items ≡ set old.versions.items (slice_index old.waiting.items slot) v
-    → IsSoFar unordered events requests frames v slot new
-settles unordered events requests frames v slot old new here long lead is may next waiting versions =
+    → IsSoFar padded unordered events requests frames v slot new
+settles {padded} unordered events requests frames v slot old new here long lead is may next waiting versions =
     let done = done_now unordered events requests frames v slot old.next.items old.waiting.items old.versions.items is.done here long lead is.linked is.waiting is.settled is.tried in
     record {
       done = done;
       linked = subst (AreLinked unordered frames) (sym next) is.linked;
       waiting = subst (λ (w : List ℕ). AreWaiting unordered frames w done) (sym waiting) (waiting_next unordered events requests frames v slot old.next.items old.waiting.items old.versions.items is.done here long lead is.linked is.waiting is.settled is.tried);
-      settled = subst (λ (w : List ℕ). AreSettled unordered events requests frames v done w) (sym versions) (settled_next unordered events requests frames v slot old.next.items old.waiting.items old.versions.items is.done here long lead is.linked is.waiting is.settled is.tried may);
-      tried = subst (λ (w : List ℕ). AreTried unordered events requests frames v slot w) (sym waiting) (tried_next unordered events requests frames v slot old.next.items old.waiting.items old.versions.items is.done here long lead is.linked is.waiting is.settled is.tried);
+      settled = subst (λ (w : List ℕ). AreSettled padded unordered events requests frames v done w) (sym versions) (settled_next unordered events requests frames v slot old.next.items old.waiting.items old.versions.items is.done here long lead is.linked is.waiting is.settled is.tried may);
+      tried = subst (λ (w : List ℕ). AreTried padded unordered events requests frames v slot w) (sym waiting) (tried_next unordered events requests frames v slot old.next.items old.waiting.items old.versions.items is.done here long lead is.linked is.waiting is.settled is.tried);
     }
 
 -- ---- the version was tried at a slot
 
 -- no choice gives the head of a queue the version
-pub not_this : (unordered : Bool) (events : List Event) (requests : List Request) (frames : List Frame) (v slot : ℕ) (waiting : List ℕ) (frame : Frame)
-    → IsSlot frames waiting slot → has_end frames (slice_index waiting slot) ≡ true → AreTried unordered events requests frames v slot waiting
-    → slice_get frames (slice_index waiting slot) ≡ Some frame → (MayHave events requests frame v → ⊥)
-    → (other : ℕ → ℕ) → Fits unordered events requests frames other → suc v ≤ other (slice_index waiting slot)
-not_this unordered events requests frames v slot waiting frame here is tried at may_not other fits =
+pub not_this : {padded : Bool} (unordered : Bool) (events : List Event) (requests : List Request) (frames : List Frame) (v slot : ℕ) (waiting : List ℕ) (frame : Frame)
+    → IsSlot frames waiting slot → has_end frames (slice_index waiting slot) ≡ true → AreTried padded unordered events requests frames v slot waiting
+    → slice_get frames (slice_index waiting slot) ≡ Some frame → (MayHave padded events requests frame v → ⊥)
+    → (other : ℕ → ℕ) → Fits padded unordered events requests frames other → suc v ≤ other (slice_index waiting slot)
+not_this {padded} unordered events requests frames v slot waiting frame here is tried at may_not other fits =
     let n = slice_index waiting slot in
     let above = tried.above other fits slot here in
     let may = may_in unordered events requests frames other fits n frame at is in
     elim (cases_eq (other n) v) [
-      | inl e ↦ absurd (may_not (subst (MayHave events requests frame) e may))
+      | inl e ↦ absurd (may_not (subst (MayHave padded events requests frame) e may))
       | inr ne ↦ omega (arith, above, ne)
     ]
 
 -- none fits where the window ends here
-pub none_fits : (unordered : Bool) (events : List Event) (requests : List Request) (frames : List Frame) (v slot : ℕ) (sweep : SweepState) (frame : Frame)
-    → IsSlot frames sweep.waiting.items slot → IsSoFar unordered events requests frames v slot sweep
-    → slice_get frames (slice_index sweep.waiting.items slot) ≡ Some frame → (MayHave events requests frame v → ⊥) → frame.most ≤ v
-    → NoneFit unordered events requests frames
+pub none_fits : {padded : Bool} (unordered : Bool) (events : List Event) (requests : List Request) (frames : List Frame) (v slot : ℕ) (sweep : SweepState) (frame : Frame)
+    → IsSlot frames sweep.waiting.items slot → IsSoFar padded unordered events requests frames v slot sweep
+    → slice_get frames (slice_index sweep.waiting.items slot) ≡ Some frame → (MayHave padded events requests frame v → ⊥) → frame.most ≤ v
+    → NoneFit padded unordered events requests frames
 none_fits unordered events requests frames v slot sweep frame here is at may_not over other fits =
     let n = slice_index sweep.waiting.items slot in
     let of_n = is.waiting.ended slot here in
@@ -351,13 +351,13 @@ none_fits unordered events requests frames v slot sweep frame here is at may_not
     omega (arith, more, may.most, over)
 
 -- what is to be shown of the head of a slot's queue: the version isn't its own, and its window goes on
-pub record IsPast (events : List Event) (requests : List Request) (frames : List Frame) (v slot : ℕ) (waiting : List ℕ) : Type 0 where
-  pub may_not : (frame : Frame) → slice_get frames (slice_index waiting slot) ≡ Some frame → MayHave events requests frame v → ⊥
+pub record IsPast (padded : Bool) (events : List Event) (requests : List Request) (frames : List Frame) (v slot : ℕ) (waiting : List ℕ) : Type 0 where
+  pub may_not : (frame : Frame) → slice_get frames (slice_index waiting slot) ≡ Some frame → MayHave padded events requests frame v → ⊥
   pub room : (frame : Frame) → slice_get frames (slice_index waiting slot) ≡ Some frame → suc v ≤ frame.most
 
-pub passes : (unordered : Bool) (events : List Event) (requests : List Request) (frames : List Frame) (v slot : ℕ) (sweep : SweepState)
-    → IsSoFar unordered events requests frames v slot sweep → IsPast events requests frames v slot sweep.waiting.items
-    → IsSoFar unordered events requests frames v (suc slot) sweep
+pub passes : {padded : Bool} (unordered : Bool) (events : List Event) (requests : List Request) (frames : List Frame) (v slot : ℕ) (sweep : SweepState)
+    → IsSoFar padded unordered events requests frames v slot sweep → IsPast padded events requests frames v slot sweep.waiting.items
+    → IsSoFar padded unordered events requests frames v (suc slot) sweep
 passes unordered events requests frames v slot sweep is past = record {
   done = is.done;
   linked = is.linked;
@@ -385,8 +385,8 @@ passes unordered events requests frames v slot sweep is past = record {
 
 -- ---- the next version
 
-pub next_version : (unordered : Bool) (events : List Event) (requests : List Request) (frames : List Frame) (v : ℕ) (sweep : SweepState)
-    → IsSoFar unordered events requests frames v (length sweep.waiting.items) sweep → IsSoFar unordered events requests frames (suc v) 0 sweep
+pub next_version : {padded : Bool} (unordered : Bool) (events : List Event) (requests : List Request) (frames : List Frame) (v : ℕ) (sweep : SweepState)
+    → IsSoFar padded unordered events requests frames v (length sweep.waiting.items) sweep → IsSoFar padded unordered events requests frames (suc v) 0 sweep
 next_version unordered events requests frames v sweep is = record {
   done = is.done;
   linked = is.linked;
@@ -410,9 +410,9 @@ next_version unordered events requests frames v sweep is = record {
 -- ---- the end
 
 -- behind the last version nothing waits
-pub all_done : (unordered : Bool) (events : List Event) (requests : List Request) (frames : List Frame) (sweep : SweepState)
-    → IsSoFar unordered events requests frames (length requests) (length sweep.waiting.items) sweep → AreWithin requests frames → length sweep.versions.items ≡ length frames
-    → AreLeast unordered events requests frames sweep.versions.items
+pub all_done : {padded : Bool} (unordered : Bool) (events : List Event) (requests : List Request) (frames : List Frame) (sweep : SweepState)
+    → IsSoFar padded unordered events requests frames (length requests) (length sweep.waiting.items) sweep → AreWithin requests frames → length sweep.versions.items ≡ length frames
+    → AreLeast padded unordered events requests frames sweep.versions.items
 all_done unordered events requests frames sweep is inside long = record {
   count = long;
   least = record {

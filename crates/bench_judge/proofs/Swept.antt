@@ -22,27 +22,27 @@ begin_shorter m k all requests le is =
     let more = accepted_from (after (asked (take m (take k all)))) (asked (drop m (take k all))) in
     (more, is ∙ parts ∙ ap (λ l. l ++ more) front)
 
-by_found : (requests : List Request) (frames : List Frame) (unordered : Bool) (all : List Event) (place : ℕ)
+by_found : (padded : Bool) (requests : List Request) (frames : List Frame) (unordered : Bool) (all : List Event) (place : ℕ)
     → BeginWith requests (take place all) → AreFrames (take place all) frames
-    → (found : Option (Vec ℕ Global)) → IsFitted unordered all requests frames found → IsChosen unordered (take place all) found
-by_found requests frames unordered all place begins are None none =
+    → (found : Option (Vec ℕ Global)) → IsFitted padded unordered all requests frames found → IsChosen padded unordered (take place all) found
+by_found padded requests frames unordered all place begins are None none =
     λ choice. none choice.0 (fits_of_choice place all requests begins unordered frames choice.0 are choice.1)
-by_found requests frames unordered all place begins are (Some versions) suits = (
+by_found padded requests frames unordered all place begins are (Some versions) suits = (
   choice_of_fits place all requests begins unordered frames (by_number versions) are suits.0,
   λ ordered. least_of_fits place all requests begins unordered frames (by_number versions) are (suits.1 ordered),
 )
 
-by_result : (requests : List Request) (frames : List Frame) (unordered : Bool) (all : List Event) (place : ℕ)
+by_result : (padded : Bool) (requests : List Request) (frames : List Frame) (unordered : Bool) (all : List Event) (place : ℕ)
     → BeginWith requests (take place all) → AreFrames (take place all) frames
-    → (found : Result (Option (Vec ℕ Global)) AllocError) → IfOk found (IsFitted unordered all requests frames) → IfOk found (IsChosen unordered (take place all))
-by_result requests frames unordered all place begins are (Ok found) fitted = by_found requests frames unordered all place begins are found fitted
-by_result requests frames unordered all place begins are (Err e) fitted = tt
+    → (found : Result (Option (Vec ℕ Global)) AllocError) → IfOk found (IsFitted padded unordered all requests frames) → IfOk found (IsChosen padded unordered (take place all))
+by_result padded requests frames unordered all place begins are (Ok found) fitted = by_found padded requests frames unordered all place begins are found fitted
+by_result padded requests frames unordered all place begins are (Err e) fitted = tt
 
-pub chosen_of_fitted : (all : List Event) (walk : Walk) (unordered : Bool) (place : ℕ) → IsSomeWalk all walk → place ≤ walk.walked
+pub chosen_of_fitted : (padded : Bool) (all : List Event) (walk : Walk) (unordered : Bool) (place : ℕ) → IsSomeWalk all walk → place ≤ walk.walked
     → (requests : List Request) (frames : List Frame) → requests ≡ walk.requests.items → frames ≡ map (until place) walk.frames.items
-    → (found : Result (Option (Vec ℕ Global)) AllocError) → IfOk found (IsFitted unordered all requests frames) → IfOk found (IsChosen unordered (take place all))
-chosen_of_fitted all walk unordered place known le requests frames same_requests same_frames found fitted =
-    by_result requests frames unordered all place
+    → (found : Result (Option (Vec ℕ Global)) AllocError) → IfOk found (IsFitted padded unordered all requests frames) → IfOk found (IsChosen padded unordered (take place all))
+chosen_of_fitted padded all walk unordered place known le requests frames same_requests same_frames found fitted =
+    by_result padded requests frames unordered all place
     (begin_shorter place walk.walked all requests le (same_requests ∙ known.1.requests))
     (subst (AreFrames (take place all)) (sym same_frames) (cut_frames place walk.walked all walk.frames.items le known.1.frames))
     found fitted

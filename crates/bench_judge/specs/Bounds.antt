@@ -34,15 +34,15 @@ IsLeastLeft false frames versions port number least bound =
     (before : Option ℕ) × IsLastOf frames port number before × (bound ≡ least_left least versions before)
 
 -- the greatest: of its window, and of the frame behind it
-abbrev pub IsGreatestLeft : List Event → List Request → List Frame → ℕ → ℕ → Option ℕ → Type 0
-IsGreatestLeft events requests frames most bound (Some n) =
-    (v : ℕ) × IsGreatestFit false events requests frames n v × (bound ≡ min most v)
-IsGreatestLeft events requests frames most bound None = bound ≡ most
+abbrev pub IsGreatestLeft : Bool → List Event → List Request → List Frame → ℕ → ℕ → Option ℕ → Type 0
+IsGreatestLeft padded events requests frames most bound (Some n) =
+    (v : ℕ) × IsGreatestFit padded false events requests frames n v × (bound ≡ min most v)
+IsGreatestLeft padded events requests frames most bound None = bound ≡ most
 
-abbrev pub IsMostLeft : Bool → List Event → List Request → List Frame → ℕ → ℕ → ℕ → ℕ → Type 0
-IsMostLeft true events requests frames port number most bound = bound ≡ most
-IsMostLeft false events requests frames port number most bound =
-    (behind : Option ℕ) × IsFirstOf frames port number behind × IsGreatestLeft events requests frames most bound behind
+abbrev pub IsMostLeft : Bool → Bool → List Event → List Request → List Frame → ℕ → ℕ → ℕ → ℕ → Type 0
+IsMostLeft padded true events requests frames port number most bound = bound ≡ most
+IsMostLeft padded false events requests frames port number most bound =
+    (behind : Option ℕ) × IsFirstOf frames port number behind × IsGreatestLeft padded events requests frames most bound behind
 
 -- ---- steps
 

@@ -8,6 +8,7 @@ use Rattle.bench_judge.specs.Frames.{Fits, FitsLeast}
 use Rattle.bench_judge.specs.Sweep.{AreLeast, NoneFit}
 use Rattle.bench_judge.specs.Walk.{IsWalk}
 use Rattle.bench_judge.specs.declared.frame.Frame.{Frame}
+use Rattle.bench_judge.specs.declared.settings.JudgeSettings.{JudgeSettings}
 use Rattle.bench_judge.specs.declared.walk.Walk.{Walk}
 
 -- an end that comes before a place
@@ -29,40 +30,40 @@ abbrev pub by_number : Vec ℕ Global → ℕ → ℕ
 by_number versions n = slice_index versions.items n
 
 -- whether there are versions that fit together, and the least if so
-abbrev pub IsSwept : Bool → List Event → List Request → List Frame → Option (Vec ℕ Global) → Type 0
-IsSwept unordered events requests frames found =
-    MatchOption found (NoneFit unordered events requests frames) (λ versions. AreLeast unordered events requests frames versions.items)
+abbrev pub IsSwept : Bool → Bool → List Event → List Request → List Frame → Option (Vec ℕ Global) → Type 0
+IsSwept padded unordered events requests frames found =
+    MatchOption found (NoneFit padded unordered events requests frames) (λ versions. AreLeast padded unordered events requests frames versions.items)
 
 -- events have a choice
-abbrev pub HasChoice : Bool → List Event → Type 0
-HasChoice unordered events = (versions : ℕ → ℕ) × IsChoice unordered events versions
+abbrev pub HasChoice : Bool → Bool → List Event → Type 0
+HasChoice padded unordered events = (versions : ℕ → ℕ) × IsChoice padded unordered events versions
 
 -- versions that fit, and the least of them where order counts
-abbrev pub Suits : Bool → List Event → List Request → List Frame → (ℕ → ℕ) → Type 0
-Suits unordered events requests frames versions =
-    Fits unordered events requests frames versions × (unordered ≡ false → FitsLeast unordered events requests frames versions)
+abbrev pub Suits : Bool → Bool → List Event → List Request → List Frame → (ℕ → ℕ) → Type 0
+Suits padded unordered events requests frames versions =
+    Fits padded unordered events requests frames versions × (unordered ≡ false → FitsLeast padded unordered events requests frames versions)
 
-abbrev pub IsFitted : Bool → List Event → List Request → List Frame → Option (Vec ℕ Global) → Type 0
-IsFitted unordered events requests frames found =
-    MatchOption found (NoneFit unordered events requests frames) (λ versions. Suits unordered events requests frames (by_number versions))
+abbrev pub IsFitted : Bool → Bool → List Event → List Request → List Frame → Option (Vec ℕ Global) → Type 0
+IsFitted padded unordered events requests frames found =
+    MatchOption found (NoneFit padded unordered events requests frames) (λ versions. Suits padded unordered events requests frames (by_number versions))
 
 -- a choice of events, and the least where order counts, or that they have none
-abbrev pub IsGoodChoice : Bool → List Event → (ℕ → ℕ) → Type 0
-IsGoodChoice unordered events versions =
-    IsChoice unordered events versions × (unordered ≡ false → IsLeastChoice unordered events versions)
+abbrev pub IsGoodChoice : Bool → Bool → List Event → (ℕ → ℕ) → Type 0
+IsGoodChoice padded unordered events versions =
+    IsChoice padded unordered events versions × (unordered ≡ false → IsLeastChoice padded unordered events versions)
 
-abbrev pub IsChosen : Bool → List Event → Option (Vec ℕ Global) → Type 0
-IsChosen unordered events found =
-    MatchOption found (¬ (HasChoice unordered events)) (λ versions. IsGoodChoice unordered events (by_number versions))
+abbrev pub IsChosen : Bool → Bool → List Event → Option (Vec ℕ Global) → Type 0
+IsChosen padded unordered events found =
+    MatchOption found (¬ (HasChoice padded unordered events)) (λ versions. IsGoodChoice padded unordered events (by_number versions))
 
--- a walk, by either way of looking at contents
+-- a walk, by any settings
 abbrev pub IsSomeWalk : List Event → Walk → Type 0
-IsSomeWalk events walk = (modelled : Bool) × IsWalk modelled events walk
+IsSomeWalk events walk = (settings : JudgeSettings) × IsWalk settings events walk
 
 -- the events before a place have a choice, and with the one there they have none
-pub record IsTurn (unordered : Bool) (events : List Event) (place : ℕ) : Type 0 where
-  pub before : HasChoice unordered (take place events)
-  pub behind : ¬ (HasChoice unordered (take (place + 1) events))
+pub record IsTurn (padded unordered : Bool) (events : List Event) (place : ℕ) : Type 0 where
+  pub before : HasChoice padded unordered (take place events)
+  pub behind : ¬ (HasChoice padded unordered (take (place + 1) events))
 
 -- ---- a frame whose versions begin later
 
@@ -72,8 +73,8 @@ RaisedAt frames n from raised =
     (frame : Frame) → slice_get frames n ≡ Some frame → raised ≡ set frames n (record frame { least = from })
 
 -- the greatest version of the frame of a number in all that fit
-pub record IsGreatestFit (unordered : Bool) (events : List Event) (requests : List Request) (frames : List Frame) (n v : ℕ) : Type 0 where
+pub record IsGreatestFit (padded unordered : Bool) (events : List Event) (requests : List Request) (frames : List Frame) (n v : ℕ) : Type 0 where
   pub versions : ℕ → ℕ
-  pub fits : Fits unordered events requests frames versions
+  pub fits : Fits padded unordered events requests frames versions
   pub has : versions n ≡ v
-  pub greatest : (other : ℕ → ℕ) → Fits unordered events requests frames other → other n ≤ v
+  pub greatest : (other : ℕ → ℕ) → Fits padded unordered events requests frames other → other n ≤ v

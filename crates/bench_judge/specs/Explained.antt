@@ -1,62 +1,56 @@
 -- Which histories a right unit may have.
 use Rattle.std.specs.Prelude.{◌≡◌, ◌<◌, ◌≤◌, ℕ, Bool, true, false, List, Some, slice_get, take}
-use Rattle.tag_view.specs.Frame.{frame_bytes}
 use Rattle.frame_meaning.specs.Meaning.{meaning}
-use Rattle.frame_meaning.specs.declared.verdict.Verdict.{Verdict}
-use Rattle.frame_meaning.specs.declared.verdict.Verdict.TheVariants.{Forward, Drop}
 use Rattle.bench_history.specs.History.{frames_in, is_end_of}
 use Rattle.bench_history.specs.declared.event.Event.{Event}
-use Rattle.bench_history.specs.declared.event.Event.TheVariants.{Entered, Left, Dropped}
+use Rattle.bench_history.specs.declared.event.Event.TheVariants.{Entered}
+use Rattle.bench_history.specs.declared.extent.Extent.{Extent}
+use Rattle.bench_sight.specs.Sight.{IsSeenAs, is_enough}
+use Rattle.bench_judge.specs.Admitted.{AreAdmitted}
 use Rattle.bench_judge.specs.Asked.{version}
-use Rattle.bench_judge.specs.Replies.{AreRight}
 use Rattle.bench_judge.specs.Windows.{least_behind, most_behind}
 use Rattle.bench_judge.specs.declared.settings.JudgeSettings.{JudgeSettings}
 
--- a frame that has ended: which event sent it and which ended it, by their places, its number and port, its bytes, and how it ended
+-- a frame that has ended: which event sent it and which ended it, by their places, its number and port, what is known of it, and how it ended
 pub record EndedFrame : Type 0 where
   pub sent : ℕ
   pub ended : ℕ
   pub number : ℕ
   pub port : ℕ
+  pub extent : Extent
   pub bytes : List ℕ
   pub seen : Event
 
--- it is one of these events
+-- it is one of these events, and enough is known of it to judge it: of another frame nothing is said
 pub record IsEnded (events : List Event) (f : EndedFrame) : Type 0 where
-  pub entered : slice_get events f.sent ≡ Some (Entered f.port f.bytes)
+  pub entered : slice_get events f.sent ≡ Some (Entered f.port f.extent f.bytes)
   pub number : f.number ≡ frames_in (take f.sent events)
   pub later : f.sent < f.ended
   pub seen : slice_get events f.ended ≡ Some f.seen
   pub is_end : is_end_of f.number f.seen ≡ true
-
--- a verdict is what was seen: the same GEM port and the same bytes; or dropped, for whatever reason
-abbrev pub IsSeenAs : Verdict → Event → Type 0
-IsSeenAs (Forward gem frame) (Left seen number bytes) = (gem ≡ seen) × (frame_bytes frame ≡ bytes)
-IsSeenAs (Forward gem frame) event = ⊥
-IsSeenAs (Drop reason) (Dropped number) = Unit {0}
-IsSeenAs (Drop reason) event = ⊥
+  pub enough : is_enough f.extent f.bytes ≡ true
 
 -- a frame may have left by a version: it is in the frame's window, and what was seen is what its entities mean
-pub record IsVersionOf (events : List Event) (f : EndedFrame) (v : ℕ) : Type 0 where
+pub record IsVersionOf (padded : Bool) (events : List Event) (f : EndedFrame) (v : ℕ) : Type 0 where
   pub least : least_behind (take f.sent events) ≤ v
   pub most : v ≤ most_behind (take f.ended events)
-  pub seen : IsSeenAs (meaning (version events v) f.port f.bytes) f.seen
+  pub seen : IsSeenAs padded (meaning (version events v) f.port f.bytes) f.extent f.seen
 
 -- versions, by the numbers of frames: each ended frame may have its own, and, where order counts, of two of a port the one that
 -- was sent first has no greater one
-pub record IsChoice (unordered : Bool) (events : List Event) (versions : ℕ → ℕ) : Type 0 where
-  pub each : (f : EndedFrame) → IsEnded events f → IsVersionOf events f (versions f.number)
+pub record IsChoice (padded unordered : Bool) (events : List Event) (versions : ℕ → ℕ) : Type 0 where
+  pub each : (f : EndedFrame) → IsEnded events f → IsVersionOf padded events f (versions f.number)
   pub ordered : unordered ≡ false → (f g : EndedFrame) → IsEnded events f → IsEnded events g
       → f.port ≡ g.port → f.number < g.number → versions f.number ≤ versions g.number
 
 -- events are explained
 pub record IsExplained (settings : JudgeSettings) (events : List Event) : Type 0 where
-  pub replies : AreRight settings.modelled events
+  pub admitted : AreAdmitted settings events
   pub versions : ℕ → ℕ
-  pub choice : IsChoice settings.unordered events versions
+  pub choice : IsChoice settings.padded settings.unordered events versions
 
 -- versions of which each is the least that its frame has in any choice, and which are a choice
-pub record IsLeastChoice (unordered : Bool) (events : List Event) (versions : ℕ → ℕ) : Type 0 where
-  pub choice : IsChoice unordered events versions
-  pub least : (other : ℕ → ℕ) → IsChoice unordered events other
+pub record IsLeastChoice (padded unordered : Bool) (events : List Event) (versions : ℕ → ℕ) : Type 0 where
+  pub choice : IsChoice padded unordered events versions
+  pub least : (other : ℕ → ℕ) → IsChoice padded unordered events other
       → (f : EndedFrame) → IsEnded events f → versions f.number ≤ other f.number

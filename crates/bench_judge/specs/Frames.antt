@@ -6,8 +6,10 @@ use Rattle.mib_state.specs.After.{after}
 use Rattle.frame_meaning.specs.Meaning.{meaning}
 use Rattle.bench_history.specs.declared.event.Event.{Event}
 use Rattle.bench_history.specs.declared.event.Event.TheVariants.{Entered}
+use Rattle.bench_history.specs.declared.extent.Extent.{Extent}
+use Rattle.bench_sight.specs.Sight.{IsSeenAs}
 use Rattle.bench_judge.specs.Windows.{least_behind, most_behind}
-use Rattle.bench_judge.specs.Explained.{EndedFrame, IsEnded, IsSeenAs}
+use Rattle.bench_judge.specs.Explained.{EndedFrame, IsEnded}
 use Rattle.bench_judge.specs.declared.frame.Frame.{Frame}
 
 -- ---- the frames of events
@@ -33,7 +35,7 @@ pub record IsKeptOf (events : List Event) (n : ℕ) (frame : Frame) : Type 0 whe
   pub number : f.number ≡ n
   pub kept : IsKept events f frame
 
--- frames are those of events, by their numbers; of one that is open, or not sent yet, nothing is said
+-- frames are those of events, by their numbers; of one that is open, not sent yet, or of which too little is known, nothing is said
 pub record AreFrames (events : List Event) (frames : List Frame) : Type 0 where
   pub each : (f : EndedFrame) → IsEnded events f → IsKeptIn events frames f
   pub only : (n : ℕ) (frame : Frame) → slice_get frames n ≡ Some frame → is_some frame.ended ≡ true → IsKeptOf events n frame
@@ -41,33 +43,34 @@ pub record AreFrames (events : List Event) (frames : List Frame) : Type 0 where
 -- ---- versions for frames, whatever their windows
 
 -- by entities a frame leaves or is dropped as it was seen to
-pub record IsSeenBy (events : List Event) (frame : Frame) (e : Entities) : Type 0 where
+pub record IsSeenBy (padded : Bool) (events : List Event) (frame : Frame) (e : Entities) : Type 0 where
   pub port : ℕ
+  pub extent : Extent
   pub bytes : List ℕ
-  pub entered : slice_get events frame.sent ≡ Some (Entered port bytes)
+  pub entered : slice_get events frame.sent ≡ Some (Entered port extent bytes)
   pub end : ℕ
   pub ended : frame.ended ≡ Some end
   pub seen : Event
   pub at_end : slice_get events end ≡ Some seen
-  pub shows : IsSeenAs (meaning e port bytes) seen
+  pub shows : IsSeenAs padded (meaning e port bytes) extent seen
 
 -- a frame may have left by a version
-pub record MayHave (events : List Event) (requests : List Request) (frame : Frame) (v : ℕ) : Type 0 where
+pub record MayHave (padded : Bool) (events : List Event) (requests : List Request) (frame : Frame) (v : ℕ) : Type 0 where
   pub least : frame.least ≤ v
   pub most : v ≤ frame.most
-  pub seen : IsSeenBy events frame (after (take v requests))
+  pub seen : IsSeenBy padded events frame (after (take v requests))
 
 -- versions, by the numbers of frames, that the ended ones may have together
-pub record Fits (unordered : Bool) (events : List Event) (requests : List Request) (frames : List Frame) (versions : ℕ → ℕ) : Type 0 where
+pub record Fits (padded unordered : Bool) (events : List Event) (requests : List Request) (frames : List Frame) (versions : ℕ → ℕ) : Type 0 where
   pub each : (n : ℕ) (frame : Frame) → slice_get frames n ≡ Some frame → is_some frame.ended ≡ true
-      → MayHave events requests frame (versions n)
+      → MayHave padded events requests frame (versions n)
   pub ordered : unordered ≡ false → (m n : ℕ) (one other : Frame) → slice_get frames m ≡ Some one → slice_get frames n ≡ Some other
       → is_some one.ended ≡ true → is_some other.ended ≡ true → one.port ≡ other.port → m < n → versions m ≤ versions n
 
 -- the least of them
-pub record FitsLeast (unordered : Bool) (events : List Event) (requests : List Request) (frames : List Frame) (versions : ℕ → ℕ) : Type 0 where
-  pub fits : Fits unordered events requests frames versions
-  pub least : (other : ℕ → ℕ) → Fits unordered events requests frames other
+pub record FitsLeast (padded unordered : Bool) (events : List Event) (requests : List Request) (frames : List Frame) (versions : ℕ → ℕ) : Type 0 where
+  pub fits : Fits padded unordered events requests frames versions
+  pub least : (other : ℕ → ℕ) → Fits padded unordered events requests frames other
       → (n : ℕ) (frame : Frame) → slice_get frames n ≡ Some frame → is_some frame.ended ≡ true → versions n ≤ other n
 
 -- no frame may have a version behind all requests

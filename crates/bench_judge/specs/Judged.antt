@@ -1,14 +1,16 @@
 -- What a judgement says of a history.
-use Rattle.std.specs.Prelude.{◌≡◌, ◌<◌, ◌≤◌, ◌+◌, ◌-◌, ℕ, Bool, true, false, List, [], ◌∷◌, Some, None, Ok, Err, count_by, drop, length, max, min, slice_get, take}
+use Rattle.std.specs.Prelude.{◌≡◌, ◌<◌, ◌≤◌, ◌+◌, ◌-◌, ℕ, Bool, true, false, List, [], ◌∷◌, Some, None, Ok, Err, drop, length, max, min, slice_get, take}
 use Rattle.tag_view.specs.Frame.{frame_bytes, spelled}
 use Rattle.omci_msg.specs.Message.{request_of}
 use Rattle.frame_meaning.specs.Meaning.{meaning}
 use Rattle.frame_meaning.specs.declared.verdict.Verdict.{Verdict}
 use Rattle.frame_meaning.specs.declared.verdict.Verdict.TheVariants.{Forward, Drop}
-use Rattle.bench_history.specs.History.{frames_in, history_of, replies_in}
+use Rattle.bench_history.specs.History.{history_of, is_ended, replies_in}
 use Rattle.bench_history.specs.declared.event.Event.{Event}
 use Rattle.bench_history.specs.declared.event.Event.TheVariants as event
-use Rattle.bench_judge.specs.Asked.{Wanted, accepted_of, version, wanted}
+use Rattle.bench_judge.specs.Asked.{Wanted, version, wanted}
+use Rattle.bench_judge.specs.Counted.{AreCounts}
+use Rattle.bench_judge.specs.Evidence.{IsEvidence}
 use Rattle.bench_judge.specs.Replies.{IsReplyTo}
 use Rattle.bench_judge.specs.Windows.{least_behind, most_behind}
 use Rattle.bench_judge.specs.Explained.{EndedFrame, IsChoice, IsEnded, IsExplained, IsLeastChoice}
@@ -18,7 +20,6 @@ use Rattle.bench_judge.specs.declared.settings.JudgeSettings.{JudgeSettings}
 use Rattle.bench_judge.specs.declared.judgement.Judgement.{Judgement}
 use Rattle.bench_judge.specs.declared.judgement.Judgement.TheVariants.{Explained, Deviates}
 use Rattle.bench_judge.specs.declared.judgement.Explanation.{Explanation}
-use Rattle.bench_judge.specs.declared.judgement.Counts.{Counts}
 use Rattle.bench_judge.specs.declared.judgement.Step.{Step}
 use Rattle.bench_judge.specs.declared.judgement.Deviation.{Deviation}
 use Rattle.bench_judge.specs.declared.judgement.Wrong.{Wrong}
@@ -44,27 +45,6 @@ IsWhyUnjudged text NoMemory = Unit {0}
 
 -- ---- explained
 
-abbrev pub is_message : Event → Bool
-is_message (event.Sent message) = true
-is_message _ = false
-
-abbrev pub is_left : Event → Bool
-is_left (event.Left gem number frame) = true
-is_left _ = false
-
-abbrev pub is_dropped : Event → Bool
-is_dropped (event.Dropped number) = true
-is_dropped _ = false
-
--- how much events have of what
-pub record AreCounts (events : List Event) (counts : Counts) : Type 0 where
-  pub messages : counts.messages ≡ count_by is_message events
-  pub accepted : counts.accepted ≡ length (accepted_of events)
-  pub replies : counts.replies ≡ replies_in events
-  pub forwarded : counts.forwarded ≡ count_by is_left events
-  pub dropped : counts.dropped ≡ count_by is_dropped events
-  pub others : counts.«open» ≡ frames_in events - (counts.forwarded + counts.dropped)
-
 -- a frame's version is greater than that of each before it at its port, and than 0
 pub record IsRise (events : List Event) (versions : ℕ → ℕ) (f : EndedFrame) : Type 0 where
   pub ended : IsEnded events f
@@ -87,17 +67,19 @@ pub record AreSteps (events : List Event) (versions : ℕ → ℕ) (steps : List
   pub ascend : (j k : ℕ) (one other : Step) → slice_get steps j ≡ Some one → slice_get steps k ≡ Some other → j < k → one.frame < other.frame
 
 -- the steps of the least versions
-pub record AreLeastSteps (unordered : Bool) (events : List Event) (given : List Step) : Type 0 where
+pub record AreLeastSteps (padded unordered : Bool) (events : List Event) (given : List Step) : Type 0 where
   pub versions : ℕ → ℕ
-  pub least : IsLeastChoice unordered events versions
+  pub least : IsLeastChoice padded unordered events versions
   pub steps : AreSteps events versions given
 
 -- what is said of explained events: the steps are those of the least versions, and none where each frame is judged by itself
 pub record IsExplanation (settings : JudgeSettings) (events : List Event) (e : Explanation) : Type 0 where
   pub explained : IsExplained settings events
   pub counts : AreCounts events e.counts
+  pub finished : e.finished ≡ is_ended events
+  pub evidence : IsEvidence events e.evidence
   pub unordered : settings.unordered ≡ true → e.steps.items ≡ []
-  pub steps : settings.unordered ≡ false → AreLeastSteps settings.unordered events e.steps.items
+  pub steps : settings.unordered ≡ false → AreLeastSteps settings.padded settings.unordered events e.steps.items
 
 -- ---- not explained
 
@@ -124,18 +106,18 @@ pub record IsWrongReply (modelled : Bool) (events : List Event) (place : ℕ) (r
 -- ---- the versions that are left to a frame
 
 -- the least version that an ended frame has in any choice
-pub record IsLeastVersion (unordered : Bool) (events : List Event) (g : EndedFrame) (v : ℕ) : Type 0 where
+pub record IsLeastVersion (padded unordered : Bool) (events : List Event) (g : EndedFrame) (v : ℕ) : Type 0 where
   pub versions : ℕ → ℕ
-  pub choice : IsChoice unordered events versions
+  pub choice : IsChoice padded unordered events versions
   pub has : versions g.number ≡ v
-  pub least : (other : ℕ → ℕ) → IsChoice unordered events other → v ≤ other g.number
+  pub least : (other : ℕ → ℕ) → IsChoice padded unordered events other → v ≤ other g.number
 
 -- the greatest
-pub record IsGreatestVersion (unordered : Bool) (events : List Event) (g : EndedFrame) (v : ℕ) : Type 0 where
+pub record IsGreatestVersion (padded unordered : Bool) (events : List Event) (g : EndedFrame) (v : ℕ) : Type 0 where
   pub versions : ℕ → ℕ
-  pub choice : IsChoice unordered events versions
+  pub choice : IsChoice padded unordered events versions
   pub has : versions g.number ≡ v
-  pub greatest : (other : ℕ → ℕ) → IsChoice unordered events other → other g.number ≤ v
+  pub greatest : (other : ℕ → ℕ) → IsChoice padded unordered events other → other g.number ≤ v
 
 -- the ended frame before another at its port: none stands between
 pub record IsLastBefore (events : List Event) (f g : EndedFrame) : Type 0 where
@@ -152,17 +134,17 @@ pub record IsFirstBehind (events : List Event) (f g : EndedFrame) : Type 0 where
   pub first : (h : EndedFrame) → IsEnded events h → h.port ≡ f.port → f.number < h.number → g.number ≤ h.number
 
 -- the least version that events leave to a frame whose window begins at one: no less than the least of the frame before it
-pub record IsAtLeast (unordered : Bool) (events : List Event) (f : EndedFrame) (least bound : ℕ) : Type 0 where
+pub record IsAtLeast (padded unordered : Bool) (events : List Event) (f : EndedFrame) (least bound : ℕ) : Type 0 where
   pub alone : unordered ≡ true → bound ≡ least
   pub behind : unordered ≡ false → (g : EndedFrame) → IsLastBefore events f g
-      → (v : ℕ) × IsLeastVersion unordered events g v × (bound ≡ max least v)
+      → (v : ℕ) × IsLeastVersion padded unordered events g v × (bound ≡ max least v)
   pub first : unordered ≡ false → ((g : EndedFrame) → ¬ (IsLastBefore events f g)) → bound ≡ least
 
 -- the greatest: no greater than the greatest of the frame behind it
-pub record IsAtMost (unordered : Bool) (events : List Event) (f : EndedFrame) (most bound : ℕ) : Type 0 where
+pub record IsAtMost (padded unordered : Bool) (events : List Event) (f : EndedFrame) (most bound : ℕ) : Type 0 where
   pub alone : unordered ≡ true → bound ≡ most
   pub before : unordered ≡ false → (g : EndedFrame) → IsFirstBehind events f g
-      → (v : ℕ) × IsGreatestVersion unordered events g v × (bound ≡ min most v)
+      → (v : ℕ) × IsGreatestVersion padded unordered events g v × (bound ≡ min most v)
   pub last : unordered ≡ false → ((g : EndedFrame) → ¬ (IsFirstBehind events f g)) → bound ≡ most
 
 -- ---- runs of versions
@@ -207,8 +189,9 @@ pub record AreRuns (verdicts : ℕ → Verdict) (sent : List ℕ) (from to : ℕ
 
 -- how a frame was seen to end
 abbrev pub IsEndAs : Event → End → Type 0
-IsEndAs (event.Left gem number bytes) (end.Left seen frame) = (gem ≡ seen) × (bytes ≡ frame)
+IsEndAs (event.Left gem extent number bytes) (end.Left seen seen_extent frame) = (gem ≡ seen) × (extent ≡ seen_extent) × (bytes ≡ frame)
 IsEndAs (event.Dropped number) end.Dropped = Unit {0}
+IsEndAs (event.Lost number) end.Lost = Unit {0}
 IsEndAs event end = ⊥
 
 -- what is said of the frame that ends at a place: the versions that the events before leave to it, and their answers
@@ -219,10 +202,11 @@ pub record IsWrongFrame (settings : JudgeSettings) (events : List Event) (place 
   pub number : w.number ≡ f.number
   pub port : w.port ≡ f.port
   pub line : w.sent_line ≡ f.sent + 1
+  pub extent : w.extent ≡ f.extent
   pub sent : w.sent ≡ f.bytes
   pub seen : IsEndAs f.seen w.seen
-  pub at_least : IsAtLeast settings.unordered (take place events) f (least_behind (take f.sent events)) w.at_least
-  pub at_most : IsAtMost settings.unordered (take place events) f (most_behind (take place events)) w.at_most
+  pub at_least : IsAtLeast settings.padded settings.unordered (take place events) f (least_behind (take f.sent events)) w.at_least
+  pub at_most : IsAtMost settings.padded settings.unordered (take place events) f (most_behind (take place events)) w.at_most
   pub runs : AreRuns (λ v. meaning (version events v) f.port f.bytes) f.bytes w.at_least w.at_most w.runs.items
 
 -- what is wrong at a place
@@ -231,6 +215,8 @@ IsWrongAt settings events place (wrong.Unasked reply) =
     (slice_get events place ≡ Some (event.Replied reply)) × (slice_get (wanted (take place events)) (replies_in (take place events)) ≡ None)
 IsWrongAt settings events place (wrong.Reply r) = IsWrongReply settings.modelled events place r
 IsWrongAt settings events place (wrong.Frame w) = IsWrongFrame settings events place w
+IsWrongAt settings events place (wrong.Stray gem extent frame) =
+    (slice_get events place ≡ Some (event.Strayed gem extent frame)) × (settings.strays ≡ false)
 
 -- what is said of events that aren't explained: the line of the first that isn't, with those before it, and what is wrong there
 pub record IsDeviation (settings : JudgeSettings) (events : List Event) (d : Deviation) : Type 0 where

@@ -11,5 +11,5 @@ FrontsAreExplained = (settings : JudgeSettings) (events : List Event) → IsExpl
 
 -- the least versions of all ended frames together are a choice
 abbrev pub LeastAreAChoice : Type 0
-LeastAreAChoice = (unordered : Bool) (events : List Event) (versions : ℕ → ℕ)
-    → ((f : EndedFrame) → IsEnded events f → IsLeastVersion unordered events f (versions f.number)) → IsChoice unordered events versions
+LeastAreAChoice = (padded unordered : Bool) (events : List Event) (versions : ℕ → ℕ)
+    → ((f : EndedFrame) → IsEnded events f → IsLeastVersion padded unordered events f (versions f.number)) → IsChoice padded unordered events versions

@@ -1,6 +1,7 @@
 pub mod Alone
 pub mod Asked
 pub mod Replies
+pub mod Admitted
 pub mod Windows
 pub mod Explained
 pub mod Frames
@@ -10,5 +11,7 @@ pub mod Scene
 pub mod Cut
 pub mod Bounds
 pub mod Rising
+pub mod Counted
+pub mod Evidence
 pub mod Judged
 pub mod Laws

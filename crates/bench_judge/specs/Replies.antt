@@ -1,5 +1,5 @@
 -- Which replies are right.
-use Rattle.std.specs.Prelude.{◌≡◌, ℕ, Bool, true, false, if◌then◌else◌, List, Some, Ok, slice_get, take}
+use Rattle.std.specs.Prelude.{◌≡◌, ℕ, Bool, true, false, if◌then◌else◌, List, Some, Ok, slice_get}
 use Rattle.omci_msg.specs.declared.action.Action.{Action}
 use Rattle.omci_msg.specs.declared.action.Action.TheVariants.{Create, Delete, Set, Get, GetNext, MibUpload, MibUploadNext, MibReset, Other}
 use Rattle.omci_msg.specs.declared.request.Request.{Request}
@@ -8,7 +8,6 @@ use Rattle.omci_msg.specs.Message.{reply_of}
 use Rattle.managed_entity.specs.Class.{is_created}
 use Rattle.bench_history.specs.History.{replies_in}
 use Rattle.bench_history.specs.declared.event.Event.{Event}
-use Rattle.bench_history.specs.declared.event.Event.TheVariants.{Replied}
 use Rattle.bench_judge.specs.Asked.{Wanted, wanted}
 
 -- whether a real unit's reply to an action on a class has the model's contents: other classes give it other syncs and rows
@@ -43,7 +42,3 @@ pub record IsRight (modelled : Bool) (before : List Event) (bytes : List ℕ) : 
   pub answers : Wanted
   pub next : slice_get (wanted before) (replies_in before) ≡ Some answers
   pub right : IsReplyTo modelled answers bytes
-
--- each reply is right
-abbrev pub AreRight : Bool → List Event → Type 0
-AreRight modelled events = (i : ℕ) (bytes : List ℕ) → slice_get events i ≡ Some (Replied bytes) → IsRight modelled (take i events) bytes

@@ -1,19 +1,23 @@
 -- What is kept of the events before a place, so that each is looked at once.
-use Rattle.std.specs.Prelude.{◌≡◌, ◌<◌, ◌≤◌, ℕ, ◌+◌, Bool, true, false, List, [], ◌∷◌, Option, Some, None, Ok, length, slice_get, take}
+use Rattle.std.specs.Prelude.{◌≡◌, ◌<◌, ◌≤◌, ◌⊎◌, ℕ, ◌+◌, if◌then◌else◌, Bool, true, false, List, [], ◌∷◌, Option, Some, None, Ok, length, slice_get, take}
 use Rattle.omci_msg.specs.declared.request.Request.{Request}
 use Rattle.omci_msg.specs.Message.{request_of}
 use Rattle.mib_state.specs.After.{accepted}
 use Rattle.mib_upload.specs.Upload.{DeskState, answered, start}
 use Rattle.bench_history.specs.History.{frames_in, has_ended, is_end_of, replies_in}
 use Rattle.bench_history.specs.declared.event.Event.{Event}
-use Rattle.bench_history.specs.declared.event.Event.TheVariants.{Sent, Replied, Entered}
+use Rattle.bench_history.specs.declared.event.Event.TheVariants.{Sent, Entered}
+use Rattle.bench_history.specs.declared.extent.Extent.{Extent}
+use Rattle.bench_sight.specs.Sight.{is_enough}
 use Rattle.bench_judge.specs.Asked.{Wanted, accepted_of, asked, wanted}
-use Rattle.bench_judge.specs.Replies.{IsRight, is_judged}
+use Rattle.bench_judge.specs.Admitted.{IsAdmitted}
+use Rattle.bench_judge.specs.Replies.{is_judged}
 use Rattle.bench_judge.specs.Windows.{least_behind, most_behind, up_to, waited}
 use Rattle.bench_judge.specs.declared.asking.Asking.{Asking}
 use Rattle.bench_judge.specs.declared.asking.Due.{Due}
 use Rattle.bench_judge.specs.declared.frame.Frame.{Frame}
 use Rattle.bench_judge.specs.declared.scene.Scene.{Scene}
+use Rattle.bench_judge.specs.declared.settings.JudgeSettings.{JudgeSettings}
 
 -- ---- messages
 
@@ -44,6 +48,10 @@ pub record IsAsking (modelled : Bool) (events : List Event) (place : ℕ) (askin
 
 -- ---- frames
 
+-- a frame that the event at a place ends; one of which too little is known stays open
+abbrev pub ended_by : ℕ → ℕ → Frame → Frame
+ended_by place most frame = if frame.is_enough then record frame { ended = Some place; most = most } else frame
+
 -- a frame of a number was ended by the event at a place
 pub record IsEndedAt (events : List Event) (place n : ℕ) (frame : Frame) (end : ℕ) : Type 0 where
   pub within : end < place
@@ -51,17 +59,20 @@ pub record IsEndedAt (events : List Event) (place n : ℕ) (frame : Frame) (end 
   pub seen : Event
   pub at : slice_get events end ≡ Some seen
   pub is_end : is_end_of n seen ≡ true
+  pub enough : frame.is_enough ≡ true
   pub most : frame.most ≡ most_behind (take end events)
 
--- the same, or that it has not ended before a place, and has no greatest version yet
+-- the same, or that it has not ended before a place or isn't judged, and has no greatest version yet
 abbrev pub IsEndOf : List Event → ℕ → ℕ → Frame → Option ℕ → Type 0
 IsEndOf events place n frame (Some end) = IsEndedAt events place n frame end
-IsEndOf events place n frame None = (has_ended n (take place events) ≡ false) × (frame.most ≡ 0)
+IsEndOf events place n frame None = ((frame.is_enough ≡ false) ⊎ (has_ended n (take place events) ≡ false)) × (frame.most ≡ 0)
 
 -- what is kept of the frame of a number that was sent before a place
 pub record IsFrameOf (events : List Event) (place n : ℕ) (frame : Frame) : Type 0 where
+  pub extent : Extent
   pub bytes : List ℕ
-  pub entered : slice_get events frame.sent ≡ Some (Entered frame.port bytes)
+  pub entered : slice_get events frame.sent ≡ Some (Entered frame.port extent bytes)
+  pub enough : frame.is_enough ≡ is_enough extent bytes
   pub within : frame.sent < place
   pub number : frames_in (take frame.sent events) ≡ n
   pub least : frame.least ≡ least_behind (take frame.sent events)
@@ -75,23 +86,18 @@ pub record AreFramesOf (events : List Event) (place : ℕ) (frames : List Frame)
 
 -- ---- all
 
--- an event is no wrong reply
-abbrev pub IsAdmitted : Bool → List Event → Event → Type 0
-IsAdmitted modelled before (Replied bytes) = IsRight modelled before bytes
-IsAdmitted modelled before event = Unit {0}
-
--- each reply before a place is right
-abbrev pub AreRightUpTo : Bool → List Event → ℕ → Type 0
-AreRightUpTo modelled events place =
-    (i : ℕ) (bytes : List ℕ) → i < place → slice_get events i ≡ Some (Replied bytes) → IsRight modelled (take i events) bytes
+-- each event before a place is admitted
+abbrev pub AreAdmittedUpTo : JudgeSettings → List Event → ℕ → Type 0
+AreAdmittedUpTo settings events place =
+    (i : ℕ) (event : Event) → i < place → slice_get events i ≡ Some event → IsAdmitted settings (take i events) event
 
 -- what is kept of the events before a place
 pub record IsScene (events : List Event) (place : ℕ) (scene : Scene) : Type 0 where
-  pub asking : IsAsking scene.modelled events place scene.asking
+  pub asking : IsAsking scene.settings.modelled events place scene.asking
   pub frames : AreFramesOf events place scene.frames.items
   pub replies : scene.replies ≡ replies_in (take place events)
   pub answered : scene.replies ≤ length scene.asking.due.items
   pub few : scene.replies ≤ place
   pub waited : scene.waited ≡ waited (take place events)
   pub seen : scene.waited ≤ scene.replies
-  pub right : AreRightUpTo scene.modelled events place
+  pub admitted : AreAdmittedUpTo scene.settings events place

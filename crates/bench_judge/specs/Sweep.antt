@@ -10,14 +10,14 @@ use Rattle.bench_judge.specs.declared.sweep.SweepState.{SweepState}
 -- ---- what is found
 
 -- one version for each frame: the least of those that may be had together, and 0 for one that is open
-pub record AreLeast (unordered : Bool) (events : List Event) (requests : List Request) (frames : List Frame) (versions : List ℕ) : Type 0 where
+pub record AreLeast (padded unordered : Bool) (events : List Event) (requests : List Request) (frames : List Frame) (versions : List ℕ) : Type 0 where
   pub count : length versions ≡ length frames
-  pub least : FitsLeast unordered events requests frames (slice_index versions)
+  pub least : FitsLeast padded unordered events requests frames (slice_index versions)
   pub none : (n : ℕ) (frame : Frame) → slice_get frames n ≡ Some frame → is_some frame.ended ≡ false → slice_index versions n ≡ 0
 
 -- no versions may be had together
-abbrev pub NoneFit : Bool → List Event → List Request → List Frame → Type 0
-NoneFit unordered events requests frames = (versions : ℕ → ℕ) → Fits unordered events requests frames versions → ⊥
+abbrev pub NoneFit : Bool → Bool → List Event → List Request → List Frame → Type 0
+NoneFit padded unordered events requests frames = (versions : ℕ → ℕ) → Fits padded unordered events requests frames versions → ⊥
 
 -- ---- queues
 
@@ -82,12 +82,12 @@ pub record AreWaiting (unordered : Bool) (frames : List Frame) (waiting : List �
 -- ---- versions so far
 
 -- of each frame that is done the version is the least that it may have, and those before it in its queue are done; others have none yet
-pub record AreSettled (unordered : Bool) (events : List Event) (requests : List Request) (frames : List Frame) (v : ℕ) (done : ℕ → Bool) (versions : List ℕ) : Type 0 where
+pub record AreSettled (padded unordered : Bool) (events : List Event) (requests : List Request) (frames : List Frame) (v : ℕ) (done : ℕ → Bool) (versions : List ℕ) : Type 0 where
   pub ended : (n : ℕ) → done n ≡ true → has_end frames n ≡ true
   pub may : (n : ℕ) (frame : Frame) → done n ≡ true → slice_get frames n ≡ Some frame
-      → MayHave events requests frame (slice_index versions n)
+      → MayHave padded events requests frame (slice_index versions n)
   pub so_far : (n : ℕ) → done n ≡ true → slice_index versions n ≤ v
-  pub least : (other : ℕ → ℕ) → Fits unordered events requests frames other → (n : ℕ) → done n ≡ true → slice_index versions n ≤ other n
+  pub least : (other : ℕ → ℕ) → Fits padded unordered events requests frames other → (n : ℕ) → done n ≡ true → slice_index versions n ≤ other n
   pub front : (m n : ℕ) → done n ≡ true → has_end frames m ≡ true → IsOneQueue unordered frames m n → m < n → done m ≡ true
   pub ordered : (m n : ℕ) → done m ≡ true → done n ≡ true → IsOneQueue unordered frames m n → m < n
       → slice_index versions m ≤ slice_index versions n
@@ -95,21 +95,21 @@ pub record AreSettled (unordered : Bool) (events : List Event) (requests : List 
 
 -- the frames at the heads of queues have no version under this one, and those of the first slots, at which it was tried, not this one
 -- either, but a greater one in their window
-pub record AreTried (unordered : Bool) (events : List Event) (requests : List Request) (frames : List Frame) (v tried : ℕ) (waiting : List ℕ) : Type 0 where
-  pub above : (other : ℕ → ℕ) → Fits unordered events requests frames other → (s : ℕ) → IsSlot frames waiting s
+pub record AreTried (padded unordered : Bool) (events : List Event) (requests : List Request) (frames : List Frame) (v tried : ℕ) (waiting : List ℕ) : Type 0 where
+  pub above : (other : ℕ → ℕ) → Fits padded unordered events requests frames other → (s : ℕ) → IsSlot frames waiting s
       → v ≤ other (slice_index waiting s)
-  pub behind : (other : ℕ → ℕ) → Fits unordered events requests frames other → (s : ℕ) → IsSlot frames waiting s → s < tried
+  pub behind : (other : ℕ → ℕ) → Fits padded unordered events requests frames other → (s : ℕ) → IsSlot frames waiting s → s < tried
       → suc v ≤ other (slice_index waiting s)
   pub room : (s : ℕ) (frame : Frame) → IsSlot frames waiting s → s < tried → slice_get frames (slice_index waiting s) ≡ Some frame
       → suc v ≤ frame.most
 
 -- the way so far: a version was tried at so many slots, and all before it at all
-pub record IsSoFar (unordered : Bool) (events : List Event) (requests : List Request) (frames : List Frame) (v slots : ℕ) (sweep : SweepState) : Type 0 where
+pub record IsSoFar (padded unordered : Bool) (events : List Event) (requests : List Request) (frames : List Frame) (v slots : ℕ) (sweep : SweepState) : Type 0 where
   pub done : ℕ → Bool
   pub linked : AreLinked unordered frames sweep.next.items
   pub waiting : AreWaiting unordered frames sweep.waiting.items done
-  pub settled : AreSettled unordered events requests frames v done sweep.versions.items
-  pub tried : AreTried unordered events requests frames v slots sweep.waiting.items
+  pub settled : AreSettled padded unordered events requests frames v done sweep.versions.items
+  pub tried : AreTried padded unordered events requests frames v slots sweep.waiting.items
 
 -- ---- queues that are built
 

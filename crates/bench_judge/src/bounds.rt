@@ -81,9 +81,9 @@ pub(crate) fn at_most(
 ) -> Result<usize, AllocError>
     requires number { number < length case.now.frames.now }
     requires within { AreWithin case.now.requests.now case.now.frames.now }
-    requires fits { Fits case.now.unordered case.now.events.now case.now.requests.now
+    requires fits { Fits case.now.padded case.now.unordered case.now.events.now case.now.requests.now
         case.now.frames.now (slice_index versions.now) }
-    ensures { IfOk result (IsMostLeft case.now.unordered case.now.events.now case.now.requests.now
+    ensures { IfOk result (IsMostLeft case.now.padded case.now.unordered case.now.events.now case.now.requests.now
         case.now.frames.now frame.now.port number frame.now.most) }
 {
     if case.unordered {

@@ -1,48 +1,75 @@
 //! How much a history has of what.
 ghost use Rattle.std.specs.Prelude.{◌≡◌, length};
 ghost use Rattle.bench_judge.specs.Asked.{accepted_of};
-ghost use Rattle.bench_judge.specs.Judged.{AreCounts};
+ghost use Rattle.bench_judge.specs.Counted.{AreCounts, AreKnown, is_known_in};
 
+use crate::frame::Frame;
 use crate::judgement::Counts;
-use bench_history::Event;
+use bench_history::{Event, Extent};
+
+/// Whether enough is known of the frame of a number.
+fn is_known_in(frames: &[Frame], number: u32) -> bool
+    ensures { result ≡ is_known_in frames.now number }
+{
+    match frames.get(number as usize) {
+        Some(frame) => frame.is_enough,
+        None => false,
+    }
+}
 
 impl Counts {
     ghost use Rattle.std.specs.Prelude.{◌≡◌, ◌<◌, ◌^◌, ◌+◌, if◌then◌else◌};
     ghost use Rattle.bench_history.specs.History.{is_frame, is_reply};
-    ghost use Rattle.bench_judge.specs.Judged.{is_dropped, is_left, is_message};
+    ghost use Rattle.bench_judge.specs.Counted.{is_cut, is_dropped, is_known_in, is_left, is_lost, is_message, is_stray};
 
-    /// Counts an event, and a frame as open.
-    fn add(&mut self, event: &Event<'_>)
+    /// Counts an event, and a frame as open. These are the frames.
+    fn add(&mut self, event: &Event<'_>, frames: &[Frame])
         requires messages { self.old.messages + 1 < 2 ^ 64 }
         requires replies { self.old.replies + 1 < 2 ^ 64 }
         requires frames { self.old.«open» + 1 < 2 ^ 64 }
         requires forwarded { self.old.forwarded + 1 < 2 ^ 64 }
         requires dropped { self.old.dropped + 1 < 2 ^ 64 }
+        requires lost { self.old.lost + 1 < 2 ^ 64 }
+        requires strays { self.old.strays + 1 < 2 ^ 64 }
+        requires cut { self.old.cut + 1 < 2 ^ 64 }
         ensures messages { self.new.messages
             ≡ self.old.messages + (if is_message event.now then 1 else 0) }
         ensures replies { self.new.replies
             ≡ self.old.replies + (if is_reply event.now then 1 else 0) }
         ensures frames { self.new.«open» ≡ self.old.«open» + (if is_frame event.now then 1 else 0) }
         ensures forwarded { self.new.forwarded
-            ≡ self.old.forwarded + (if is_left event.now then 1 else 0) }
+            ≡ self.old.forwarded + (if is_left (is_known_in frames.now) event.now then 1 else 0) }
         ensures dropped { self.new.dropped
-            ≡ self.old.dropped + (if is_dropped event.now then 1 else 0) }
+            ≡ self.old.dropped + (if is_dropped (is_known_in frames.now) event.now then 1 else 0) }
+        ensures lost { self.new.lost
+            ≡ self.old.lost + (if is_lost (is_known_in frames.now) event.now then 1 else 0) }
+        ensures strays { self.new.strays
+            ≡ self.old.strays + (if is_stray event.now then 1 else 0) }
+        ensures cut { self.new.cut ≡ self.old.cut + (if is_cut event.now then 1 else 0) }
         ensures accepted { self.new.accepted ≡ self.old.accepted }
     {
         match event {
             Event::Sent { .. } => self.messages += 1,
             Event::Replied { .. } => self.replies += 1,
-            Event::Entered { .. } => self.open += 1,
-            Event::Left { .. } => self.forwarded += 1,
-            Event::Dropped { .. } => self.dropped += 1,
+            Event::Entered { extent, .. } => {
+                self.open += 1;
+                if *extent == Extent::Front {
+                    self.cut += 1;
+                }
+            }
+            Event::Left { number, .. } if is_known_in(frames, *number) => self.forwarded += 1,
+            Event::Dropped { number } if is_known_in(frames, *number) => self.dropped += 1,
+            Event::Lost { number } if is_known_in(frames, *number) => self.lost += 1,
+            Event::Strayed { .. } => self.strays += 1,
             _ => {}
         }
     }
 }
 
-/// How much events have of what, of which so many requests are accepted.
-pub(crate) fn counts(events: &[Event<'_>], accepted: usize) -> Counts
-    requires { accepted ≡ length (accepted_of events.now) }
+/// How much events have of what, whose frames are these, and of which so many requests are accepted.
+pub(crate) fn counts(events: &[Event<'_>], frames: &[Frame], accepted: usize) -> Counts
+    requires known { AreKnown events.now frames.now }
+    requires accepted { accepted ≡ length (accepted_of events.now) }
     ensures { AreCounts events.now result }
 {
     let mut counts = Counts {
@@ -51,13 +78,16 @@ pub(crate) fn counts(events: &[Event<'_>], accepted: usize) -> Counts
         replies: 0,
         forwarded: 0,
         dropped: 0,
+        lost: 0,
         open: 0,
+        strays: 0,
+        cut: 0,
     };
     for event in events {
-        counts.add(event);
+        counts.add(event, frames);
     }
     counts.open = counts
         .open
-        .saturating_sub(counts.forwarded + counts.dropped);
+        .saturating_sub(counts.forwarded + counts.dropped + counts.lost);
     counts
 }

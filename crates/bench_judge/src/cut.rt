@@ -4,6 +4,7 @@ ghost use Rattle.bench_judge.specs.Cut.{IsChosen, IsSomeWalk, until};
 
 use crate::fitting::versions_of;
 use crate::frame::{Case, Frame};
+use crate::settings::JudgeSettings;
 use crate::walk::Walk;
 use bench_history::Event;
 use std::alloc::{AllocError, Global};
@@ -43,19 +44,20 @@ pub(crate) fn choice_until(
     alloc: Global,
     events: &[Event<'_>],
     walk: &Walk,
-    unordered: bool,
+    settings: &JudgeSettings,
     place: usize,
 ) -> Result<Option<Vec<usize>>, AllocError>
     requires walked { IsSomeWalk events.now walk.now }
     requires within { place ≤ walk.now.walked }
-    ensures { IfOk result (IsChosen unordered (take place events.now)) }
+    ensures { IfOk result (IsChosen settings.now.padded settings.now.unordered (take place events.now)) }
 {
     let frames = frames_until(alloc, &walk.frames, place)?;
     let case = Case {
         events,
         requests: &walk.requests,
         frames: &frames,
-        unordered,
+        padded: settings.padded,
+        unordered: settings.unordered,
     };
     versions_of(alloc, &case)
 }

@@ -8,9 +8,9 @@ ghost use Rattle.bench_judge.specs.Frames.{AreWithin, Fits};
 ghost use Rattle.bench_judge.specs.Sweep.{NoneFit};
 
 use crate::frame::{Case, Frame};
-use crate::seeing::Buffers;
 use crate::sweep::{may_have, sweep};
 use bench_history::Event;
+use bench_sight::Buffers;
 use forward_plan::Live;
 use omci_msg::Request;
 use std::alloc::{AllocError, Global};
@@ -43,8 +43,8 @@ fn advance(live: &mut Live, requests: &[Request], applied: usize, wanted: usize)
 
 /// Tries the last version of the window of a frame.
 fn try_last(late: &mut Late, case: &Case<'_, '_>, number: usize)
-    requires { IsLate case.now.events.now case.now.requests.now case.now.frames.now late.old }
-    ensures { IsLate case.now.events.now case.now.requests.now case.now.frames.now late.new }
+    requires { IsLate case.now.padded case.now.events.now case.now.requests.now case.now.frames.now late.old }
+    ensures { IsLate case.now.padded case.now.events.now case.now.requests.now case.now.frames.now late.new }
 {
     let Some(frame) = case.frames.get(number) else {
         return;
@@ -52,6 +52,7 @@ fn try_last(late: &mut Late, case: &Case<'_, '_>, number: usize)
     late.applied = advance(&mut late.live, case.requests, late.applied, frame.most);
     if may_have(
         &late.live,
+        case.padded,
         case.events,
         frame,
         late.applied,
@@ -61,10 +62,20 @@ fn try_last(late: &mut Late, case: &Case<'_, '_>, number: usize)
     }
 }
 
+/// The number of the frame that an event ends, if it ends one.
+fn number_ended(event: &Event<'_>) -> Option<u32> {
+    match event {
+        Event::Left { number, .. } | Event::Dropped { number } | Event::Lost { number } => {
+            Some(*number)
+        }
+        _ => None,
+    }
+}
+
 /// For each frame, by its number, the last version of its window, if it may have that.
 fn last_versions(alloc: Global, case: &Case<'_, '_>) -> Result<Vec<Option<usize>>, AllocError>
     ensures count { IfOk result (λ found. length found.items ≡ length case.now.frames.now) }
-    ensures had { IfOk result (λ found. AreHad case.now.events.now case.now.requests.now
+    ensures had { IfOk result (λ found. AreHad case.now.padded case.now.events.now case.now.requests.now
         case.now.frames.now found.items) }
 {
     let mut late = Late {
@@ -74,8 +85,8 @@ fn last_versions(alloc: Global, case: &Case<'_, '_>) -> Result<Vec<Option<usize>
         buffers: Buffers::new(),
     };
     for event in case.events {
-        if let Event::Left { number, .. } | Event::Dropped { number } = event {
-            try_last(&mut late, case, *number as usize);
+        if let Some(number) = number_ended(event) {
+            try_last(&mut late, case, number as usize);
         }
     }
     let Late {
@@ -145,13 +156,20 @@ pub(crate) fn versions_alone(
 ) -> Result<Option<Vec<usize>>, AllocError>
     requires { AreWithin case.now.requests.now case.now.frames.now }
     ensures { IfOk result (λ found. MatchOption found
-        (NoneFit true case.now.events.now case.now.requests.now case.now.frames.now)
-        (λ versions. Fits true case.now.events.now case.now.requests.now case.now.frames.now
+        (NoneFit case.now.padded true case.now.events.now case.now.requests.now case.now.frames.now)
+        (λ versions. Fits case.now.padded true case.now.events.now case.now.requests.now case.now.frames.now
         (slice_index versions.items))) }
 {
     let found = last_versions(alloc, case)?;
     let left = left_over(alloc, case.frames, &found)?;
-    match sweep(alloc, case.events, case.requests, &left, true)? {
+    let behind = Case {
+        events: case.events,
+        requests: case.requests,
+        frames: &left,
+        padded: case.padded,
+        unordered: true,
+    };
+    match sweep(alloc, &behind)? {
         Some(others) => Ok(Some(all_versions(alloc, &others, &found)?)),
         None => Ok(None),
     }
@@ -163,11 +181,11 @@ pub(crate) fn versions_of(
     case: &Case<'_, '_>,
 ) -> Result<Option<Vec<usize>>, AllocError>
     requires { AreWithin case.now.requests.now case.now.frames.now }
-    ensures { IfOk result (IsFitted case.now.unordered case.now.events.now case.now.requests.now
+    ensures { IfOk result (IsFitted case.now.padded case.now.unordered case.now.events.now case.now.requests.now
         case.now.frames.now) }
 {
     if case.unordered {
         return versions_alone(alloc, case);
     }
-    sweep(alloc, case.events, case.requests, case.frames, false)
+    sweep(alloc, case)
 }

@@ -8,9 +8,11 @@ use omci_msg::Request;
 pub(crate) struct Frame {
     /// The place of the event that sent it.
     pub(crate) sent: usize,
-    /// The place of the event that ended it, unless it is open.
+    /// The place of the event that ended it, unless it is open or isn't judged.
     pub(crate) ended: Option<usize>,
     pub(crate) port: u16,
+    /// Whether enough of it is known to judge it. Of another one no end is kept.
+    pub(crate) is_enough: bool,
     /// The least version that it may have.
     pub(crate) least: usize,
     /// The greatest, if it has ended.
@@ -23,5 +25,6 @@ pub(crate) struct Case<'e, 'a> {
     pub(crate) events: &'e [Event<'a>],
     pub(crate) requests: &'e [Request],
     pub(crate) frames: &'e [Frame],
+    pub(crate) padded: bool,
     pub(crate) unordered: bool,
 }

@@ -6,6 +6,7 @@ ghost use Rattle.bench_judge.specs.declared.frame.Frame.{Frame};
 
 use crate::cut::choice_until;
 use crate::frame::Case;
+use crate::settings::JudgeSettings;
 use crate::sweep::sweep;
 use crate::walk::Walk;
 use crate::watch::{Stage, Watch};
@@ -19,12 +20,14 @@ pub(crate) fn turn<W: Watch>(
     alloc: Global,
     events: &[Event<'_>],
     walk: &Walk,
-    unordered: bool,
+    settings: &JudgeSettings,
     watch: &mut W,
 ) -> Result<usize, AllocError>
     requires walked { IsSomeWalk events.now walk.now }
-    requires none { ¬ (HasChoice unordered (take walk.now.walked events.now)) }
-    ensures { IfOk result (λ place. (place < walk.now.walked) × IsTurn unordered events.now place) }
+    requires none { ¬ (HasChoice settings.now.padded settings.now.unordered
+        (take walk.now.walked events.now)) }
+    ensures { IfOk result (λ place. (place < walk.now.walked)
+        × IsTurn settings.now.padded settings.now.unordered events.now place) }
 {
     let mut low = 0;
     let mut high = walk.walked;
@@ -33,7 +36,7 @@ pub(crate) fn turn<W: Watch>(
         watch.reached(Stage::Halving { lines: high - low });
         let back = step.min((high - low) / 2);
         let middle = high - back;
-        if choice_until(alloc, events, walk, unordered, middle)?.is_some() {
+        if choice_until(alloc, events, walk, settings, middle)?.is_some() {
             low = middle;
         } else {
             high = middle;
@@ -54,13 +57,20 @@ fn fits_from(
     requires held { (frame : Frame) × (slice_get case.now.frames.now number ≡ Some frame)
         × (is_some frame.ended ≡ true) × (frame.least ≤ from) }
     ensures { IfOk result (λ fits. Decides fits ((versions : ℕ → ℕ)
-        × Fits case.now.unordered case.now.events.now case.now.requests.now
+        × Fits case.now.padded case.now.unordered case.now.events.now case.now.requests.now
         case.now.frames.now versions
         × (from ≤ versions number))) }
 {
     let mut frames = case.frames.to_vec(alloc)?;
     frames[number].least = from;
-    Ok(sweep(alloc, case.events, case.requests, &frames, case.unordered)?.is_some())
+    let from = Case {
+        events: case.events,
+        requests: case.requests,
+        frames: &frames,
+        padded: case.padded,
+        unordered: case.unordered,
+    };
+    Ok(sweep(alloc, &from)?.is_some())
 }
 
 /// The greatest version of an ended frame in all versions that fit, from one that it has in some.
@@ -74,10 +84,10 @@ pub(crate) fn greatest_version(
     requires held { (frame : Frame) × (slice_get case.now.frames.now number ≡ Some frame)
         × (is_some frame.ended ≡ true) }
     requires fits { (versions : ℕ → ℕ)
-        × Fits case.now.unordered case.now.events.now case.now.requests.now
+        × Fits case.now.padded case.now.unordered case.now.events.now case.now.requests.now
         case.now.frames.now versions
         × (versions number ≡ some) }
-    ensures { IfOk result (IsGreatestFit case.now.unordered case.now.events.now
+    ensures { IfOk result (IsGreatestFit case.now.padded case.now.unordered case.now.events.now
         case.now.requests.now case.now.frames.now number) }
 {
     let mut low = some;

@@ -1,7 +1,7 @@
 //! What is found of a history.
 
 use arrayvec::ArrayVec;
-use bench_history::Digits;
+use bench_history::{Digits, Extent, SeenGem};
 use forward_plan::Reason;
 use omci_msg::Reply;
 use tag_view::Tag;
@@ -22,6 +22,20 @@ pub struct Explanation {
     pub counts: Counts,
     /// Where the least versions of the frames of a port grow, in the order of frames; none where each frame is judged by itself.
     pub steps: Vec<Step>,
+    /// Whether the history has a line that ends it: without one it may be cut.
+    pub finished: bool,
+    pub evidence: Evidence,
+}
+
+/// What of an explained history was judged.
+#[derive(Clone, Copy, Debug, PartialEq, Eq)]
+pub enum Evidence {
+    /// Where frames were sent, one of them; and else a reply.
+    Judged,
+    /// Frames were sent, and none of them was judged.
+    NoFrame,
+    /// No frame was sent, and no reply compared.
+    Nothing,
 }
 
 /// How much a history has of what.
@@ -37,8 +51,14 @@ pub struct Counts {
     pub forwarded: usize,
     /// Frames that are known to have been dropped.
     pub dropped: usize,
-    /// Frames of which neither is said.
+    /// Frames that weren't seen to leave while they were waited for.
+    pub lost: usize,
+    /// Frames of which none of these is said, or of which too little is known to judge them.
     pub open: usize,
+    /// Frames that left, and that no open frame can be.
+    pub strays: usize,
+    /// Frames of which only the first bytes are known.
+    pub cut: usize,
 }
 
 /// A frame whose least version is greater than that of all ended frames before it at its port.
@@ -63,11 +83,19 @@ pub struct Deviation<'a> {
 #[derive(Debug, Drop)]
 pub enum Wrong<'a> {
     /// A reply, and no request above waits for one.
-    Unasked { reply: Digits<'a> },
+    Unasked {
+        reply: Digits<'a>,
+    },
     /// A reply other than the model's.
     Reply(WrongReply<'a>),
     /// A frame that left or was dropped as by none of the versions that are left to it.
     Frame(WrongFrame<'a>),
+    /// A frame that left, and that no open frame can be.
+    Stray {
+        gem: SeenGem,
+        extent: Extent,
+        frame: Digits<'a>,
+    },
 }
 
 /// A reply other than the model's.
@@ -87,6 +115,8 @@ pub struct WrongFrame<'a> {
     pub port: u16,
     /// The line that sent it.
     pub sent_line: usize,
+    /// How much of the frame is known.
+    pub extent: Extent,
     /// The frame as it was sent.
     pub sent: Digits<'a>,
     pub seen: End<'a>,
@@ -102,8 +132,15 @@ pub struct WrongFrame<'a> {
 #[derive(Debug, Drop)]
 pub enum End<'a> {
     /// It left by a GEM port, with these bytes.
-    Left { gem: u16, frame: Digits<'a> },
+    Left {
+        gem: SeenGem,
+        extent: Extent,
+        frame: Digits<'a>,
+    },
+    /// It is known to have been dropped.
     Dropped,
+    /// It wasn't seen to leave while it was waited for.
+    Lost,
 }
 
 /// Versions that follow each other and give a frame the same answer.

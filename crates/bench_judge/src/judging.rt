@@ -5,7 +5,8 @@ ghost use Rattle.bench_judge.specs.Walk.{AreInOrder};
 
 use crate::counts::counts;
 use crate::cut::choice_until;
-use crate::deviation::{wrong_frame, wrong_reply};
+use crate::deviation::{wrong_event, wrong_frame};
+use crate::evidence::{evidence, is_finished};
 use crate::fault::JudgeFault;
 use crate::halving::turn;
 use crate::judgement::{Deviation, Explanation, Judgement, Wrong};
@@ -29,13 +30,13 @@ fn judge_events<'a, W: Watch>(
     watch.reached(Stage::Read {
         lines: events.len(),
     });
-    let walk = walk_through(alloc, events, settings.modelled)?;
+    let walk = walk_through(alloc, events, settings)?;
     watch.reached(Stage::Walked {
         frames: walk.frames.len(),
         requests: walk.requests.len(),
     });
-    let Some(versions) = choice_until(alloc, events, &walk, settings.unordered, walk.walked)? else {
-        let place = turn(alloc, events, &walk, settings.unordered, watch)?;
+    let Some(versions) = choice_until(alloc, events, &walk, settings, walk.walked)? else {
+        let place = turn(alloc, events, &walk, settings, watch)?;
         let frame = wrong_frame(alloc, events, &walk, settings, place)?;
         return Ok(Judgement::Deviates(Deviation {
             line: place + 1,
@@ -45,12 +46,15 @@ fn judge_events<'a, W: Watch>(
     if walk.walked < events.len() {
         return Ok(Judgement::Deviates(Deviation {
             line: walk.walked + 1,
-            wrong: wrong_reply(events, walk, settings),
+            wrong: wrong_event(events, walk, settings),
         }));
     }
+    let counts = counts(events, &walk.frames, walk.requests.len());
     Ok(Judgement::Explained(Explanation {
-        counts: counts(events, walk.requests.len()),
+        counts,
         steps: steps(alloc, &walk.frames, &versions, settings.unordered)?,
+        finished: is_finished(events),
+        evidence: evidence(&walk.frames, counts.replies),
     }))
 }
 

@@ -19,6 +19,7 @@ mod bounds;
 mod counts;
 mod cut;
 mod deviation;
+mod evidence;
 mod fault;
 mod fitting;
 mod frame;
@@ -39,8 +40,8 @@ mod watch;
 
 pub use fault::JudgeFault;
 pub use judgement::{
-    Answer, Counts, Deviation, End, Explanation, Judgement, Leaving, Run, Step, Wrong, WrongFrame,
-    WrongReply,
+    Answer, Counts, Deviation, End, Evidence, Explanation, Judgement, Leaving, Run, Step, Wrong,
+    WrongFrame, WrongReply,
 };
 pub use judging::{judge, judge_pieces, judge_watched};
 pub use laws::{law_of_fronts, law_of_least_versions};

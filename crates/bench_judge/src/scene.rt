@@ -3,24 +3,27 @@ ghost use Rattle.std.specs.Prelude.{◌≡◌, ◌+◌, ◌<◌, ◌≤◌, ◌^
 ghost use Rattle.bench_history.specs.History.{may_follow};
 ghost use Rattle.bench_history.specs.declared.event.Event.{Event};
 ghost use Rattle.bench_history.specs.declared.event.Event.TheVariants.{Entered, Waited};
+ghost use Rattle.bench_judge.specs.Admitted.{IsAdmitted};
 ghost use Rattle.bench_judge.specs.Replies.{IsRight};
-ghost use Rattle.bench_judge.specs.Scene.{IsAdmitted, IsScene};
-ghost use Rattle.bench_judge.specs.Walk.{AreInOrder, IsNext, IsWalk, IsWrong};
+ghost use Rattle.bench_judge.specs.Scene.{IsScene, ended_by};
+ghost use Rattle.bench_judge.specs.Walk.{AreInOrder, IsNext, IsRefused, IsWalk};
 ghost use Rattle.bench_judge.specs.Windows.{least_behind, waits_for};
 ghost use Rattle.bench_judge.specs.declared.frame.Frame.{Frame};
 
 use crate::asking::Asking;
 use crate::frame::Frame;
 use crate::replying::is_reply_to;
+use crate::settings::JudgeSettings;
 use crate::walk::{Awaited, Walk};
-use bench_history::{Digits, Event};
+use bench_history::{Digits, Event, Extent};
+use bench_sight::is_enough;
 use std::alloc::{AllocError, Global};
 
 /// What is kept of the events so far, so that each is looked at once.
 #[derive(Drop)]
 pub(crate) struct Scene {
-    /// Whether the contents of replies are looked at only where they are modelled.
-    pub(crate) modelled: bool,
+    /// What the history is judged by.
+    pub(crate) settings: JudgeSettings,
     /// The messages.
     pub(crate) asking: Asking,
     /// The frames, by their numbers.
@@ -31,29 +34,38 @@ pub(crate) struct Scene {
     pub(crate) waited: usize,
 }
 
-/// Ends the frame of a number: by the event at a place, and with the greatest version that it may have.
+/// A frame that the event at a place ends, with the greatest version that it may have. One of which too little is known stays open.
+fn ended_by(frame: &Frame, place: usize, most: usize) -> Frame
+    ensures { result ≡ ended_by place most frame.now }
+{
+    if !frame.is_enough {
+        return *frame;
+    }
+    Frame {
+        ended: Some(place),
+        most,
+        ..*frame
+    }
+}
+
+/// Ends the frame of a number.
 fn end_frame(frames: &mut Vec<Frame>, number: u32, place: usize, most: usize)
     ensures { (frame : Frame) → slice_get frames.old.items number ≡ Some frame
-        → frames.new.items ≡ slice_set frames.old.items number
-        (record frame { ended = Some place; most = most }) }
+        → frames.new.items ≡ slice_set frames.old.items number (ended_by place most frame) }
 {
     if let Some(frame) = frames.get_mut(number as usize) {
-        *frame = Frame {
-            ended: Some(place),
-            most,
-            ..*frame
-        };
+        *frame = ended_by(frame, place, most);
     }
 }
 
 impl Scene {
     /// What no event leaves.
-    pub(crate) fn new(alloc: Global, modelled: bool) -> Result<Self, AllocError>
-        ensures modelled { IfOk result (λ scene. scene.modelled ≡ modelled) }
+    pub(crate) fn new(alloc: Global, settings: &JudgeSettings) -> Result<Self, AllocError>
+        ensures settings { IfOk result (λ scene. scene.settings ≡ settings.now) }
         ensures scene { IfOk result (λ scene. (events : List Event) → IsScene events 0 scene) }
     {
         Ok(Scene {
-            modelled,
+            settings: *settings,
             asking: Asking::new(alloc)?,
             frames: Vec::new(alloc),
             replies: 0,
@@ -64,7 +76,7 @@ impl Scene {
     /// Whether a reply is that to the next request that wants one.
     fn is_right(&self, reply: &Digits<'_>) -> bool
         ensures { (events : List Event) (place : ℕ) → IsScene events place self.now
-            → Decides result (IsRight self.now.modelled (take place events) reply.now) }
+            → Decides result (IsRight self.now.settings.modelled (take place events) reply.now) }
     {
         match self.asking.due.get(self.replies) {
             Some(due) => is_reply_to(due, reply),
@@ -72,13 +84,14 @@ impl Scene {
         }
     }
 
-    /// Whether an event is anything but a wrong reply.
+    /// Whether an event by itself is one that a right unit may have shown.
     pub(crate) fn admits(&self, event: &Event<'_>) -> bool
         ensures { (events : List Event) (place : ℕ) → IsScene events place self.now
-            → Decides result (IsAdmitted self.now.modelled (take place events) event.now) }
+            → Decides result (IsAdmitted self.now.settings (take place events) event.now) }
     {
         match event {
             Event::Replied { reply } => self.is_right(reply),
+            Event::Strayed { .. } => self.settings.strays,
             _ => true,
         }
     }
@@ -98,10 +111,16 @@ impl Scene {
     }
 
     /// Adds the frame that the event at a place sends into a port.
-    fn enter(&mut self, place: usize, port: u16) -> Result<(), AllocError>
-        ensures modelled { self.new.modelled ≡ self.old.modelled }
-        ensures scene { (events : List Event) (frame : List ℕ)
-            → slice_get events place ≡ Some (Entered port frame)
+    fn enter(
+        &mut self,
+        place: usize,
+        port: u16,
+        extent: Extent,
+        frame: &Digits<'_>,
+    ) -> Result<(), AllocError>
+        ensures settings { self.new.settings ≡ self.old.settings }
+        ensures scene { (events : List Event)
+            → slice_get events place ≡ Some (Entered port extent frame.now)
             → IsScene events place self.old
             → IfOk result (λ _. IsScene events (place + 1) self.new) }
     {
@@ -110,6 +129,7 @@ impl Scene {
             sent: place,
             ended: None,
             port,
+            is_enough: is_enough(extent, frame),
             least,
             most: 0,
         })?;
@@ -134,7 +154,7 @@ impl Scene {
             → may_follow (take place events) (Waited replies) ≡ true
             → IsScene events place self.old
             → IsScene events (place + 1) self.new }
-        ensures modelled { self.new.modelled ≡ self.old.modelled }
+        ensures settings { self.new.settings ≡ self.old.settings }
     {
         let replies = self.waits_for(replies);
         if self.waited < replies {
@@ -159,8 +179,8 @@ impl Scene {
         ensures { (events : List Event) → AreInOrder events → walked ≤ length events
             → IsScene events walked self
             → (walked < length events
-            → IsWrong self.modelled (take walked events) (slice_get events walked))
-            → IsWalk self.modelled events result }
+            → IsRefused self.settings (take walked events) (slice_get events walked))
+            → IsWalk self.settings events result }
     {
         let awaited = self.awaited();
         Walk {
@@ -171,25 +191,31 @@ impl Scene {
         }
     }
 
-    /// Adds the event at a place, which isn't a wrong reply.
+    /// Adds the event at a place, which is admitted.
     pub(crate) fn add(&mut self, place: usize, event: &Event<'_>) -> Result<(), AllocError>
         requires { self.old.replies < 2 ^ 63 }
-        ensures modelled { self.new.modelled ≡ self.old.modelled }
+        ensures settings { self.new.settings ≡ self.old.settings }
         ensures scene { (events : List Event) → slice_get events place ≡ Some event.now
             → may_follow (take place events) event.now ≡ true
-            → IsAdmitted self.old.modelled (take place events) event.now
+            → IsAdmitted self.old.settings (take place events) event.now
             → IsScene events place self.old
             → IfOk result (λ _. IsScene events (place + 1) self.new) }
     {
         match event {
-            Event::Sent { message } => self.asking.send(place, message, self.modelled)?,
+            Event::Sent { message } => {
+                self.asking.send(place, message, self.settings.modelled)?;
+            }
             Event::Replied { .. } => self.replies += 1,
-            Event::Entered { port, .. } => self.enter(place, *port)?,
-            Event::Left { number, .. } | Event::Dropped { number } => {
+            Event::Entered {
+                port,
+                extent,
+                frame,
+            } => self.enter(place, *port, *extent, frame)?,
+            Event::Left { number, .. } | Event::Dropped { number } | Event::Lost { number } => {
                 end_frame(&mut self.frames, *number, place, self.asking.requests.len());
             }
             Event::Waited { replies } => self.wait(*replies),
-            Event::Nothing => {}
+            Event::Strayed { .. } | Event::Ended | Event::Nothing => {}
         }
         Ok(())
     }

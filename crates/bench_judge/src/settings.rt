@@ -8,4 +8,9 @@ pub struct JudgeSettings {
     pub modelled: bool,
     /// Each frame is judged by itself: a port that several lanes serve may give a frame an older version than one sent before it.
     pub unordered: bool,
+    /// A frame that was never sent, or has left before, may leave: a stray is explained.
+    pub strays: bool,
+    /// A frame that leaves with fewer than 68 bytes may be seen with zeros behind them, up to 68: a wire pads to 60 bytes without the
+    /// check sequence (IEEE 802.3, clause 4.2.3.3), before two tags are added.
+    pub padded: bool,
 }

@@ -1,17 +1,19 @@
 //! The least versions of frames, found once through all versions. Each port has a queue of its ended frames, in order: only the one at
 //! its head may be given the version that is tried, and then the next one comes to the head.
-ghost use Rattle.std.specs.Prelude.{◌≡◌, ◌<◌, ◌||◌, Bool, List, Some, true, Decides, IfOk, MatchBool, MatchOption, suc, is_some, length, nat_le, slice_get, take};
+ghost use Rattle.std.specs.Prelude.{◌≡◌, ◌<◌, ◌||◌, Bool, List, Some, true, Decides, IfOk, MatchBool, suc, is_some, length, nat_le, slice_get, take};
 ghost use Rattle.omci_msg.specs.declared.request.Request.{Request as TheRequest};
 ghost use Rattle.mib_state.specs.After.{after};
 ghost use Rattle.forward_plan.specs.Ports.{port_count};
 ghost use Rattle.bench_judge.specs.Frames.{AreWithin, MayHave};
 ghost use Rattle.bench_history.specs.declared.event.Event.{Event as TheEvent};
-ghost use Rattle.bench_judge.specs.Sweep.{AreLeast, AreQueuedSoFar, IsSoFar, IsWhole, NoneFit};
+ghost use Rattle.bench_judge.specs.Cut.{IsSwept};
+ghost use Rattle.bench_judge.specs.Sweep.{AreQueuedSoFar, IsSoFar, IsWhole, NoneFit};
 ghost use Rattle.bench_judge.specs.declared.frame.Frame.{Frame as TheFrame};
 
-use crate::frame::Frame;
-use crate::seeing::{Buffers, is_seen};
+use crate::frame::{Case, Frame};
+use crate::seeing::is_seen;
 use bench_history::Event;
+use bench_sight::Buffers;
 use forward_plan::{Live, PORTS};
 use omci_msg::Request;
 use std::alloc::{AllocError, Global};
@@ -31,40 +33,49 @@ pub(crate) struct SweepState {
 /// Whether a frame may have a version, by the entities of that version.
 pub(crate) fn may_have(
     live: &Live,
+    padded: bool,
     events: &[Event<'_>],
     frame: &Frame,
     version: usize,
     buffers: &mut Buffers,
 ) -> bool
     ensures { (requests : List TheRequest) → live.now ≡ after (take version requests)
-        → Decides result (MayHave events.now requests frame.now version) }
+        → Decides result (MayHave padded events.now requests frame.now version) }
 {
-    frame.least <= version && version <= frame.most && is_seen(live, events, frame, buffers)
+    frame.least <= version && version <= frame.most && is_seen(live, padded, events, frame, buffers)
 }
 
 /// Gives the frames at the head of a queue a version, one after the other, as long as they may have it. Whether the frame that is at the
 /// head then, if there is one, may have a greater one by its window.
 fn settle(
     live: &Live,
-    events: &[Event<'_>],
-    frames: &[Frame],
+    case: &Case<'_, '_>,
     sweep: &mut SweepState,
     slot: usize,
     version: usize,
 ) -> bool
     requires slot { slot < length sweep.old.waiting.items }
-    requires whole { IsWhole frames.now sweep.old }
-    ensures whole { IsWhole frames.now sweep.new }
+    requires whole { IsWhole case.now.frames.now sweep.old }
+    ensures whole { IsWhole case.now.frames.now sweep.new }
     ensures slots { length sweep.new.waiting.items ≡ length sweep.old.waiting.items }
-    ensures so_far { (unordered : Bool) (requests : List TheRequest)
-        → live.now ≡ after (take version requests)
-        → IsSoFar unordered events.now requests frames.now version slot sweep.old
+    ensures so_far { live.now ≡ after (take version case.now.requests.now)
+        → IsSoFar case.now.padded case.now.unordered case.now.events.now case.now.requests.now
+        case.now.frames.now version slot sweep.old
         → MatchBool result
-        (IsSoFar unordered events.now requests frames.now version (suc slot) sweep.new)
-        (NoneFit unordered events.now requests frames.now) }
+        (IsSoFar case.now.padded case.now.unordered case.now.events.now case.now.requests.now
+        case.now.frames.now version (suc slot) sweep.new)
+        (NoneFit case.now.padded case.now.unordered case.now.events.now case.now.requests.now
+        case.now.frames.now) }
 {
-    'each_head: while let Some(frame) = frames.get(sweep.waiting[slot]) {
-        if !may_have(live, events, frame, version, &mut sweep.buffers) {
+    'each_head: while let Some(frame) = case.frames.get(sweep.waiting[slot]) {
+        if !may_have(
+            live,
+            case.padded,
+            case.events,
+            frame,
+            version,
+            &mut sweep.buffers,
+        ) {
             return version < frame.most;
         }
         let number = sweep.waiting[slot];
@@ -75,25 +86,20 @@ fn settle(
 }
 
 /// Tries a version at each queue. False if some head can't take a later version.
-fn settle_all(
-    live: &Live,
-    events: &[Event<'_>],
-    frames: &[Frame],
-    sweep: &mut SweepState,
-    version: usize,
-) -> bool
-    requires whole { IsWhole frames.now sweep.old }
-    ensures whole { IsWhole frames.now sweep.new }
-    ensures so_far { (unordered : Bool) (requests : List TheRequest)
-        → live.now ≡ after (take version requests)
-        → IsSoFar unordered events.now requests frames.now version 0 sweep.old
+fn settle_all(live: &Live, case: &Case<'_, '_>, sweep: &mut SweepState, version: usize) -> bool
+    requires whole { IsWhole case.now.frames.now sweep.old }
+    ensures whole { IsWhole case.now.frames.now sweep.new }
+    ensures so_far { live.now ≡ after (take version case.now.requests.now)
+        → IsSoFar case.now.padded case.now.unordered case.now.events.now case.now.requests.now
+        case.now.frames.now version 0 sweep.old
         → MatchBool result
-        (IsSoFar unordered events.now requests frames.now version
-        (length sweep.new.waiting.items) sweep.new)
-        (NoneFit unordered events.now requests frames.now) }
+        (IsSoFar case.now.padded case.now.unordered case.now.events.now case.now.requests.now
+        case.now.frames.now version (length sweep.new.waiting.items) sweep.new)
+        (NoneFit case.now.padded case.now.unordered case.now.events.now case.now.requests.now
+        case.now.frames.now) }
 {
     for slot in 0..sweep.waiting.len() {
-        if !settle(live, events, frames, sweep, slot, version) {
+        if !settle(live, case, sweep, slot, version) {
             return false;
         }
     }
@@ -141,8 +147,8 @@ fn enqueue(
 /// The queues of frames: one for each port, or for each frame where order doesn't count.
 fn queues(alloc: Global, frames: &[Frame], unordered: bool) -> Result<SweepState, AllocError>
     ensures whole { IfOk result (IsWhole frames.now) }
-    ensures so_far { IfOk result (λ sweep. (events : List TheEvent) (requests : List TheRequest)
-        → IsSoFar unordered events requests frames.now 0 0 sweep) }
+    ensures so_far { IfOk result (λ sweep. (padded : Bool) (events : List TheEvent) (requests : List TheRequest)
+        → IsSoFar padded unordered events requests frames.now 0 0 sweep) }
 {
     let none = frames.len();
     let mut tails = vec![in alloc; none; PORTS]?;
@@ -163,26 +169,19 @@ fn queues(alloc: Global, frames: &[Frame], unordered: bool) -> Result<SweepState
 /// The least version of each frame, by its number, where all can be had together; of one that is open it is 0. None where they can't.
 ///
 /// It takes time in proportion to the frames, the versions and, for each version, the queues, and memory in proportion to the frames.
-pub(crate) fn sweep(
-    alloc: Global,
-    events: &[Event<'_>],
-    requests: &[Request],
-    frames: &[Frame],
-    unordered: bool,
-) -> Result<Option<Vec<usize>>, AllocError>
-    requires { AreWithin requests.now frames.now }
-    ensures { IfOk result (λ found. MatchOption found
-        (NoneFit unordered events.now requests.now frames.now)
-        (λ versions. AreLeast unordered events.now requests.now frames.now versions.items)) }
+pub(crate) fn sweep(alloc: Global, case: &Case<'_, '_>) -> Result<Option<Vec<usize>>, AllocError>
+    requires { AreWithin case.now.requests.now case.now.frames.now }
+    ensures { IfOk result (IsSwept case.now.padded case.now.unordered case.now.events.now
+        case.now.requests.now case.now.frames.now) }
 {
     let mut live = Live::new(alloc)?;
-    let mut sweep = queues(alloc, frames, unordered)?;
-    if !settle_all(&live, events, frames, &mut sweep, 0) {
+    let mut sweep = queues(alloc, case.frames, case.unordered)?;
+    if !settle_all(&live, case, &mut sweep, 0) {
         return Ok(None);
     }
-    for (before, request) in requests.iter().enumerate() {
+    for (before, request) in case.requests.iter().enumerate() {
         live.apply(request);
-        if !settle_all(&live, events, frames, &mut sweep, before + 1) {
+        if !settle_all(&live, case, &mut sweep, before + 1) {
             return Ok(None);
         }
     }

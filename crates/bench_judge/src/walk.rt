@@ -4,14 +4,15 @@ ghost use Rattle.bench_judge.specs.Walk.{AreInOrder, IsWalk};
 
 use crate::frame::Frame;
 use crate::scene::Scene;
+use crate::settings::JudgeSettings;
 use bench_history::Event;
 use omci_msg::{Reply, Request};
 use std::alloc::{AllocError, Global};
 
-/// What is known of events up to the first wrong reply, or of all.
+/// What is known of events up to the first that a right unit can't have shown, whatever becomes of the frames, or of all.
 #[derive(Drop)]
 pub(crate) struct Walk {
-    /// How many events were walked. Their replies are right, and where others follow, the next is a wrong reply.
+    /// How many events were walked. All are admitted, and where others follow, the next one isn't.
     pub(crate) walked: usize,
     /// The frames that they sent.
     pub(crate) frames: Vec<Frame>,
@@ -30,19 +31,19 @@ pub(crate) struct Awaited {
     pub(crate) reply: Reply,
 }
 
-/// Goes through the events of a history once, from front to back, up to the first wrong reply. Where the contents of replies are looked at
-/// only as modelled, other contents are right.
+/// Goes through the events of a history once, from front to back, up to the first that isn't admitted: a wrong reply, or a stray where none
+/// may leave.
 ///
 /// It takes time and memory in proportion to the events.
 pub(crate) fn walk_through(
     alloc: Global,
     events: &[Event<'_>],
-    modelled: bool,
+    settings: &JudgeSettings,
 ) -> Result<Walk, AllocError>
     requires { AreInOrder events.now }
-    ensures { IfOk result (IsWalk modelled events.now) }
+    ensures { IfOk result (IsWalk settings.now events.now) }
 {
-    let mut scene = Scene::new(alloc, modelled)?;
+    let mut scene = Scene::new(alloc, settings)?;
     for (place, event) in events.iter().enumerate() {
         if !scene.admits(event) {
             return Ok(scene.into_walk(place));

@@ -1,7 +1,14 @@
 -- Worked examples, computed. Frames have short rests, and captures a handful of frames.
-use Rattle.std.proofs.Common.{◌≡◌, ◌++◌, ◌∷◌, ℕ, zero, suc, List, [], Option, Some, None, refl}
-use Rattle.bench_history.specs.declared.event.Event.TheVariants.{Sent, Replied, Entered, Left, Dropped, Waited}
+use Rattle.std.proofs.Common.{◌≡◌, ◌++◌, ◌∷◌, ℕ, zero, suc, List, [], Option, Some, None, codes, refl}
+use Rattle.std.specs.Fmt.{digits}
+use Rattle.hex.specs.Hex.{encode_with}
+use Rattle.bench_history.specs.declared.event.Event.{Event}
+use Rattle.bench_history.specs.declared.event.Event.TheVariants.{Sent, Replied, Entered, Left, Strayed, Dropped, Lost, Waited}
+use Rattle.bench_history.specs.declared.extent.Extent.TheVariants.{Whole, Front}
+use Rattle.bench_history.specs.declared.gem.SeenGem.TheVariants.{Port, Any}
+use Rattle.bench_record.specs.Moments.{Timed}
 use Rattle.bench_record.specs.Recorded.{history_shown}
+use Rattle.bench_record.specs.Text.{text_of}
 use Rattle.bench_record.specs.declared.captured.CapturedFrame.{CapturedFrame}
 use Rattle.bench_record.specs.declared.captured.Tap.{Tap}
 use Rattle.bench_record.specs.declared.captured.Tap.TheVariants.{Omci, Into, OutOf}
@@ -30,8 +37,8 @@ equal_frames : history_shown (settings None None)
     (at 1 (Into 257) (plain 0) ∷ at 2 (Into 258) (tagged 0) ∷ at 3 (OutOf 7) (tagged 0) ∷ at 4 (OutOf 8) (plain 0) ∷ at 5 (OutOf 9) (plain 0) ∷ [])
     ≡ record {
       events =
-          record { time = 1; event = Entered 257 (plain 0) } ∷ record { time = 2; event = Entered 258 (tagged 0) }
-          ∷ record { time = 3; event = Left 7 0 (tagged 0) } ∷ record { time = 4; event = Left 8 1 (plain 0) } ∷ [];
+          record { time = 1; event = Entered 257 Whole (plain 0) } ∷ record { time = 2; event = Entered 258 Whole (tagged 0) }
+          ∷ record { time = 3; event = Left (Port 7) Whole 0 (tagged 0) } ∷ record { time = 4; event = Left (Port 8) Whole 1 (plain 0) } ∷ [];
       passed = record { other = 0; unmatched = 1; unwritable = 0 };
     }
 equal_frames = refl
@@ -41,8 +48,8 @@ lost_frames : history_shown (settings None (Some 1))
     (at 1000002 (OutOf 7) (plain 0) ∷ at 0 (Into 257) (plain 0) ∷ at 2 (Into 257) (plain 0) ∷ at 1000003 (OutOf 7) (plain 0) ∷ [])
     ≡ record {
       events =
-          record { time = 0; event = Entered 257 (plain 0) } ∷ record { time = 2; event = Entered 257 (plain 0) }
-          ∷ record { time = 1000000; event = Dropped 0 } ∷ record { time = 1000002; event = Left 7 1 (plain 0) } ∷ [];
+          record { time = 0; event = Entered 257 Whole (plain 0) } ∷ record { time = 2; event = Entered 257 Whole (plain 0) }
+          ∷ record { time = 1000000; event = Dropped 0 } ∷ record { time = 1000002; event = Left (Port 7) Whole 1 (plain 0) } ∷ [];
       passed = record { other = 0; unmatched = 1; unwritable = 0 };
     }
 lost_frames = refl
@@ -63,10 +70,28 @@ one_time : history_shown (settings (Some 0) (Some 0))
     (at 5 (OutOf 7) (plain 0) ∷ at 5 (Into 257) (plain 0) ∷ at 5 (Into 258) (plain 1) ∷ at 5 Omci (managing 36) ∷ at 5 Omci (managing 68) ∷ at 5 Omci (plain 0) ∷ [])
     ≡ record {
       events =
-          record { time = 5; event = Sent (message 68) } ∷ record { time = 5; event = Entered 257 (plain 0) }
-          ∷ record { time = 5; event = Entered 258 (plain 1) } ∷ record { time = 5; event = Replied (message 36) }
-          ∷ record { time = 5; event = Waited (Some 1) } ∷ record { time = 5; event = Left 7 0 (plain 0) }
+          record { time = 5; event = Sent (message 68) } ∷ record { time = 5; event = Entered 257 Whole (plain 0) }
+          ∷ record { time = 5; event = Entered 258 Whole (plain 1) } ∷ record { time = 5; event = Replied (message 36) }
+          ∷ record { time = 5; event = Waited (Some 1) } ∷ record { time = 5; event = Left (Port 7) Whole 0 (plain 0) }
           ∷ record { time = 5; event = Dropped 1 } ∷ [];
       passed = record { other = 1; unmatched = 0; unwritable = 0 };
     }
 one_time = refl
+
+-- ---- lines
+
+abbrev timed : Event → Timed
+timed event = record { time = 0; event = event }
+
+-- a line for each event, and one for the end
+each_line : text_of
+    (timed (Sent (0 ∷ 255 ∷ [])) ∷ timed (Replied (26 ∷ [])) ∷ timed (Waited (Some 1)) ∷ timed (Waited None)
+    ∷ timed (Entered 257 Whole (10 ∷ [])) ∷ timed (Entered 7 Front []) ∷ timed (Left (Port 9) Whole 0 (192 ∷ 11 ∷ []))
+    ∷ timed (Strayed Any Front (1 ∷ [])) ∷ timed (Lost 1) ∷ [])
+    ≡ codes "o 00ff\nr 1a\nw 1\nw\nf 257 0a\nf 7 ..\ng 0 9 c00b\ns any 01..\nl 1\ne\n"
+unfolding encode_with digits
+each_line = refl
+
+no_line : text_of [] ≡ codes "e\n"
+unfolding encode_with
+no_line = refl

@@ -1,6 +1,6 @@
 -- What is written part by part.
 use Rattle.std.proofs.Common.{◌≡◌, ◌≤◌, ◌<◌, ◌+◌, ◌/◌, ◌%◌, ◌++◌, ◌∷◌, [], ℕ, zero, suc, List, Option, Result, Ok, Err, append_assoc, get_or, length, map, slice_index, take, drop, refl, ap, sym, ◌∙◌, arith, length-append, subst}
-use Rattle.std.specs.Prelude.{OnErr}
+use Rattle.std.specs.Prelude.{OnErr, OnOk}
 use Rattle.std.specs.Io.KnownBytes.{Appends}
 use Rattle.std.proofs.KnownBytes.{Appends-trans}
 use Rattle.std.proofs.lemmas.List.{append-nil, take-append-le}
@@ -8,7 +8,9 @@ use Rattle.std.proofs.Math.ListN.{take-append-drop}
 use Rattle.std.proofs.Math.Seq.{drop-cons, take-append-add}
 use Rattle.hex.specs.Hex.{encode_lower, encode_with, lower_digits}
 use Rattle.text_writing.specs.Written.{AppendsPart}
-use Rattle.bench_record.specs.Text.{event_shown, line_of, text_of, timed_shown}
+use Rattle.bench_record.specs.Text.{bytes_of, event_shown, head_of, line_of, tail_of, text_of, timed_shown}
+use Rattle.bench_record.specs.declared.event.RecordedEvent.{RecordedEvent}
+use Rattle.bench_record.specs.declared.event.RecordedEvent.TheVariants as recorded
 use Rattle.bench_record.specs.declared.event.TimedEvent.{TimedEvent}
 
 -- a part behind bytes
@@ -77,6 +79,19 @@ all_written a b rest bytes is written =
 
 -- ---- lines
 
+-- all of a frame stands in its line
+whole_tail : (event : RecordedEvent) → tail_of (event_shown event) ≡ []
+whole_tail (recorded.Sent message) = refl
+whole_tail (recorded.Replied reply) = refl
+whole_tail (recorded.Entered port frame) = refl
+whole_tail (recorded.Left gem number frame) = refl
+whole_tail (recorded.Dropped number) = refl
+whole_tail (recorded.Waited replies) = refl
+
+pub line_is : (event : RecordedEvent) → head_of (event_shown event) ++ (encode_lower (bytes_of (event_shown event)) ++ 10 ∷ []) ≡ line_of (event_shown event)
+line_is event =
+    ap (λ tail. head_of (event_shown event) ++ (encode_lower (bytes_of (event_shown event)) ++ (tail ++ 10 ∷ []))) (sym (whole_tail event))
+
 -- with the lines of the events from one on, the whole text is written
 pub record IsTold (before now : Option (List ℕ)) (i : ℕ) (events : List TimedEvent) : Type 0 where
   pub front : List ℕ
@@ -114,11 +129,30 @@ part_told a b c i events d within told part =
     (part_behind a b c told.front (line_at events i d ++ text_of (map timed_shown (drop (i + 1) events))) told.so_far
     (part_before b c (line_at events i d) (text_of (map timed_shown (drop (i + 1) events))) part))
 
-pub all_told : (a b : Option (List ℕ)) (i : ℕ) (events : List TimedEvent) → length events ≤ i → IsTold a b i events
-    → Appends a b (text_of (map timed_shown events))
-all_told a b i events past told =
-    subst (Appends a b)
-    (sym (append-nil told.front) ∙ ap (λ (xs : List TimedEvent). told.front ++ text_of (map timed_shown xs)) (sym (drop-past i events past)) ∙ told.whole) told.so_far
+-- the line of the end
+abbrev pub last_line : List ℕ
+last_line = 101 ∷ 10 ∷ []
+
+last_is : text_of [] ≡ last_line
+unfolding encode_with
+last_is = refl
+
+-- with that line behind those of all events, the whole text is written
+told_whole : (a b : Option (List ℕ)) (i : ℕ) (events : List TimedEvent) → length events ≤ i → (told : IsTold a b i events)
+    → told.front ++ last_line ≡ text_of (map timed_shown events)
+told_whole a b i events past told =
+    ap (λ xs. told.front ++ xs) (sym last_is)
+    ∙ ap (λ (xs : List TimedEvent). told.front ++ text_of (map timed_shown xs)) (sym (drop-past i events past)) ∙ told.whole
+
+pub all_told : (a b c : Option (List ℕ)) (i : ℕ) (events : List TimedEvent) → length events ≤ i → IsTold a b i events → Appends b c last_line
+    → Appends a c (text_of (map timed_shown events))
+all_told a b c i events past told last =
+    subst (Appends a c) (told_whole a b i events past told) (Appends-trans a b c told.front last_line told.so_far last)
+
+pub last_told : (a b c : Option (List ℕ)) (i : ℕ) (events : List TimedEvent) → length events ≤ i → IsTold a b i events → AppendsPart b c last_line
+    → AppendsPart a c (text_of (map timed_shown events))
+last_told a b c i events past told part =
+    subst (AppendsPart a c) (told_whole a b i events past told) (part_behind a b c told.front last_line told.so_far part)
 
 -- ---- results
 
@@ -129,3 +163,7 @@ any_err (Err e) P is = is
 pub err_weaker : {T E : Type 0} (r : Result T E) (P Q : Type 0) → (P → Q) → OnErr r P → OnErr r Q
 err_weaker (Ok x) P Q then_so is = tt
 err_weaker (Err e) P Q then_so is = then_so is
+
+pub ok_weaker : {T E : Type 0} (r : Result T E) (P Q : Type 0) → (P → Q) → OnOk r P → OnOk r Q
+ok_weaker (Ok x) P Q then_so is = then_so is
+ok_weaker (Err e) P Q then_so is = tt

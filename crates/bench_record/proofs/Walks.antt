@@ -9,6 +9,8 @@ use Rattle.std.specs.List.Sorted.{IsNonDecreasingBy}
 use Rattle.omci_msg.specs.Message.{acknowledges, type_of}
 use Rattle.std.proofs.lemmas.Bool.{le-leb, lt-leb, lt-ltb}
 use Rattle.bench_history.specs.declared.event.Event.TheVariants.{Sent, Replied, Entered, Left, Dropped}
+use Rattle.bench_history.specs.declared.extent.Extent.TheVariants.{Whole}
+use Rattle.bench_history.specs.declared.gem.SeenGem.TheVariants.{Port}
 use Rattle.bench_record.specs.Index.{IsIndex, IsSeen, earliest_of, is_open, kept, marked}
 use Rattle.bench_record.specs.Cores.{Core, core_of, is_same_core}
 use Rattle.bench_record.specs.Messages.{message_of}
@@ -113,7 +115,7 @@ left_seen lost since time seen old new n is sent waiting replies events passed =
 
 pub enter_is : (tpids : List ℕ) (time port : ℕ) (frame : List ℕ) (seen : Seen) (core : Core) → length frame ≤ 9990 → length seen.sent < 4294967296
     → core ≡ core_of tpids frame
-    → with_events (record { time = time; event = Entered port frame } ∷ []) (with_sent (seen.sent ++ record { time = time; core = core; has_left = false } ∷ []) seen)
+    → with_events (record { time = time; event = Entered port Whole frame } ∷ []) (with_sent (seen.sent ++ record { time = time; core = core; has_left = false } ∷ []) seen)
     ≡ enter tpids time port frame seen
 enter_is tpids time port frame seen core short few is =
     rw (le-leb (length frame) 9990 short, lt-ltb (length seen.sent) 4294967296 few, is) refl
@@ -126,7 +128,7 @@ leave_is s time gem frame seen core r small is found =
     (found ∙ ap (λ p. position p seen.sent) (sym (may_leave_is s.lost time core small)) ∙ ap (λ c. position (may_leave s.lost time c) seen.sent) is)
 
 pub leave_short : (n time gem : ℕ) (frame : List ℕ) (seen : Seen) → length frame ≤ 9990
-    → with_events (record { time = time; event = Left gem n frame } ∷ []) (with_sent (leave_at n seen.sent) seen) ≡ leave_as (Some n) time gem frame seen
+    → with_events (record { time = time; event = Left (Port gem) Whole n frame } ∷ []) (with_sent (leave_at n seen.sent) seen) ≡ leave_as (Some n) time gem frame seen
 leave_short n time gem frame seen short = rw (le-leb (length frame) 9990 short) refl
 
 pub leave_long : (n time gem : ℕ) (frame : List ℕ) (seen : Seen) → 9990 < length frame

@@ -1,7 +1,9 @@
 -- When an event stands in a history: by its time, in nanoseconds, and at one time by its kind.
 use Rattle.std.specs.Prelude.{ℕ, ◌+◌, ◌*◌, List, Option, Some, None}
 use Rattle.bench_history.specs.declared.event.Event.{Event}
-use Rattle.bench_history.specs.declared.event.Event.TheVariants.{Sent, Replied, Entered, Left, Dropped, Waited, Nothing}
+use Rattle.bench_history.specs.declared.event.Event.TheVariants.{Sent, Replied, Entered, Left, Strayed, Dropped, Lost, Waited, Ended, Nothing}
+use Rattle.bench_history.specs.declared.extent.Extent.TheVariants.{Whole}
+use Rattle.bench_history.specs.declared.gem.SeenGem.TheVariants.{Port}
 use Rattle.bench_record.specs.Messages.{event_of_message, message_of}
 use Rattle.bench_record.specs.declared.captured.CapturedFrame.{CapturedFrame}
 use Rattle.bench_record.specs.declared.captured.Tap.{Tap}
@@ -12,15 +14,18 @@ pub record Timed : Type 0 where
   pub time : ℕ
   pub event : Event
 
--- at one time: messages that were sent, frames that were sent, replies, waits, frames that leave, frames that are dropped
+-- at one time: messages that were sent, frames that were sent, replies, waits, frames that leave, frames that don't, and the end
 abbrev pub rank_of : Event → ℕ
 rank_of (Sent message) = 0
-rank_of (Entered port frame) = 1
+rank_of (Entered port extent frame) = 1
 rank_of (Replied reply) = 2
 rank_of (Waited replies) = 3
-rank_of (Left gem number frame) = 4
+rank_of (Left gem extent number frame) = 4
+rank_of (Strayed gem extent frame) = 4
 rank_of (Dropped number) = 5
-rank_of Nothing = 6
+rank_of (Lost number) = 5
+rank_of Ended = 6
+rank_of Nothing = 7
 
 -- each time has eight moments, one for each rank
 abbrev pub moment : ℕ → ℕ → ℕ
@@ -36,8 +41,8 @@ rank_of_message None = 0
 -- the rank of what a frame shows that was captured there; it doesn't depend on the numbers
 abbrev pub rank_at : Tap → List ℕ → ℕ
 rank_at Omci frame = rank_of_message (message_of frame)
-rank_at (Into port) frame = rank_of (Entered port frame)
-rank_at (OutOf gem) frame = rank_of (Left gem 0 frame)
+rank_at (Into port) frame = rank_of (Entered port Whole frame)
+rank_at (OutOf gem) frame = rank_of (Left (Port gem) Whole 0 frame)
 
 abbrev pub moment_of_frame : CapturedFrame → ℕ
 moment_of_frame captured = moment captured.time (rank_at captured.tap captured.bytes.now)

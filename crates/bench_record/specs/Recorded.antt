@@ -1,6 +1,8 @@
 -- The history that captured frames show.
 use Rattle.std.specs.Prelude.{ℕ, zero, suc, ◌+◌, ◌*◌, ◌&&◌, Bool, true, false, not, List, [], ◌∷◌, ◌++◌, length, Option, Some, None, if◌then◌else◌, min, nat_lt, nat_le, position}
 use Rattle.bench_history.specs.declared.event.Event.TheVariants.{Replied, Sent, Entered, Left, Dropped, Waited}
+use Rattle.bench_history.specs.declared.extent.Extent.TheVariants.{Whole}
+use Rattle.bench_history.specs.declared.gem.SeenGem.TheVariants.{Port}
 use Rattle.omci_msg.specs.Message.{acknowledges, type_of}
 use Rattle.bench_record.specs.Cores.{Core, core_of, is_same_core}
 use Rattle.bench_record.specs.Messages.{message_of}
@@ -101,7 +103,7 @@ see_message s time None seen = other seen
 abbrev pub enter : List ℕ → ℕ → ℕ → List ℕ → Seen → Seen
 enter tpids time port frame seen =
     if fits frame && nat_lt (length seen.sent) most_frames then
-    with_events (record { time = time; event = Entered port frame } ∷ [])
+    with_events (record { time = time; event = Entered port Whole frame } ∷ [])
     (with_sent (seen.sent ++ record { time = time; core = core_of tpids frame; has_left = false } ∷ []) seen)
     else unwritable seen
 
@@ -119,7 +121,7 @@ leave_at (suc n) (sent ∷ more) = sent ∷ leave_at n more
 abbrev pub leave_as : Option ℕ → ℕ → ℕ → List ℕ → Seen → Seen
 leave_as (Some n) time gem frame seen =
     let left = with_sent (leave_at n seen.sent) seen in
-    if fits frame then with_events (record { time = time; event = Left gem n frame } ∷ []) left else unwritable left
+    if fits frame then with_events (record { time = time; event = Left (Port gem) Whole n frame } ∷ []) left else unwritable left
 leave_as None time gem frame seen = unmatched seen
 
 -- the first frame sent that may be it

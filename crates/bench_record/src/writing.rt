@@ -133,7 +133,8 @@ fn write_line<W: Write>(writer: &mut W, event: &RecordedEvent<'_>) -> Result<(),
     write_whole(writer, b"\n")
 }
 
-/// Writes events as the lines of a history, in lower case, each ended by a line feed.
+/// Writes events as the lines of a history, in lower case, each ended by a line feed, and the line `e` behind them: the observation ended
+/// there. So these are events of captures that were read to their ends; a history of others is cut, and no call writes one.
 ///
 /// It takes no memory: the digits of a frame are written in pieces of at most 2,048 bytes. A line takes three writes or more, so the
 /// writer should gather what it is given, as a `BufWriter` does. The first write that fails or takes no byte ends it: then a front of
@@ -147,5 +148,5 @@ pub fn write_history<W: Write>(events: &[TimedEvent<'_>], writer: &mut W) -> Res
     for timed in events {
         write_line(writer, &timed.event)?;
     }
-    Ok(())
+    write_whole(writer, b"e\n")
 }

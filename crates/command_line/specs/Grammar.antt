@@ -121,6 +121,15 @@ modelled = flag (codes "modelled")
 abbrev pub unordered : Rule
 unordered = flag (codes "unordered")
 
+abbrev pub allow_strays : Rule
+allow_strays = flag (codes "allow-strays")
+
+abbrev pub padded : Rule
+padded = flag (codes "padded")
+
+abbrev pub allow_unfinished : Rule
+allow_unfinished = flag (codes "allow-unfinished")
+
 -- a file with a history, which may be left out
 abbrev pub history : Rule
 history = record (new_rule (codes "history")) {
@@ -207,8 +216,13 @@ any_port = optional (codes "port") (Signed (pos 0) (pos 65535))
 abbrev pub graph : App
 graph = with_rule (over_trace (codes "graph")) any_port
 
+-- what says how a history is judged
+abbrev pub by_settings : App
+by_settings =
+    with_rule (with_rule (with_rule (with_rule (with_rule (new_app (codes "judge")) modelled) unordered) allow_strays) padded) allow_unfinished
+
 abbrev pub judge : App
-judge = with_rule (with_rule (with_rule (with_rule (new_app (codes "judge")) modelled) unordered) json) history
+judge = with_rule (with_rule by_settings json) history
 
 -- the identifier of the first message
 abbrev pub identifier : Rule

@@ -118,6 +118,9 @@ pub record IsJudge (rows : List Row) (words : JudgeWords) : Type 0 where
   pub file : first_of (codes "history") rows ≡ option_map (λ (name : _). name.now) words.file
   pub modelled : IsFlag (codes "modelled") rows words.modelled
   pub unordered : IsFlag (codes "unordered") rows words.unordered
+  pub allow_strays : IsFlag (codes "allow-strays") rows words.allow_strays
+  pub padded : IsFlag (codes "padded") rows words.padded
+  pub allow_unfinished : IsFlag (codes "allow-unfinished") rows words.allow_unfinished
   pub json : IsFlag (codes "json") rows words.json
 
 -- those behind `forward`

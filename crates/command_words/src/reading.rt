@@ -177,6 +177,9 @@ fn read_judge<'a>(given: &ArgMatches<'a>) -> JudgeWords<'a>
         file: given.get_str("history"),
         modelled: given.get_flag("modelled"),
         unordered: given.get_flag("unordered"),
+        allow_strays: given.get_flag("allow-strays"),
+        padded: given.get_flag("padded"),
+        allow_unfinished: given.get_flag("allow-unfinished"),
         json: given.get_flag("json"),
     }
 }

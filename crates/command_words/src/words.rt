@@ -154,6 +154,12 @@ pub struct JudgeWords<'a> {
     pub modelled: bool,
     /// Whether each frame is judged by itself.
     pub unordered: bool,
+    /// Whether a frame that was never sent, or has left before, may leave.
+    pub allow_strays: bool,
+    /// Whether a short frame may be seen with zeros behind it.
+    pub padded: bool,
+    /// Whether a history without an end line is explained too.
+    pub allow_unfinished: bool,
     /// Whether it is shown as JSON.
     pub json: bool,
 }

@@ -15,14 +15,15 @@ pub trait OverFile {
 }
 
 /// How bad a status is: the more work is left undone, the worse. Where nobody reads, nothing else can be done; a file at which the system
-/// is at fault isn't read; of one that is bad a part is; and where something is found, all is written.
+/// is at fault isn't read; of one that is bad a part is; and where something is found, or nothing was decided, all is written.
 fn badness(status: Status) -> u8 {
     match status {
         Status::Done => 0,
-        Status::Found => 1,
-        Status::Bad => 2,
-        Status::Failed => 3,
-        Status::Unread => 4,
+        Status::Undecided => 1,
+        Status::Found => 2,
+        Status::Bad => 3,
+        Status::Failed => 4,
+        Status::Unread => 5,
     }
 }
 

@@ -60,9 +60,9 @@ fn write_found<O: Write>(
     out: &mut O,
 ) -> Result<(), TextFault> {
     if words.json {
-        write_judgement_json(alloc, found, out)
+        write_judgement_json(alloc, found, words.allow_unfinished, out)
     } else {
-        write_judgement(alloc, found, out)
+        write_judgement(alloc, found, words.allow_unfinished, out)
     }
 }
 
@@ -76,6 +76,8 @@ fn judge_shown<'a, E: Write + IsTerminal>(
     let settings = JudgeSettings {
         modelled: words.modelled,
         unordered: words.unordered,
+        strays: words.allow_strays,
+        padded: words.padded,
     };
     let mut shown = Shown::new(err);
     let found = match history {
@@ -89,6 +91,20 @@ fn judge_shown<'a, E: Write + IsTerminal>(
     }
 }
 
+/// The status of what a history shows, which may be unfinished where that is allowed.
+fn status_of(found: &Judgement<'_>, allow_unfinished: bool) -> Status {
+    match found {
+        Judgement::Explained(explanation) => {
+            if explanation.passes(allow_unfinished) {
+                Status::Done
+            } else {
+                Status::Undecided
+            }
+        }
+        Judgement::Deviates(_) => Status::Found,
+    }
+}
+
 /// Judges a history, and writes what it shows to `out`. It gives the status where nothing is wrong with the call.
 fn judge_text<O: Write, E: Write + IsTerminal>(
     alloc: Global,
@@ -99,10 +115,7 @@ fn judge_text<O: Write, E: Write + IsTerminal>(
 ) -> Result<Status, LookFault> {
     let found = judge_shown(alloc, words, history, err)?;
     write_found(alloc, words, &found, out)?;
-    match found {
-        Judgement::Explained(_) => Ok(Status::Done),
-        Judgement::Deviates(_) => Ok(Status::Found),
-    }
+    Ok(status_of(&found, words.allow_unfinished))
 }
 
 /// Says what is wrong in a bad line of a history. One that is held in pieces is read again, if it can be.

@@ -3,8 +3,10 @@
 //! The judgement is the crate `bench_judge`'s, whose contracts tie it to the meaning of histories.
 #![tactic(auto)]
 
+mod above;
 mod judging;
 mod mistakes;
+mod parts;
 mod progress;
 
 pub use judging::judge_history;

@@ -1,12 +1,12 @@
 //! What is wrong in a line of a history.
-use script_lines::{LINE_LIMIT, first_line, read_decimal};
+use crate::above::{frame_ended_by, lines_above};
+use crate::parts::{in_bytes, in_end, in_gem, in_number, in_space, unexpected};
+use commands_files::line_of;
+use script_lines::{LINE_LIMIT, read_port};
 use std::fmt;
 use text_encode::without_mark;
 use text_messages::find_mistake;
-use text_writing::{Found, Mistake};
-
-/// The most digits of a frame's number, or of a count of replies.
-const MOST_DIGITS: usize = 10;
+use text_writing::{Expected, Found, Mistake};
 
 /// Why a line of a history is bad.
 #[derive(Clone, Copy)]
@@ -25,6 +25,8 @@ pub(crate) enum HistoryMistake {
     Ended(u64, u64),
     /// Fewer replies were seen.
     Unseen(u64),
+    /// The history has ended in this line.
+    Finished(u64),
 }
 
 impl fmt::Display for HistoryMistake {
@@ -45,204 +47,115 @@ impl fmt::Display for HistoryMistake {
             HistoryMistake::Unseen(count) => {
                 write!(f, "column 3: fewer than {count} replies were seen above")
             }
+            HistoryMistake::Finished(line) => {
+                write!(f, "column 1: the history has ended in line {line}")
+            }
         }
     }
 }
+
+/// The marks with which the lines of a history begin.
+const MARKS: &str = "'o', 'r', 'f', 'g', 'd', 'l', 's', 'w', 'e' or '#'";
 
 /// The line without a carriage return at its end.
 fn content_of(line: &[u8]) -> &[u8] {
     line.strip_suffix(b"\r").unwrap_or(line)
 }
 
-/// That something else is expected at a place, counted from 0.
-fn unexpected(content: &[u8], place: usize, expected: &'static str) -> HistoryMistake {
-    let found = match content.get(place) {
-        Some(byte) => Found::Byte(*byte),
-        None => Found::End,
+/// What is wrong with a message, a reply or a remark, but for its length.
+fn in_told(line: &[u8]) -> Option<HistoryMistake> {
+    let mistake = find_mistake(line);
+    match mistake.expected {
+        Expected::Limit(_) => None,
+        _ => Some(HistoryMistake::Behind(mistake)),
+    }
+}
+
+/// The place of the bytes of a frame that was sent, where its port is one.
+fn place_of_sent(content: &[u8]) -> Option<usize> {
+    let behind = content.strip_prefix(b"f ")?;
+    let space = behind.iter().position(|byte| *byte == b' ')?;
+    read_port(behind.get(..space)?)?;
+    Some(space.saturating_add(3))
+}
+
+/// What is wrong with a frame that was sent, but for its length.
+fn in_sent(line: &[u8], content: &[u8]) -> Option<HistoryMistake> {
+    match place_of_sent(content) {
+        Some(place) => in_bytes(content, place),
+        None => Some(HistoryMistake::Behind(find_mistake(line))),
+    }
+}
+
+/// What is wrong from a place on, where a space stands ahead of a GEM port and the bytes of a frame that was seen to leave.
+fn in_seen(content: &[u8], place: usize) -> Option<HistoryMistake> {
+    let gem = match in_space(content, place) {
+        Ok(behind) => in_gem(content, behind),
+        Err(mistake) => Err(mistake),
     };
-    HistoryMistake::Unexpected {
-        column: place.saturating_add(1),
-        found,
-        expected,
-    }
-}
-
-/// How many of the bytes from a place on are decimal digits.
-fn digits_from(content: &[u8], from: usize) -> usize {
-    let behind = content.get(from..).unwrap_or(&[]);
-    behind
-        .iter()
-        .position(|byte| !byte.is_ascii_digit())
-        .unwrap_or(behind.len())
-}
-
-/// The number behind a mark and a space, and the place behind it; or what is wrong with it.
-fn number_in(content: &[u8]) -> Result<(u64, usize), HistoryMistake> {
-    if content.get(1) != Some(&b' ') {
-        return Err(unexpected(content, 1, "a space"));
-    }
-    let digits = digits_from(content, 2);
-    if digits == 0 {
-        return Err(unexpected(content, 2, "a decimal digit"));
-    }
-    let behind = digits.saturating_add(2);
-    let number = content.get(2..behind).unwrap_or(&[]);
-    match read_decimal(number, MOST_DIGITS) {
-        Some(number) if number <= u64::from(u32::MAX) => Ok((number, behind)),
-        _ => Err(unexpected(content, 2, "a number of at most 4294967295")),
-    }
-}
-
-/// The number of a frame that a line ends, if it says that it ends one.
-fn ended_in(content: &[u8]) -> Option<u64> {
-    match content {
-        [b'g' | b'd', ..] => match number_in(content) {
-            Ok((number, _)) => Some(number),
-            Err(_) => None,
-        },
-        _ => None,
-    }
-}
-
-/// What the lines above one say.
-#[derive(Clone, Copy)]
-struct Above {
-    frames: u64,
-    replies: u64,
-    /// The line in which the frame ended that is asked for.
-    ended: Option<u64>,
-}
-
-/// What the first lines of a history say, and whether the frame of this number has ended in one of them.
-fn lines_above(text: &[u8], line: u64, frame: Option<u64>) -> Above {
-    let mut above = Above {
-        frames: 0,
-        replies: 0,
-        ended: None,
+    let bytes = match gem {
+        Ok(behind) => in_space(content, behind),
+        Err(mistake) => Err(mistake),
     };
-    let mut rest = text;
-    for number in 1..line {
-        if rest.is_empty() {
-            break;
-        }
-        let (found, behind) = first_line(rest);
-        match found {
-            [b'f', ..] => above.frames = above.frames.saturating_add(1),
-            [b'r', ..] => above.replies = above.replies.saturating_add(1),
-            _ if frame.is_some() && ended_in(content_of(found)) == frame => {
-                above.ended = Some(number);
-            }
-            _ => {}
-        }
-        rest = behind;
-    }
-    above
-}
-
-/// What is wrong behind the number of a frame that left: its GEM port and its bytes.
-fn in_leaving(content: &[u8], behind: usize) -> Option<HistoryMistake> {
-    if content.get(behind) != Some(&b' ') {
-        return Some(unexpected(content, behind, "a space"));
-    }
-    let from = behind.saturating_add(1);
-    let digits = digits_from(content, from);
-    if digits == 0 {
-        return Some(unexpected(content, from, "a decimal digit"));
-    }
-    let end = from.saturating_add(digits);
-    match read_decimal(content.get(from..end).unwrap_or(&[]), 5) {
-        Some(number) if number <= 65_535 => {}
-        _ => return Some(unexpected(content, from, "a number of at most 65535")),
-    }
-    if content.get(end) != Some(&b' ') {
-        return Some(unexpected(content, end, "a space"));
-    }
-    in_digits(content, end.saturating_add(1))
-}
-
-/// What is wrong in hexadecimal digits from a place on.
-fn in_digits(content: &[u8], from: usize) -> Option<HistoryMistake> {
-    let behind = content.get(from..).unwrap_or(&[]);
-    match behind.iter().position(|byte| !byte.is_ascii_hexdigit()) {
-        Some(place) => Some(unexpected(content, from.saturating_add(place), "a hexadecimal digit")),
-        None if behind.len() % 2 == 1 => {
-            Some(unexpected(content, content.len(), "a hexadecimal digit"))
-        }
-        None => None,
+    match bytes {
+        Ok(behind) => in_bytes(content, behind),
+        Err(mistake) => Some(mistake),
     }
 }
 
-/// What is wrong with a frame that ends.
-fn in_end(content: &[u8], text: &[u8], line: u64) -> HistoryMistake {
-    let (frame, behind) = match number_in(content) {
-        Ok(read) => read,
-        Err(mistake) => return mistake,
-    };
+/// What is wrong with a line that has a number behind its mark.
+fn in_numbered(content: &[u8]) -> Option<HistoryMistake> {
+    match in_number(content) {
+        Ok((_, behind)) if content.starts_with(b"g") => in_seen(content, behind),
+        Ok((_, behind)) => in_end(content, behind),
+        Err(mistake) => Some(mistake),
+    }
+}
+
+/// What is wrong with a line by itself, or None where it may stand somewhere.
+fn in_line(line: &[u8]) -> Option<HistoryMistake> {
+    let content = content_of(line);
     let bad = match content {
-        [b'g', ..] => in_leaving(content, behind),
-        _ if behind < content.len() => Some(unexpected(content, behind, "the line's end")),
-        _ => None,
+        [] | b"w" => None,
+        [b'o' | b'r' | b'#', ..] => in_told(line),
+        [b'f', ..] => in_sent(line, content),
+        [b's', ..] => in_seen(content, 1),
+        [b'g' | b'd' | b'l' | b'w', ..] => in_numbered(content),
+        [b'e', ..] => in_end(content, 1),
+        _ => Some(unexpected(content, 0, MARKS)),
     };
-    if let Some(mistake) = bad {
-        return mistake;
+    if bad.is_none() && line.len() > LINE_LIMIT {
+        return Some(unexpected(
+            line,
+            LINE_LIMIT,
+            "the line's end, behind at most 20000 bytes",
+        ));
     }
-    let above = lines_above(text, line, Some(frame));
-    match above.ended {
-        Some(ended) => HistoryMistake::Ended(frame, ended),
-        None if frame < above.frames => too_long(content),
-        None => HistoryMistake::Unsent(frame),
-    }
+    bad
 }
 
-/// That a line is too long, whose parts are right.
-fn too_long(content: &[u8]) -> HistoryMistake {
-    unexpected(
-        content,
-        LINE_LIMIT,
-        "the line's end, behind at most 20000 bytes",
-    )
-}
-
-/// What is wrong with a wait.
-fn in_wait(content: &[u8], text: &[u8], line: u64) -> HistoryMistake {
-    let (count, behind) = match number_in(content) {
-        Ok(read) => read,
-        Err(mistake) => return mistake,
-    };
-    if behind < content.len() {
-        return unexpected(content, behind, "the line's end");
+/// Why a line that is good by itself may not stand behind those above it.
+fn in_place(text: &[u8], line: u64, content: &[u8]) -> HistoryMistake {
+    let frame = frame_ended_by(content);
+    let above = lines_above(text, line, frame);
+    if let Some(end) = above.finished {
+        return HistoryMistake::Finished(end);
     }
-    let above = lines_above(text, line, None);
-    if count > above.replies {
-        return HistoryMistake::Unseen(count);
+    match (frame, above.ended) {
+        (Some(frame), Some(end)) => HistoryMistake::Ended(frame, end),
+        (Some(frame), None) => HistoryMistake::Unsent(frame),
+        (None, _) => match in_number(content) {
+            Ok((count, _)) => HistoryMistake::Unseen(count),
+            Err(mistake) => mistake,
+        },
     }
-    too_long(content)
-}
-
-/// The line of a number, from 1, without its line feed.
-fn line_of(text: &[u8], number: u64) -> &[u8] {
-    let mut rest = text;
-    for _ in 1..number {
-        if rest.is_empty() {
-            break;
-        }
-        rest = first_line(rest).1;
-    }
-    if rest.is_empty() {
-        return rest;
-    }
-    first_line(rest).0
 }
 
 /// What is wrong in a line of a history that is bad, by its number from 1.
 pub(crate) fn find_history_mistake(history: &[u8], line: u64) -> HistoryMistake {
-    let text = without_mark(history);
-    let found = line_of(text, line);
-    let content = content_of(found);
-    match content {
-        [b'o' | b'r' | b'f' | b'#', ..] => HistoryMistake::Behind(find_mistake(found)),
-        [b'g' | b'd', ..] => in_end(content, text, line),
-        [b'w', ..] => in_wait(content, text, line),
-        _ => unexpected(content, 0, "'o', 'r', 'f', 'g', 'd', 'w' or '#'"),
+    let found = line_of(history, line);
+    match in_line(found) {
+        Some(mistake) => mistake,
+        None => in_place(without_mark(history), line, content_of(found)),
     }
 }

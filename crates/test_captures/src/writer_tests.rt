@@ -152,7 +152,7 @@ const EACH: [TimedEvent<'static>; 6] = [
     },
 ];
 
-const EACH_TEXT: &[u8] = b"o 00ff\nr 1a\nw 4294967295\nf 65535 \ng 4294967295 7 c00b\nd 0\n";
+const EACH_TEXT: &[u8] = b"o 00ff\nr 1a\nw 4294967295\nf 65535 \ng 4294967295 7 c00b\nd 0\ne\n";
 
 #[test]
 fn each_event_has_a_line_and_a_write_that_fails_ends_them(rt: HostRuntime) {

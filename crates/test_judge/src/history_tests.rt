@@ -1,7 +1,7 @@
 //! Histories in pieces that are cut anywhere, and what no text shows of their events and faults. Lines by hand are rows of
 //! `tests/judged_plainly`.
 use crate::shown::{Shown, show};
-use bench_history::{Digits, Event, HistoryFault, Pieces, read_history};
+use bench_history::{Digits, Event, Extent, HistoryFault, Pieces, SeenGem, read_history};
 use bench_judge::JudgeFault;
 use script_lines::MOST_SPELLED;
 use std::alloc::{AllocError, Global};
@@ -9,7 +9,7 @@ use std::process::Abort;
 use std::test::Fail;
 use test_fixtures::{holds, same};
 
-/// A history of a line of each kind, some with digits of both cases and numbers with zeros in front.
+/// A history of a line of each kind, some with digits of both cases, fronts of frames, and numbers with zeros in front.
 const EACH_KIND: &str = "# a history\n\
     o 0001440a010c0401\n\
     r 0001240A010C0401ff\n\
@@ -24,24 +24,40 @@ const EACH_KIND: &str = "# a history\n\
     f 65535 12\n\
     d 2\n\
     o \n\
-    r \n";
+    r \n\
+    f 7 aB..\n\
+    g 3 any ..\n\
+    f 0 00\n\
+    l 0000000004\n\
+    s 00012 0F..\n\
+    s any \n\
+    e\n\
+    # the end\n";
 
-const EACH_SHOWN: [Shown<'static>; 15] = [
+const EACH_SHOWN: [Shown<'static>; 23] = [
     Shown::Nothing,
     Shown::Sent(&[0x00, 0x01, 0x44, 0x0a, 0x01, 0x0c, 0x04, 0x01]),
     Shown::Replied(&[0x00, 0x01, 0x24, 0x0a, 0x01, 0x0c, 0x04, 0x01, 0xff]),
-    Shown::Entered(257, &[0xad, 0x08, 0x00]),
-    Shown::Entered(0, &[]),
+    Shown::Entered(257, Extent::Whole, &[0xad, 0x08, 0x00]),
+    Shown::Entered(0, Extent::Whole, &[]),
     Shown::Waited(None),
     Shown::Waited(Some(1)),
     Shown::Waited(Some(0)),
     Shown::Nothing,
-    Shown::Left(1, 9, &[]),
-    Shown::Left(0, 65535, &[0xad, 0xfe]),
-    Shown::Entered(65535, &[0x12]),
+    Shown::Left(1, SeenGem::Port(9), Extent::Whole, &[]),
+    Shown::Left(0, SeenGem::Port(65535), Extent::Whole, &[0xad, 0xfe]),
+    Shown::Entered(65535, Extent::Whole, &[0x12]),
     Shown::Dropped(2),
     Shown::Sent(&[]),
     Shown::Replied(&[]),
+    Shown::Entered(7, Extent::Front, &[0xab]),
+    Shown::Left(3, SeenGem::Any, Extent::Front, &[]),
+    Shown::Entered(0, Extent::Whole, &[0x00]),
+    Shown::Lost(4),
+    Shown::Strayed(SeenGem::Port(12), Extent::Front, &[0x0f]),
+    Shown::Strayed(SeenGem::Any, Extent::Whole, &[]),
+    Shown::Ended,
+    Shown::Nothing,
 ];
 
 /// A text in three parts, the middle one empty, the first of so many bytes.
@@ -118,7 +134,7 @@ fn digits_stay_as_they_are(rt: HostRuntime) {
 
 #[test]
 fn events_are_small_and_faults_have_words(rt: HostRuntime) -> Result<(), Fail> {
-    same!(rt; (size_of::<Digits<'static>>(), size_of::<Event<'static>>()), (16, 24));
+    same!(rt; (size_of::<Digits<'static>>(), size_of::<Event<'static>>()), (16, 32));
     let (read, no_room) = (HistoryFault::BadLine(7), HistoryFault::NoMemory);
     let (line, memory) = (JudgeFault::BadLine(7), JudgeFault::NoMemory);
     same!(rt; (line.code(), memory.code()), (1, 2));

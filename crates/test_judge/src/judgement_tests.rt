@@ -1,7 +1,9 @@
 //! Texts of judgements that are made by hand: where no version is left, which no history shows, and where a writer is full. The dialogues
 //! (`tests/dialogues`) ask the program for the texts of histories.
-use bench_history::{Digits, Event, read_history};
-use bench_judge::{Counts, Deviation, End, Explanation, Judgement, Step, Wrong, WrongFrame};
+use bench_history::{Digits, Event, Extent, SeenGem, read_history};
+use bench_judge::{
+    Counts, Deviation, End, Evidence, Explanation, Judgement, Step, Wrong, WrongFrame,
+};
 use std::alloc::{AllocError, Global};
 use std::process::Abort;
 use std::test::Fail;
@@ -24,7 +26,7 @@ fn digits_of<'a>(rt: &impl Abort, alloc: Global, line: &'a str) -> Digits<'a> {
     }
 }
 
-/// The judgement of a frame to which no version is left.
+/// The judgement of a frame to which no version is left, of which a front was seen to leave.
 fn deviation<'a>(rt: &impl Abort, alloc: Global) -> Judgement<'a> {
     Judgement::Deviates(Deviation {
         line: 30,
@@ -32,9 +34,11 @@ fn deviation<'a>(rt: &impl Abort, alloc: Global) -> Judgement<'a> {
             number: 7,
             port: 65535,
             sent_line: 20,
+            extent: Extent::Whole,
             sent: digits_of(rt, alloc, SENT),
             seen: End::Left {
-                gem: 9,
+                gem: SeenGem::Any,
+                extent: Extent::Front,
                 frame: digits_of(rt, alloc, SEEN),
             },
             at_least: 6,
@@ -46,21 +50,21 @@ fn deviation<'a>(rt: &impl Abort, alloc: Global) -> Judgement<'a> {
 
 const NO_VERSION: &str = "deviation at line 30\n\
     frame 7, sent into port 65535 at line 20\n\
-    seen g 9 abcdef\n\
+    seen g any abcdef..\n\
     no version is left: at least 6 by frames before it or by what was waited for, at most 5\n";
 
-const NO_VERSION_JSON: &str = "{\"format\":1,\"explained\":false,\"line\":30,\
+const NO_VERSION_JSON: &str = "{\"format\":2,\"explained\":false,\"line\":30,\
     \"frame\":{\"number\":7,\"port\":65535,\"sent_line\":20,\
-    \"seen\":{\"gem\":9,\"frame\":\"abcdef\"},\"at_least\":6,\"at_most\":5,\"versions\":[\n]}}\n";
+    \"seen\":{\"gem\":\"any\",\"front\":\"abcdef\"},\"at_least\":6,\"at_most\":5,\"versions\":[\n]}}\n";
 
 #[test]
 fn where_no_version_is_left_the_bounds_say_so(rt: HostRuntime) {
     let found = deviation(&rt, rt.alloc());
     let mut text = Vec::new(rt.alloc());
-    same!(rt; write_judgement(rt.alloc(), &found, &mut text), Ok(()));
+    same!(rt; write_judgement(rt.alloc(), &found, false, &mut text), Ok(()));
     same!(rt; text.as_slice(), NO_VERSION.as_bytes());
     let mut json = Vec::new(rt.alloc());
-    same!(rt; write_judgement_json(rt.alloc(), &found, &mut json), Ok(()));
+    same!(rt; write_judgement_json(rt.alloc(), &found, false, &mut json), Ok(()));
     same!(rt; json.as_slice(), NO_VERSION_JSON.as_bytes());
 }
 
@@ -86,14 +90,19 @@ fn explanation(alloc: Global) -> Result<Judgement<'static>, AllocError> {
             replies: 7,
             forwarded: 3,
             dropped: 1,
+            lost: 4,
             open: 2,
+            strays: 5,
+            cut: 6,
         },
         steps,
+        finished: true,
+        evidence: Evidence::Judged,
     }))
 }
 
 const EXPLAINED: &str = "messages 8 accepted 6 replies 7\n\
-    frames 6 forwarded 3 dropped 1 open 2\n\
+    frames 10 forwarded 3 dropped 1 open 2 strays 5 lost 4 cut 6\n\
     port 257 version 4 from frame 0 line 12\n\
     port 65535 version 6 from frame 3 line 17\n\
     explained\n";
@@ -103,7 +112,7 @@ fn write_front(rt: &impl Abort, alloc: Global, found: &Judgement<'_>, front: &[u
     let mut bytes = [0; 200];
     let room = front.len().min(200);
     let mut writer = &mut bytes[..room];
-    let outcome = write_judgement(alloc, found, &mut writer);
+    let outcome = write_judgement(alloc, found, false, &mut writer);
     same!(rt; outcome, Err(TextFault::Write), "{room} bytes");
     same!(rt; &bytes[..room], front);
 }
@@ -114,7 +123,7 @@ fn an_explained_history_has_counts_and_steps_and_a_full_writer_their_front(
 ) -> Result<(), Fail> {
     let found = explanation(rt.alloc())?;
     let mut text = Vec::new(rt.alloc());
-    same!(rt; write_judgement(rt.alloc(), &found, &mut text), Ok(()));
+    same!(rt; write_judgement(rt.alloc(), &found, false, &mut text), Ok(()));
     same!(rt; text.as_slice(), EXPLAINED.as_bytes());
     for room in 0..EXPLAINED.len() {
         write_front(&rt, rt.alloc(), &found, &EXPLAINED.as_bytes()[..room]);

@@ -1,6 +1,6 @@
 //! A history that is written while it happens, by several threads.
 use forward_plan::Verdict;
-use std::alloc::Global;
+use std::alloc::{AllocError, Global};
 use std::io::Write;
 use std::sync::{Mutex, Wait};
 
@@ -56,6 +56,13 @@ impl History {
                 let _ = writeln!(self.text, "d {number}");
             }
         }
+    }
+
+    /// The text so far, and the line that says that the observation ended there.
+    pub(crate) fn ended(&self, alloc: Global) -> Result<Vec<u8>, AllocError> {
+        let mut text = self.text.to_vec(alloc)?;
+        text.extend_from_slice(b"e\n")?;
+        Ok(text)
     }
 
     /// A line that says that what was replied to is in force.

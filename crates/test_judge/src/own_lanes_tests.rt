@@ -184,18 +184,25 @@ fn fall_back(rt: &(impl Wait + Abort), alloc: Global, history: &Mutex<History>) 
     end(rt, alloc, history, number, &old.forward(257, &UNTAGGED));
 }
 
-/// How a history is judged: the counts of messages, replies and ended frames where it is explained,
+/// How a history is judged: whether it passes, and the counts of messages, replies and ended frames where it is explained,
 /// and the line of the deviation where it isn't.
-fn found(rt: &impl Abort, alloc: Global, text: &[u8]) -> Result<(usize, usize, usize), usize> {
+fn found(
+    rt: &impl Abort,
+    alloc: Global,
+    text: &[u8],
+) -> Result<(bool, usize, usize, usize), usize> {
     let settings = JudgeSettings {
         modelled: false,
         unordered: false,
+        strays: false,
+        padded: false,
     };
     match judge(alloc, text, &settings).expect(rt, "a history") {
         Judgement::Explained(explained) => {
+            let passes = explained.passes(false);
             let counts = explained.counts;
             let ended = counts.forwarded.saturating_add(counts.dropped);
-            Ok((counts.messages, counts.replies, ended))
+            Ok((passes, counts.messages, counts.replies, ended))
         }
         Judgement::Deviates(deviation) => Err(deviation.line),
     }
@@ -205,9 +212,13 @@ fn found(rt: &impl Abort, alloc: Global, text: &[u8]) -> Result<(usize, usize, u
 fn what_own_lanes_do_is_explained_and_an_old_version_is_not(rt: HostRuntime) -> Result<(), Fail> {
     let history = Mutex::new(History::new(rt.alloc()));
     same!(rt; play(&rt, &history), Ok(()));
-    same!(rt; found(&rt, rt.alloc(), &history.lock(&rt).text), Ok((127, 127, 901)));
+    // It passes where it has ended.
+    let unfinished = found(&rt, rt.alloc(), &history.lock(&rt).text);
+    same!(rt; unfinished, Ok((false, 127, 127, 901)));
+    let text = history.lock(&rt).ended(rt.alloc())?;
+    same!(rt; found(&rt, rt.alloc(), &text), Ok((true, 127, 127, 901)));
     fall_back(&rt, rt.alloc(), &history);
-    let judged = found(&rt, rt.alloc(), &history.lock(&rt).text);
-    same!(rt; judged, Err(2 * 127 + 2 * 902 + 3));
+    let text = history.lock(&rt).ended(rt.alloc())?;
+    same!(rt; found(&rt, rt.alloc(), &text), Err(2 * 127 + 2 * 902 + 3));
     Ok(())
 }

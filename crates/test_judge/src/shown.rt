@@ -1,5 +1,5 @@
 //! Events with the bytes that their digits spell.
-use bench_history::Event;
+use bench_history::{Event, Extent, SeenGem};
 use script_lines::MOST_SPELLED;
 
 /// An event with its bytes, which lie in a buffer.
@@ -7,10 +7,13 @@ use script_lines::MOST_SPELLED;
 pub(crate) enum Shown<'a> {
     Sent(&'a [u8]),
     Replied(&'a [u8]),
-    Entered(u16, &'a [u8]),
-    Left(u32, u16, &'a [u8]),
+    Entered(u16, Extent, &'a [u8]),
+    Left(u32, SeenGem, Extent, &'a [u8]),
+    Strayed(SeenGem, Extent, &'a [u8]),
     Dropped(u32),
+    Lost(u32),
     Waited(Option<u32>),
+    Ended,
     Nothing,
 }
 
@@ -19,10 +22,24 @@ pub(crate) fn show<'b>(event: &Event<'_>, buffer: &'b mut [u8; MOST_SPELLED]) ->
     match event {
         Event::Sent { message } => Shown::Sent(message.read(buffer)),
         Event::Replied { reply } => Shown::Replied(reply.read(buffer)),
-        Event::Entered { port, frame } => Shown::Entered(*port, frame.read(buffer)),
-        Event::Left { number, gem, frame } => Shown::Left(*number, *gem, frame.read(buffer)),
+        Event::Entered {
+            port,
+            extent,
+            frame,
+        } => Shown::Entered(*port, *extent, frame.read(buffer)),
+        Event::Left {
+            gem,
+            extent,
+            number,
+            frame,
+        } => Shown::Left(*number, *gem, *extent, frame.read(buffer)),
+        Event::Strayed { gem, extent, frame } => {
+            Shown::Strayed(*gem, *extent, frame.read(buffer))
+        }
         Event::Dropped { number } => Shown::Dropped(*number),
+        Event::Lost { number } => Shown::Lost(*number),
         Event::Waited { replies } => Shown::Waited(*replies),
+        Event::Ended => Shown::Ended,
         Event::Nothing => Shown::Nothing,
     }
 }

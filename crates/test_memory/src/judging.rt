@@ -7,6 +7,8 @@ use bench_judge::{Answer, JudgeFault, JudgeSettings, Judgement, Wrong, judge};
 const SETTINGS: JudgeSettings = JudgeSettings {
     modelled: false,
     unordered: false,
+    strays: false,
+    padded: false,
 };
 
 /// Port 257 is made, and sends its frame.
@@ -17,7 +19,8 @@ const EXPLAINED: &[u8] = b"\
     o 0003440a00820601010105010501050105010501050105010501010001000000000000000000000000000028\n\
     w\n\
     f 257 02000000000102000000000208004500\n\
-    g 0 1024 02000000000102000000000208004500\n";
+    g 0 1024 02000000000102000000000208004500\n\
+    e\n";
 
 /// The same, and then it sends a frame of two by another GEM port.
 const WRONG_FRAME: &[u8] = b"\
@@ -40,6 +43,12 @@ const WRONG_REPLY: &[u8] = b"\
 const UNASKED: &[u8] = b"\n\
     r 0001240a010c0401070000000000000000000000000000000000000000000000000000000000000000000028\n";
 
+/// A frame leaves that was never sent.
+const STRAY: &[u8] = b"\
+    w\n\
+    f 257 02000000000102000000000208004500\n\
+    s any 02000000000102000000000208004500..\n";
+
 /// Whether a judgement is that of the first history.
 fn is_explained(judgement: &Judgement<'_>) -> bool {
     let Judgement::Explained(explanation) = judgement else {
@@ -48,7 +57,10 @@ fn is_explained(judgement: &Judgement<'_>) -> bool {
     let [step] = explanation.steps.as_slice() else {
         return false;
     };
-    explanation.counts.accepted == 3 && step.version == 3 && step.line == 6
+    explanation.passes(false)
+        && explanation.counts.accepted == 3
+        && step.version == 3
+        && step.line == 6
 }
 
 /// The line that deviates, and what is wrong with it, by its kind.
@@ -59,6 +71,7 @@ fn deviation(judgement: &Judgement<'_>) -> (usize, &'static str) {
     let kind = match &deviation.wrong {
         Wrong::Unasked { .. } => "unasked",
         Wrong::Reply(_) => "reply",
+        Wrong::Stray { .. } => "stray",
         Wrong::Frame(frame) => match frame.runs.as_slice() {
             [first, second] if first.from == 1 && second.to == 3 => match &second.answer {
                 Answer::Left(_) => "frame",
@@ -93,6 +106,7 @@ pub(crate) fn make_calls<R: Print>(rt: &R, memory: &Memory) {
         ("judge of a wrong frame", WRONG_FRAME, 9, "frame"),
         ("judge of a wrong reply", WRONG_REPLY, 2, "reply"),
         ("judge of a reply to nothing", UNASKED, 2, "unasked"),
+        ("judge of a stray", STRAY, 3, "stray"),
     ] {
         report(rt, memory, call, call_judge(memory, history, line, kind));
     }

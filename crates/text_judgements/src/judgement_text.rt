@@ -1,9 +1,10 @@
 //! What a history shows, as text.
-use crate::answer::{EndWords, RunWords};
+use crate::answer::{EndWords, RunWords, SeenWords};
+use crate::counts::{CountWords, frames_of};
 use crate::digits::DigitWords;
 use bench_history::Digits;
 use bench_judge::{
-    Counts, Deviation, Explanation, Judgement, Run, Step, Wrong, WrongFrame, WrongReply,
+    Deviation, Evidence, Explanation, Judgement, Run, Step, Wrong, WrongFrame, WrongReply,
 };
 use std::alloc::{AllocError, Global};
 use std::io::Write;
@@ -12,57 +13,66 @@ use text_writing::{TextFault, write_whole};
 
 /// Writes what a history shows.
 ///
-/// Of an explained one: how many messages, replies and frames it has, a line for each frame whose least version is greater than that
-/// of all ended frames before it at its port, and `explained`. Of another: the first line that no right unit explains, what was seen
-/// by it, and what the model replies, or what becomes of the frame by each version that is left to it.
+/// Of one that a right unit explains: how many messages, replies and frames it has, a line for each frame whose least version is greater
+/// than that of all ended frames before it at its port, and `explained`. In place of `explained` stands why it isn't a pass: it has no end
+/// line, unless that is allowed, or nothing of it was judged. Of another: the first line that no right unit explains, what was seen by it,
+/// and what the model replies, or what becomes of the frame by each version that is left to it.
 ///
 /// A line is made in memory before it is written, and none is kept.
 pub fn write_judgement<W: Write>(
     alloc: Global,
     judgement: &Judgement<'_>,
+    allow_unfinished: bool,
     writer: &mut W,
 ) -> Result<(), TextFault> {
     match judgement {
-        Judgement::Explained(explanation) => write_explanation(alloc, explanation, writer),
+        Judgement::Explained(explanation) => {
+            write_explanation(alloc, explanation, allow_unfinished, writer)
+        }
         Judgement::Deviates(deviation) => write_deviation(alloc, deviation, writer),
     }
 }
 
-/// Writes what an explained history shows.
+/// Writes what a history shows that a right unit explains.
 fn write_explanation<W: Write>(
     alloc: Global,
     explanation: &Explanation,
+    allow_unfinished: bool,
     writer: &mut W,
 ) -> Result<(), TextFault> {
-    let counts = counts_of(alloc, &explanation.counts)?;
-    write_whole(writer, counts.as_bytes())?;
+    let counts = CountWords(&explanation.counts);
+    let front = format!(in alloc; "{counts}\n")?;
+    write_whole(writer, front.as_bytes())?;
     for step in &explanation.steps {
         write_step(alloc, step, writer)?;
     }
-    write_whole(writer, b"explained\n")?;
+    let end = end_of(alloc, explanation, allow_unfinished)?;
+    write_whole(writer, end.as_bytes())?;
     Ok(())
 }
 
-/// The lines of how much a history has of what.
-fn counts_of(alloc: Global, counts: &Counts) -> Result<String, AllocError> {
-    let Counts {
-        messages,
-        accepted,
-        replies,
-        forwarded,
-        dropped,
-        open: unended,
-    } = *counts;
-    let frames = forwarded.saturating_add(dropped).saturating_add(unended);
+/// The last lines: that the history is explained, or each reason why that isn't said.
+fn end_of(
+    alloc: Global,
+    explanation: &Explanation,
+    allow_unfinished: bool,
+) -> Result<String, AllocError> {
     let mut text = String::new(alloc);
-    writeln!(
-        text,
-        "messages {messages} accepted {accepted} replies {replies}"
-    )?;
-    writeln!(
-        text,
-        "frames {frames} forwarded {forwarded} dropped {dropped} open {unended}"
-    )?;
+    if explanation.passes(allow_unfinished) {
+        text.push_str("explained\n")?;
+        return Ok(text);
+    }
+    if !explanation.finished && !allow_unfinished {
+        text.push_str("unfinished: the history has no end line; it may be cut\n")?;
+    }
+    match explanation.evidence {
+        Evidence::Judged => {}
+        Evidence::NoFrame => {
+            let frames = frames_of(&explanation.counts);
+            writeln!(text, "no frame was judged: {frames} were sent")?;
+        }
+        Evidence::Nothing => text.push_str("nothing was judged: no reply, no frame that ended\n")?,
+    }
     Ok(text)
 }
 
@@ -100,6 +110,12 @@ fn write_deviation<W: Write>(
             Ok(())
         }
         Wrong::Frame(wrong) => write_frame(alloc, wrong, writer),
+        Wrong::Stray { gem, extent, frame } => {
+            let (gem, extent) = (*gem, *extent);
+            let text = stray(alloc, SeenWords { gem, extent, frame })?;
+            write_whole(writer, text.as_bytes())?;
+            Ok(())
+        }
     }
 }
 
@@ -129,6 +145,11 @@ fn put_seen_reply(text: &mut String, reply: &Digits<'_>) -> Result<(), AllocErro
     writeln!(text, "seen r {digits}")
 }
 
+/// The lines of a frame that no open frame can be.
+fn stray(alloc: Global, seen: SeenWords<'_, '_>) -> Result<String, AllocError> {
+    format!(in alloc; "a frame left that no open frame can be\nseen s {seen}\n")
+}
+
 /// Writes the lines of a frame that ended as by none of the versions that are left to it.
 fn write_frame<W: Write>(
     alloc: Global,
@@ -143,7 +164,7 @@ fn write_frame<W: Write>(
         return Ok(());
     }
     for run in &wrong.runs {
-        write_run(alloc, run, wrong.sent.as_digits(), writer)?;
+        write_run(alloc, run, wrong, writer)?;
     }
     Ok(())
 }
@@ -152,7 +173,7 @@ fn write_frame<W: Write>(
 fn frame_front(alloc: Global, wrong: &WrongFrame<'_>) -> Result<String, AllocError> {
     let (number, port, line) = (wrong.number, wrong.port, wrong.sent_line);
     let seen = EndWords(&wrong.seen);
-    format!(in alloc; "frame {number}, sent into port {port} at line {line}\nseen {seen}\n")
+    format!(in alloc; "frame {number}, sent into port {port} at line {line}\n{seen}\n")
 }
 
 /// The line that no version is left.
@@ -167,10 +188,14 @@ fn no_version(alloc: Global, wrong: &WrongFrame<'_>) -> Result<String, AllocErro
 fn write_run<W: Write>(
     alloc: Global,
     run: &Run,
-    sent: &[u8],
+    wrong: &WrongFrame<'_>,
     writer: &mut W,
 ) -> Result<(), TextFault> {
-    let words = RunWords { run, sent };
+    let words = RunWords {
+        run,
+        sent: wrong.sent.as_digits(),
+        extent: wrong.extent,
+    };
     let text = format!(in alloc; "{words}\n")?;
     write_whole(writer, text.as_bytes())?;
     Ok(())

@@ -4,7 +4,9 @@
 #![tactic(auto)]
 
 mod answer;
+mod counts;
 mod digits;
+mod frame_json;
 mod judgement_json;
 mod judgement_text;
 

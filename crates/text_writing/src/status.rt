@@ -11,6 +11,8 @@ pub enum Status {
     Bad,
     /// `judge` found a deviation, or `lint` something as severe as is asked. All is written.
     Found,
+    /// `judge` found no deviation, but the history may be cut, or nothing of it was judged. All is written.
+    Undecided,
     /// Nobody reads standard output any more. A shell reports a program that SIGPIPE, signal 13, ended by the same number.
     Unread,
 }
@@ -21,11 +23,12 @@ impl Status {
     ghost use Rattle.text_writing.specs.declared.status.Status.{Status};
 
     /// Each status, in the order of their numbers.
-    pub const ALL: [Status; 5] = [
+    pub const ALL: [Status; 6] = [
         Status::Done,
         Status::Failed,
         Status::Bad,
         Status::Found,
+        Status::Undecided,
         Status::Unread,
     ];
 
@@ -38,6 +41,7 @@ impl Status {
             Status::Failed => 1,
             Status::Bad => 2,
             Status::Found => 3,
+            Status::Undecided => 4,
             Status::Unread => 128 + 13,
         }
     }
@@ -51,6 +55,7 @@ impl Status {
             0 => Status::Done,
             2 => Status::Bad,
             3 => Status::Found,
+            4 => Status::Undecided,
             141 => Status::Unread,
             _ => Status::Failed,
         }
@@ -60,7 +65,7 @@ impl Status {
     pub fn words(self) -> &'static str {
         match self {
             Status::Done => {
-                "all is written; judge found no deviation, and lint nothing as severe as --fail-on"
+                "all is written; judge explained the whole history, and lint found nothing as severe as --fail-on"
             }
             Status::Failed => {
                 "the words are wrong, a read or a write failed, or there is no memory or no room"
@@ -70,6 +75,9 @@ impl Status {
             }
             Status::Found => {
                 "judge found a deviation, or lint something as severe as --fail-on; all is written"
+            }
+            Status::Undecided => {
+                "judge found no deviation, but the history may be cut, or nothing of it was judged; all is written"
             }
             Status::Unread => "nobody reads standard output any more",
         }

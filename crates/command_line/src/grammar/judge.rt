@@ -1,7 +1,7 @@
 //! The words of `judge`.
 ghost use Rattle.std.specs.Prelude.{◌≡◌, false};
 ghost use Rattle.clap.specs.Words.{rule_of};
-ghost use Rattle.command_line.specs.Grammar.{IsCommand, history, judge, modelled, unordered};
+ghost use Rattle.command_line.specs.Grammar.{IsCommand, allow_strays, allow_unfinished, history, judge, modelled, padded, unordered};
 
 use crate::grammar::common::{json, with_arg};
 use clap::builder::ValueParser;
@@ -34,6 +34,45 @@ fn unordered<'a>(alloc: Global) -> Arg<'a>
         )
 }
 
+/// Whether a frame that was never sent, or has left before, may leave.
+fn allow_strays<'a>(alloc: Global) -> Arg<'a>
+    ensures rule { rule_of result ≡ allow_strays }
+    ensures local { result.global ≡ false }
+{
+    Arg::new(alloc, "allow-strays")
+        .long("allow-strays")
+        .action(ArgAction::SetTrue)
+        .help(
+            "Take strays, frames that leave and that no open frame can be; one that the unit makes up or sends twice isn't found then; has no value [example: --allow-strays]",
+        )
+}
+
+/// Whether a short frame may be seen with zeros behind it.
+fn padded<'a>(alloc: Global) -> Arg<'a>
+    ensures rule { rule_of result ≡ padded }
+    ensures local { result.global ≡ false }
+{
+    Arg::new(alloc, "padded")
+        .long("padded")
+        .action(ArgAction::SetTrue)
+        .help(
+            "Take zeros behind a frame that leaves with fewer than 68 bytes, up to 68, as a wire pads it; zeros that the unit adds aren't found then; has no value [example: --padded]",
+        )
+}
+
+/// Whether a history without its end is explained too.
+fn allow_unfinished<'a>(alloc: Global) -> Arg<'a>
+    ensures rule { rule_of result ≡ allow_unfinished }
+    ensures local { result.global ≡ false }
+{
+    Arg::new(alloc, "allow-unfinished")
+        .long("allow-unfinished")
+        .action(ArgAction::SetTrue)
+        .help(
+            "Take a history without an end line, e; one that was cut isn't found then; has no value [example: --allow-unfinished]",
+        )
+}
+
 /// The file with a history.
 fn history<'a>(alloc: Global) -> Arg<'a>
     ensures rule { rule_of result ≡ history }
@@ -52,10 +91,13 @@ pub(super) fn judge<'a>(alloc: Global) -> Result<Command<'a>, AllocError>
     let alone = Command::new(alloc, "judge")
         .about("Say whether a right unit may have done what a history says")
         .after_help(
-            "Status: 0 if it may, 3 if not, 1 or 2; onuctl help statuses says when\nExample: onuctl judge bench.history",
+            "Status: 0 if it may, 3 if not, 4 if it may so far, 1 or 2; onuctl help statuses says when\nExample: onuctl judge bench.history",
         );
     let of_model = with_arg(Ok(alone), modelled(alloc));
     let of_order = with_arg(of_model, unordered(alloc));
-    let shown = with_arg(of_order, json(alloc));
+    let of_strays = with_arg(of_order, allow_strays(alloc));
+    let of_padding = with_arg(of_strays, padded(alloc));
+    let of_end = with_arg(of_padding, allow_unfinished(alloc));
+    let shown = with_arg(of_end, json(alloc));
     with_arg(shown, history(alloc))
 }

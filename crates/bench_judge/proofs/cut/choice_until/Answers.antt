@@ -16,5 +16,5 @@ versions_of-requires c =
 
 pub returns : goal.returns
 returns c =
-    chosen_of_fitted c.args.events.now c.args.walk.now c.args.unordered c.args.place c.requires.walked c.requires.within c.deref-2.result.now c.deref-3.result.now
+    chosen_of_fitted c.args.settings.now.padded c.args.events.now c.args.walk.now c.args.settings.now.unordered c.args.place c.requires.walked c.requires.within c.deref-2.result.now c.deref-3.result.now
     c.deref-2.ensures.value (c.deref-3.ensures.value ∙ c.in_ok-frames.ensures ∙ ap (map (until c.args.place)) c.deref.ensures.value) c.versions_of.result c.versions_of.ensures

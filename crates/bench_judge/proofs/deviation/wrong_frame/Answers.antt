@@ -29,7 +29,7 @@ pub unreachable-requires : goal.unreachable-requires
 unreachable-requires c =
     not_none c.args.settings.now c.args.events.now c.args.walk.now c.args.place c.requires.order c.requires.walked c.requires.within c.requires.turn
     c.deref-2.result.now c.deref-3.result.now c.deref-2.ensures.value (c.deref-3.ensures.value ∙ c.in_ok-frames.ensures ∙ ap (map (until c.args.place)) c.deref.ensures.value)
-    (subst (IsFitted c.args.settings.now.unordered c.args.events.now c.deref-2.result.now c.deref-3.result.now) c.in_default.is c.in_ok-versions.ensures)
+    (subst (IsFitted c.args.settings.now.padded c.args.settings.now.unordered c.args.events.now c.deref-2.result.now c.deref-3.result.now) c.in_default.is c.in_ok-versions.ensures)
 
 pub at_least-at_least-requires : goal.at_least-at_least-requires
 at_least-at_least-requires c =
@@ -60,16 +60,17 @@ bounds-events-frame c =
     c.index.result.now frame in
     omega (arith, before, c.requires.within, c.requires.walked.within)
 
-pub sent_by-sent-requires : goal.sent_by-sent-requires
-sent_by-sent-requires c =
+pub sent_by-extent-requires : goal.sent_by-extent-requires
+sent_by-extent-requires c =
     let number = number_is c.args.settings.now c.args.events.now c.args.walk.now c.args.place c.requires.order c.requires.walked c.requires.within c.requires.turn
     c.index-events-place.result c.ended_by-number.result c.index-events-place.is c.ended_by-number.ensures in
     let frame = frame_is c.args.settings.now c.args.events.now c.args.walk.now c.args.place c.requires.order c.requires.walked c.requires.within c.requires.turn
     c.ended_by-number.result c.index.result.now _ number c.index.ensures in
     let its = f c.args.settings.now c.args.events.now c.args.walk.now c.args.place c.requires.order c.requires.walked c.requires.within c.requires.turn in (
       its.port,
+      its.extent,
       its.bytes,
-      read_is c.args.events.now c.index.result.now.sent c.index-events-frame.result (Entered its.port its.bytes) c.index-events-frame.is
+      read_is c.args.events.now c.index.result.now.sent c.index-events-frame.result (Entered its.port its.extent its.bytes) c.index-events-frame.is
           (sent_at c.args.settings.now c.args.events.now c.args.walk.now c.args.place c.requires.order c.requires.walked c.requires.within c.requires.turn c.index.result.now frame),
     )
 
@@ -81,7 +82,7 @@ runs-requires c =
     c.ended_by-number.result c.index.result.now _ number c.index.ensures in
     let most = most_within c.args.settings.now c.args.events.now c.args.walk.now c.args.place c.requires.order c.requires.walked c.requires.within c.requires.turn
     c.deref-2.result.now c.deref-3.result.now c.deref-2.ensures.value (c.deref-3.ensures.value ∙ c.in_ok-frames.ensures ∙ ap (map (until c.args.place)) c.deref.ensures.value) c.index.result.now frame in
-    let left = most_left c.args.settings.now.unordered c.args.events.now c.deref-2.result.now c.deref-3.result.now c.index.result.now.port c.ended_by-number.result c.index.result.now.most
+    let left = most_left c.args.settings.now.padded c.args.settings.now.unordered c.args.events.now c.deref-2.result.now c.deref-3.result.now c.index.result.now.port c.ended_by-number.result c.index.result.now.most
     c.in_ok-at_most.at_most c.in_ok-at_most.ensures in
     let same = ap (λ l. length l) (c.deref-6.ensures.value ∙ sym c.deref-2.ensures.value) in
     omega (arith, most, left, same)
@@ -117,18 +118,18 @@ returns c =
     let seen : c.index-events-place-2.result ≡ its.seen = event_is c.args.settings.now c.args.events.now c.args.walk.now c.args.place c.requires.order c.requires.walked c.requires.within c.requires.turn
     c.index-events-place-2.result c.index-events-place-2.is in
     let entered = sent_at c.args.settings.now c.args.events.now c.args.walk.now c.args.place c.requires.order c.requires.walked c.requires.within c.requires.turn c.index.result.now frame in
-    let read = read_is c.args.events.now c.index.result.now.sent c.index-events-frame.result (Entered its.port its.bytes) c.index-events-frame.is entered in
+    let read = read_is c.args.events.now c.index.result.now.sent c.index-events-frame.result (Entered its.port its.extent its.bytes) c.index-events-frame.is entered in
     wrong_frame_by c.args.settings.now c.args.events.now c.args.walk.now c.args.place c.requires.order c.requires.walked c.requires.within c.requires.turn
     c.deref-2.result.now c.deref-3.result.now c.deref-2.ensures.value (c.deref-3.ensures.value ∙ c.in_ok-frames.ensures ∙ ap (map (until c.args.place)) c.deref.ensures.value)
-    c.ended_by-number.result c.index.result.now c.at_least-at_least.result c.in_ok-at_most.at_most c.sent_by-sent.result c.end_of.result c.in_ok-runs.runs number frame
+    c.ended_by-number.result c.index.result.now c.at_least-at_least.result c.in_ok-at_most.at_most (c.sent_by-extent.result).0 (c.sent_by-extent.result).1 c.end_of.result c.in_ok-runs.runs number frame
     c.deref-2.result.now c.deref-3.result.now c.in_ok-versions.field-0 c.in-Some.versions
     (c.deref-2.ensures.value ∙ sym c.deref-2.ensures.value) (c.deref-3.ensures.value ∙ sym c.deref-3.ensures.value) c.in-Some.is c.in_ok-versions.ensures
     c.deref-4.result.now c.deref-4.ensures.value c.at_least-at_least.ensures c.in_ok-at_most.ensures
-    (c.sent_by-sent.ensures its.port its.bytes read) (subst (λ e. IsEndAs e c.end_of.result) seen c.end_of.ensures)
+    (ap (λ r. r.0) (c.sent_by-extent.ensures its.port its.extent its.bytes read)) (ap (λ r. r.1) (c.sent_by-extent.ensures its.port its.extent its.bytes read)) (subst (λ e. IsEndAs e c.end_of.result) seen c.end_of.ensures)
     c.deref-6.result.now c.read-bytes.result.now (c.deref-6.ensures.value ∙ sym c.deref-2.ensures.value) c.read-bytes.ensures c.in_ok-runs.ensures
 
 pub at_most-requires-clause-fits : goal.at_most-requires-clause-fits
 at_most-requires-clause-fits c =
-    let suits : Suits c.args.settings.now.unordered c.args.events.now c.deref-2.result.now c.deref-3.result.now (slice_index c.in-Some.versions.items) =
-    subst (IsFitted c.args.settings.now.unordered c.args.events.now c.deref-2.result.now c.deref-3.result.now) c.in-Some.is c.in_ok-versions.ensures in
-    subst (λ l. Fits c.args.settings.now.unordered c.args.events.now c.deref-2.result.now c.deref-3.result.now (slice_index l)) (sym c.deref-5.ensures.value) suits.0
+    let suits : Suits c.args.settings.now.padded c.args.settings.now.unordered c.args.events.now c.deref-2.result.now c.deref-3.result.now (slice_index c.in-Some.versions.items) =
+    subst (IsFitted c.args.settings.now.padded c.args.settings.now.unordered c.args.events.now c.deref-2.result.now c.deref-3.result.now) c.in-Some.is c.in_ok-versions.ensures in
+    subst (λ l. Fits c.args.settings.now.padded c.args.settings.now.unordered c.args.events.now c.deref-2.result.now c.deref-3.result.now (slice_index l)) (sym c.deref-5.ensures.value) suits.0

@@ -14,6 +14,6 @@ returns c =
     let held = c.requires.held in
     let same : c.in_ok-frames.frames.items ≡ case.frames.now = c.in_ok-frames.ensures.items_if_clones_equal (λ x y is. is) in
     let read : c.index_mut.result.now ≡ held.0 = read_of c.in_ok-frames.frames.items case.frames.now c.args.number c.index_mut.result.now held.0 _ same c.index_mut.ensures.value held.1 in
-    raised_decides case.unordered case.events.now case.requests.now case.frames.now c.args.number held.0 held.1 held.2 c.args.from held.3
+    raised_decides case.padded case.unordered case.events.now case.requests.now case.frames.now c.args.number held.0 held.1 held.2 c.args.from held.3
     c.deref.result.now c.in_ok-sweep.field-0 c.is_some.result
     (c.deref.ensures.value ∙ ap₂ (λ xs (f : Frame). set xs c.args.number (record f { least = c.args.from })) same read) c.in_ok-sweep.ensures c.is_some.ensures

@@ -4,16 +4,16 @@ use Rattle.bench_judge.specs.Cut.{HasChoice}
 use Rattle.bench_judge.proofs.Raised.{no_events}
 use Rattle.bench_judge.proofs.halving.turn.Goals as goal
 
-some_walked : (unordered : _) (events : List Event) (n : ℕ) → (HasChoice unordered (take n events) → ⊥) → 0 < n
-some_walked unordered events zero none = absurd (none ((λ n. 0), no_events unordered (λ n. 0)))
-some_walked unordered events (suc n) none = omega arith
+some_walked : (padded unordered : _) (events : List Event) (n : ℕ) → (HasChoice padded unordered (take n events) → ⊥) → 0 < n
+some_walked padded unordered events zero none = absurd (none ((λ n. 0), no_events padded unordered (λ n. 0)))
+some_walked padded unordered events (suc n) none = omega arith
 
 pub loop-high-init : goal.loop-high-init
 loop-high-init g c =
     record {
-      apart = some_walked c.args.unordered c.args.events.now c.args.walk.now.walked c.requires.none;
+      apart = some_walked c.args.settings.now.padded c.args.settings.now.unordered c.args.events.now c.args.walk.now.walked c.requires.none;
       within = omega arith;
       some = omega arith;
-      low = ((λ n. 0), no_events c.args.unordered (λ n. 0));
+      low = ((λ n. 0), no_events c.args.settings.now.padded c.args.settings.now.unordered (λ n. 0));
       high = c.requires.none;
     }

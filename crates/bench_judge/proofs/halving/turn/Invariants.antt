@@ -7,8 +7,8 @@ invariant-loop-high g l = record {
   apart : l.low < l.high;
   within : l.high ≤ l.walk.walked;
   some : 0 < l.step;
-  low : HasChoice l.unordered (take l.low l.events);
-  high : ¬ (HasChoice l.unordered (take l.high l.events));
+  low : HasChoice l.settings.padded l.settings.unordered (take l.low l.events);
+  high : ¬ (HasChoice l.settings.padded l.settings.unordered (take l.high l.events));
 }
 
 abbrev pub decreases-loop-high : goal.decreases-loop-high

@@ -1,6 +1,6 @@
 use Rattle.std.proofs.Common.{rules, ◌<◌, length}
 use Rattle.bench_judge.specs.declared.judgement.Wrong.TheVariants.{Frame}
-use Rattle.bench_judge.proofs.Found.{all_explained, frame_deviates, frames_sent, reply_deviates}
+use Rattle.bench_judge.proofs.Found.{all_explained, count_all, frame_deviates, frames_all, known_all, frames_sent, event_deviates}
 use Rattle.bench_judge.proofs.judging.judge_events.Goals as goal
 
 pub returns-in_default : goal.returns-in_default
@@ -10,16 +10,26 @@ returns-in_default g c =
 
 pub returns-then-walk-events : goal.returns-then-walk-events
 returns-then-walk-events g c =
-    reply_deviates c.args.settings.now c.args.events.now c.in_ok-walk.walk c.in_ok-walk.ensures c.wrong_reply.result c.in_ok-versions.field-0 c.in-Some.versions c.in-Some.is
-    c.in_ok-versions.ensures c.if-walk-events.true c.wrong_reply.ensures
+    event_deviates c.args.settings.now c.args.events.now c.in_ok-walk.walk c.in_ok-walk.ensures c.wrong_event.result c.in_ok-versions.field-0 c.in-Some.versions c.in-Some.is
+    c.in_ok-versions.ensures c.if-walk-events.true c.wrong_event.ensures
 
 pub steps-requires : goal.steps-requires
 steps-requires g c =
     let small : length c.args.events.now < 18446744073709551616 = search rules in
-    record { sent = frames_sent c.args.settings.now c.args.events.now c.in_ok-walk.walk c.in_ok-walk.ensures c.deref.result.now c.deref.ensures.value small }
+    record { sent = frames_sent c.args.settings.now c.args.events.now c.in_ok-walk.walk c.in_ok-walk.ensures c.deref-2.result.now c.deref-2.ensures.value small }
 
 pub returns : goal.returns
 returns g c =
-    all_explained c.args.settings.now c.args.events.now c.in_ok-walk.walk c.in_ok-walk.ensures c.counts.result c.in_ok-steps.field-0 c.in_ok-versions.field-0 c.in-Some.versions
-    c.if-walk-events.false c.in-Some.is c.in_ok-versions.ensures c.counts.ensures c.in_ok-steps.ensures.none
-    c.deref.result.now c.deref-2.result.now c.deref.ensures.value c.deref-2.ensures.value c.in_ok-steps.ensures.steps
+    all_explained c.args.settings.now c.args.events.now c.in_ok-walk.walk c.in_ok-walk.ensures c.counts-counts.result c.in_ok-steps.field-0 c.in_ok-versions.field-0 c.in-Some.versions
+    c.if-walk-events.false c.in-Some.is c.in_ok-versions.ensures c.counts-counts.ensures
+    c.is_finished.result c.is_finished.ensures c.evidence.result
+    (c.evidence.ensures c.args.events.now
+    (frames_all c.args.settings.now c.args.events.now c.in_ok-walk.walk c.in_ok-walk.ensures c.deref-4.result.now c.deref-4.ensures.value c.if-walk-events.false)
+    (count_all c.args.settings.now c.args.events.now c.in_ok-walk.walk c.in_ok-walk.ensures c.deref-4.result.now c.deref-4.ensures.value c.if-walk-events.false)
+    c.counts-counts.ensures.replies)
+    c.in_ok-steps.ensures.none
+    c.deref-2.result.now c.deref-3.result.now c.deref-2.ensures.value c.deref-3.ensures.value c.in_ok-steps.ensures.steps
+
+pub counts-counts-requires-clause-known : goal.counts-counts-requires-clause-known
+counts-counts-requires-clause-known g c =
+    known_all c.args.settings.now c.args.events.now c.in_ok-walk.walk c.in_ok-walk.ensures c.deref.result.now c.deref.ensures.value c.if-walk-events.false

@@ -1,4 +1,4 @@
-use Rattle.std.proofs.Common.{◌≡◌, ◌<◌, ◌≤◌, ◌+◌, ◌^◌, ◌++◌, [], ◌∷◌, ◌∙◌, ap₂, set, true≢false, Vec, Global, Fits, w64, ap, arith, subst, sym, true, List, ℕ, None, get_or, length, slice_index}
+use Rattle.std.proofs.Common.{◌≡◌, ◌<◌, ◌≤◌, ◌+◌, ◌^◌, ◌++◌, [], ◌∷◌, ◌∙◌, ap₂, set, true≢false, Vec, Global, Fits, w64, ap, arith, subst, sym, true, false, List, ℕ, None, get_or, length, slice_index}
 use Rattle.std.specs.Prelude.{is_some, slice_get, Some}
 use Rattle.std.proofs.lemmas.Grind.{get_or_default_zero}
 use Rattle.std.proofs.lemmas.Option.{slice_get-get_or}
@@ -12,7 +12,7 @@ use Rattle.bench_judge.proofs.steps.rises.Goals as goal
 
 -- what a read past the end would give
 abbrev no_frame : Frame
-no_frame = record { sent = 0; ended = None; port = 0; least = 0; most = 0 }
+no_frame = record { sent = 0; ended = None; port = 0; is_enough = false; least = 0; most = 0 }
 
 pub loop-number-init : goal.loop-number-init
 loop-number-init c =

@@ -30,7 +30,7 @@ loop-number-init c =
 
 -- what a read past the end would give
 abbrev no_frame : Frame
-no_frame = record { sent = 0; ended = None; port = 0; least = 0; most = 0 }
+no_frame = record { sent = 0; ended = None; port = 0; is_enough = false; least = 0; most = 0 }
 
 pub loop-number-preserved : goal.loop-number-preserved
 loop-number-preserved c =
@@ -76,8 +76,8 @@ returns-clause-whole c = record {
 }
 
 pub returns-clause-so_far : goal.returns-clause-so_far
-returns-clause-so_far c events requests =
-    begins c.args.unordered events requests c.args.frames.now c.loop-number.sweep
+returns-clause-so_far c padded events requests =
+    begins {padded = padded} c.args.unordered events requests c.args.frames.now c.loop-number.sweep
     (let all : c.loop-number.number ≡ length c.args.frames.now = omega arith in
     subst (λ (n : ℕ). AreQueued c.args.unordered c.args.frames.now n c.loop-number.sweep.next.items c.loop-number.sweep.waiting.items) all c.loop-number.invariant.queued.queued)
     c.loop-number.invariant.versions

@@ -8,8 +8,8 @@ loop-slot-preserved c =
     record {
       slots = c.if-not-settle.ensures.slots ∙ inv.slots;
       whole = c.if-not-settle.ensures.whole;
-      so_far = λ unordered requests at_version was.
+      so_far = λ at_version was.
           let next : suc c.loop-slot.slot ≡ c.loop-slot.slot + 1 = omega arith in
-          subst (λ (n : ℕ). IsSoFar unordered c.args.events.now requests c.args.frames.now c.args.version n c.settle.new.sweep) next
-          (c.if-not-settle.ensures.so_far unordered requests at_version (inv.so_far unordered requests at_version was));
+          subst (λ (n : ℕ). IsSoFar c.args.case.now.padded c.args.case.now.unordered c.args.case.now.events.now c.args.case.now.requests.now c.args.case.now.frames.now c.args.version n c.settle.new.sweep) next
+          (c.if-not-settle.ensures.so_far at_version (inv.so_far at_version was));
     }

@@ -4,12 +4,12 @@ use Rattle.std.proofs.lemmas.Bool.{false≢true}
 use Rattle.std.proofs.lemmas.Option.{slice_get_read}
 use Rattle.bench_judge.specs.Scene.{IsScene}
 use Rattle.bench_judge.specs.Walk.{IsWalk}
-use Rattle.bench_judge.proofs.Answering.{wrong_reply}
+use Rattle.bench_judge.specs.declared.settings.JudgeSettings.{JudgeSettings}
 use Rattle.bench_judge.proofs.walk.walk_through.Goals as goal
 
 pub loop-place-init : goal.loop-place-init
 loop-place-init c = record {
-  modelled = c.in_ok-scene.ensures.modelled;
+  settings = c.in_ok-scene.ensures.settings;
   scene = c.in_ok-scene.ensures.scene c.args.events.now;
 }
 
@@ -23,7 +23,7 @@ loop-place-preserved c =
     let at : slice_get events place ≡ Some event = slice_get_read events (length events) place event refl less c.index-events-place.is in
     let admitted = (c.if-not-admits.ensures events place is).0 refl in
     record {
-      modelled = c.add.ensures.modelled ∙ c.loop-place.invariant.modelled;
+      settings = c.add.ensures.settings ∙ c.loop-place.invariant.settings;
       scene = c.in_ok-add.ensures.scene events at (c.requires place event at) admitted is;
     }
 
@@ -37,9 +37,8 @@ returns-then-not-admits c =
     let within : place ≤ length events = omega arith in
     let at : slice_get events place ≡ Some event = slice_get_read events (length events) place event refl less c.index-events-place.is in
     let decides = c.if-not-admits.ensures events place is in
-    let wrong = wrong_reply c.loop-place.scene.modelled (take place events) event (slice_get events place) at (λ right. false≢true (decides.1 right)) in
-    subst (λ (m : Bool). IsWalk m events c.into_walk.result) c.loop-place.invariant.modelled
-    (c.into_walk.ensures events c.requires within is (λ _. wrong))
+    subst (λ (s : JudgeSettings). IsWalk s events c.into_walk.result) c.loop-place.invariant.settings
+    (c.into_walk.ensures events c.requires within is (λ _. record { seen = event; is = at; refused = λ admitted. false≢true (decides.1 admitted) }))
 
 pub returns : goal.returns
 returns c =
@@ -47,5 +46,5 @@ returns c =
     let end : c.loop-place.place ≡ length events = omega arith in
     let within : length events ≤ length events = omega arith in
     let is = subst (λ (n : ℕ). IsScene events n c.loop-place.scene) end c.loop-place.invariant.scene in
-    subst (λ (m : Bool). IsWalk m events c.into_walk-2.result) c.loop-place.invariant.modelled
+    subst (λ (s : JudgeSettings). IsWalk s events c.into_walk-2.result) c.loop-place.invariant.settings
     (c.into_walk-2.ensures events c.requires within is (λ less. absurd (omega (arith, less))))

@@ -5,6 +5,6 @@ use Rattle.bench_judge.proofs.walk.walk_through.Given as goal
 -- what is kept is that of the events so far
 abbrev pub invariant-loop-place : goal.invariant-loop-place
 invariant-loop-place l = record {
-  modelled : l.scene.modelled ≡ l.modelled;
+  settings : l.scene.settings ≡ l.settings;
   scene : IsScene l.events l.place l.scene;
 }

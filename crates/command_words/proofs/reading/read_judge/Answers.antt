@@ -16,8 +16,20 @@ returns c =
         with = λ e. c.get_flag-2.ensures.value (one_text-rows found (codes "unordered") ∙ e);
         without = λ e. c.get_flag-2.ensures.other (one_text-rows found (codes "unordered") ∙ e);
       };
+      allow_strays = record {
+        with = λ e. c.get_flag-3.ensures.value (one_text-rows found (codes "allow-strays") ∙ e);
+        without = λ e. c.get_flag-3.ensures.other (one_text-rows found (codes "allow-strays") ∙ e);
+      };
+      padded = record {
+        with = λ e. c.get_flag-4.ensures.value (one_text-rows found (codes "padded") ∙ e);
+        without = λ e. c.get_flag-4.ensures.other (one_text-rows found (codes "padded") ∙ e);
+      };
+      allow_unfinished = record {
+        with = λ e. c.get_flag-5.ensures.value (one_text-rows found (codes "allow-unfinished") ∙ e);
+        without = λ e. c.get_flag-5.ensures.other (one_text-rows found (codes "allow-unfinished") ∙ e);
+      };
       json = record {
-        with = λ e. c.get_flag-3.ensures.value (one_text-rows found (codes "json") ∙ e);
-        without = λ e. c.get_flag-3.ensures.other (one_text-rows found (codes "json") ∙ e);
+        with = λ e. c.get_flag-6.ensures.value (one_text-rows found (codes "json") ∙ e);
+        without = λ e. c.get_flag-6.ensures.other (one_text-rows found (codes "json") ∙ e);
       };
     }

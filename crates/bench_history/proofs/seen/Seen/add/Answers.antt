@@ -4,4 +4,4 @@ use Rattle.bench_history.proofs.seen.Seen.add.Goals as goal
 
 pub returns-in_ok-push-in-Entered : goal.returns-in_ok-push-in-Entered
 returns-in_ok-push-in-Entered c = λ events is may.
-    rw c.in-Entered.is (entered events _ _ c.args.self.now _ c.in_ok-push-in-Entered.ensures.items refl is)
+    rw c.in-Entered.is (entered events _ _ _ c.args.self.now _ c.in_ok-push-in-Entered.ensures.items refl refl is)

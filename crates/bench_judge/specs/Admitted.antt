@@ -1,0 +1,16 @@
+-- Which events a right unit may have shown by themselves, whatever becomes of the frames.
+use Rattle.std.specs.Prelude.{◌≡◌, ℕ, true, List, Some, slice_get, take}
+use Rattle.bench_history.specs.declared.event.Event.{Event}
+use Rattle.bench_history.specs.declared.event.Event.TheVariants.{Replied, Strayed}
+use Rattle.bench_judge.specs.Replies.{IsRight}
+use Rattle.bench_judge.specs.declared.settings.JudgeSettings.{JudgeSettings}
+
+-- an event may stand behind others: a reply where it is right, a stray where strays are allowed
+abbrev pub IsAdmitted : JudgeSettings → List Event → Event → Type 0
+IsAdmitted settings before (Replied bytes) = IsRight settings.modelled before bytes
+IsAdmitted settings before (Strayed gem extent frame) = settings.strays ≡ true
+IsAdmitted settings before event = Unit {0}
+
+-- each event may stand behind those before it
+abbrev pub AreAdmitted : JudgeSettings → List Event → Type 0
+AreAdmitted settings events = (i : ℕ) (event : Event) → slice_get events i ≡ Some event → IsAdmitted settings (take i events) event

@@ -1,0 +1,69 @@
+-- How much events have of what.
+use Rattle.std.specs.Prelude.{◌≡◌, ℕ, zero, suc, ◌+◌, ◌-◌, Bool, true, false, List, [], ◌∷◌, Option, Some, None, count_by, length, slice_get}
+use Rattle.bench_history.specs.History.{frames_in, replies_in}
+use Rattle.bench_history.specs.declared.event.Event.{Event}
+use Rattle.bench_history.specs.declared.event.Event.TheVariants.{Sent, Entered, Left, Strayed, Dropped, Lost}
+use Rattle.bench_history.specs.declared.extent.Extent.{Extent}
+use Rattle.bench_history.specs.declared.extent.Extent.TheVariants.{Whole, Front}
+use Rattle.bench_sight.specs.Sight.{is_enough}
+use Rattle.bench_judge.specs.Asked.{accepted_of}
+use Rattle.bench_judge.specs.declared.frame.Frame.{Frame}
+use Rattle.bench_judge.specs.declared.judgement.Counts.{Counts}
+
+-- whether enough is known of the frame of a number to judge it
+abbrev pub is_known : List Event → ℕ → Bool
+is_known [] n = false
+is_known (Entered port extent bytes ∷ rest) zero = is_enough extent bytes
+is_known (Entered port extent bytes ∷ rest) (suc n) = is_known rest n
+is_known (event ∷ rest) n = is_known rest n
+
+abbrev pub is_message : Event → Bool
+is_message (Sent message) = true
+is_message _ = false
+
+abbrev pub is_stray : Event → Bool
+is_stray (Strayed gem extent frame) = true
+is_stray _ = false
+
+-- whether a frame is sent of which only a front is known
+abbrev pub is_cut : Event → Bool
+is_cut (Entered port Front frame) = true
+is_cut _ = false
+
+-- whether a frame leaves, is dropped, or is lost, of the numbers that are known
+abbrev pub is_left : (ℕ → Bool) → Event → Bool
+is_left known (Left gem extent number frame) = known number
+is_left known _ = false
+
+abbrev pub is_dropped : (ℕ → Bool) → Event → Bool
+is_dropped known (Dropped number) = known number
+is_dropped known _ = false
+
+abbrev pub is_lost : (ℕ → Bool) → Event → Bool
+is_lost known (Lost number) = known number
+is_lost known _ = false
+
+-- how much events have of what; all other frames are open, those too of which too little is known
+pub record AreCounts (events : List Event) (counts : Counts) : Type 0 where
+  pub messages : counts.messages ≡ count_by is_message events
+  pub accepted : counts.accepted ≡ length (accepted_of events)
+  pub replies : counts.replies ≡ replies_in events
+  pub forwarded : counts.forwarded ≡ count_by (is_left (is_known events)) events
+  pub dropped : counts.dropped ≡ count_by (is_dropped (is_known events)) events
+  pub lost : counts.lost ≡ count_by (is_lost (is_known events)) events
+  pub others : counts.«open» ≡ frames_in events - (counts.forwarded + counts.dropped + counts.lost)
+  pub strays : counts.strays ≡ count_by is_stray events
+  pub cut : counts.cut ≡ count_by is_cut events
+
+-- ---- by frames as they are kept
+
+abbrev pub is_enough_of : Option Frame → Bool
+is_enough_of (Some frame) = frame.is_enough
+is_enough_of None = false
+
+abbrev pub is_known_in : List Frame → ℕ → Bool
+is_known_in frames n = is_enough_of (slice_get frames n)
+
+-- frames say of each number what events say
+abbrev pub AreKnown : List Event → List Frame → Type 0
+AreKnown events frames = (n : ℕ) → is_known_in frames n ≡ is_known events n
