@@ -240,7 +240,7 @@ static void no_bytes_may_be_null(void) {
     CHECK(onu_forward(&cell, 257, NULL, 0, &said) == 0 && said.reason == 1);
     CHECK(onu_explain(&cell, 257, NULL, 0, NULL, 0, &written) == ONU_SMALL && written > 0);
     CHECK(onu_replay(NULL, 0, NULL, 0, &written, &line) == 0 && written == 0 && line == 0);
-    CHECK(onu_judge(NULL, 0, 0, room, sizeof room, &written, &line) == 1 && line == 0);
+    CHECK(onu_judge(NULL, 0, 0, room, sizeof room, &written, &line) == 2 && line == 0);
     for (int i = 0; i < 2; i++) {
         written = 7;
         CHECK(makes[i](NULL, 0, NULL, 0, &written) == 0 && written == 0);
@@ -419,19 +419,35 @@ static bool says(const uint8_t *text, size_t n, const char *expected) {
     return *expected == 0;
 }
 
+/* How a history is judged by flags, with its line. */
+static int32_t judged(const char *history, uint32_t flags, uint64_t *line) {
+    static uint8_t room[4096];
+    size_t written = 0;
+    return onu_judge((const uint8_t *)history, strlen(history), flags, room, sizeof room, &written, line);
+}
+
+/* Whether a history deviates at a line, and is explained with a flag. */
+static bool is_for(uint32_t flag, const char *history, uint64_t deviation) {
+    uint64_t line = 7;
+    if (judged(history, ~flag & 31, &line) != 0 || line != deviation || judged(history, 0, &line) != 0 || line != deviation)
+        return false;
+    return judged(history, flag, &line) == 1 && line == 0;
+}
+
 static void a_history_is_judged(void) {
     static char history[4096];
     static uint8_t room[4096];
     size_t written = 0, needed = 0;
     uint64_t line = 7;
-    CHECK(onu_judge(bytes, 0, 0, room, sizeof room, &written, &line) == 1 && line == 0);
-    CHECK(says(room, written, "{\"format\":1,\"explained\":true,\"messages\":0,\"accepted\":0,\"replies\":0,"
-                              "\"frames\":{\"forwarded\":0,\"dropped\":0,\"open\":0},\"versions\":[]}"));
+    CHECK(onu_judge(bytes, 0, 0, room, sizeof room, &written, &line) == 2 && line == 0);
+    CHECK(says(room, written, "{\"format\":2,\"explained\":false,\"finished\":false,\"evidence\":false,\"messages\":0,\"accepted\":0,"
+                              "\"replies\":0,\"frames\":{\"forwarded\":0,\"dropped\":0,\"open\":0,\"strays\":0,\"doubtful\":0,"
+                              "\"lost\":0,\"cut\":0},\"versions\":[]}"));
     /* The first frame has the new tag, and the second hasn't: no right unit goes back. */
-    put_history(history, "g 0 1024 " AD "8100006408004500\ng 1 1024 " U "\n");
+    put_history(history, "g 0 1024 " AD "8100006408004500\ng 1 1024 " U "\ne\n");
     memset(room, 0xee, sizeof room);
     CHECK(onu_judge((uint8_t *)history, strlen(history), 0, room, sizeof room, &written, &line) == 0 && line == 13);
-    CHECK(says(room, written, "{\"format\":1,\"explained\":false,\"line\":13,\"frame\":{\"number\":1,\"port\":257,\"sent_line\":11,"
+    CHECK(says(room, written, "{\"format\":2,\"explained\":false,\"line\":13,\"frame\":{\"number\":1,\"port\":257,\"sent_line\":11,"
                               "\"seen\":{\"gem\":1024,\"frame\":\"" U "\"},\"at_least\":5,\"at_most\":5,\"versions\":["
                               "{\"from\":5,\"to\":5,\"gem\":1024,\"frame\":\"" AD "8100006408004500\"}]}}"));
     CHECK(room[written] == 0xee);
@@ -439,15 +455,29 @@ static void a_history_is_judged(void) {
     CHECK(onu_judge((uint8_t *)history, strlen(history), 0, room, written - 1, &needed, &line) == ONU_SMALL && line == 13);
     CHECK(needed == written && room[0] == 0xee && room[written - 1] == 0xee);
     /* Each frame by itself, it is right. */
-    CHECK(onu_judge((uint8_t *)history, strlen(history), ONU_UNORDERED, room, sizeof room, &written, &line) == 1 && line == 0);
+    CHECK(is_for(ONU_UNORDERED, history, 13));
     needed = line = 7;
-    CHECK(onu_judge((uint8_t *)history, strlen(history), 4, room, sizeof room, &needed, &line) == ONU_FLAGS && needed == 7 && line == 7);
+    CHECK(onu_judge((uint8_t *)history, strlen(history), 32, room, sizeof room, &needed, &line) == ONU_FLAGS && needed == 7 && line == 7);
+    CHECK(judged(history, 33, &line) == ONU_FLAGS && judged(history, UINT32_MAX, &line) == ONU_FLAGS && line == 7);
+    /* A frame leaves again. */
+    put_history(history, "g 0 1024 " U "\ns 1024 " U "\ne\n");
+    CHECK(is_for(ONU_ALLOW_STRAYS, history, 13));
+    /* A frame has zeros behind it: it is padded. */
+    put_history(history, "g 0 1024 " U "0000\ne\n");
+    CHECK(is_for(ONU_PADDED, history, 12));
+    /* No line ends it. */
+    put_history(history, "g 0 1024 " U "\n");
+    CHECK(judged(history, 0, &line) == 2 && line == 0 && judged(history, ~ONU_ALLOW_UNFINISHED & 31, &line) == 2);
+    CHECK(judged(history, ONU_ALLOW_UNFINISHED, &line) == 1 && line == 0);
+    /* Frames were sent, and nothing is said of them. */
+    put_history(history, "e\n");
+    CHECK(judged(history, 0, &line) == 2 && judged(history, 31, &line) == 2 && line == 0);
     /* A class that the model has not: its reply is compared but where asked for modelled classes alone. */
     history[0] = 0;
     put_line(history, "o", "0001440a002d0001");
     put_line(history, "r", "0001240a002d0001");
-    CHECK(onu_judge((uint8_t *)history, strlen(history), 0, room, sizeof room, &written, &line) == 0 && line == 2);
-    CHECK(onu_judge((uint8_t *)history, strlen(history), ONU_MODELLED, room, sizeof room, &written, &line) == 1 && line == 0);
+    strcat(history, "e\n");
+    CHECK(is_for(ONU_MODELLED, history, 2));
     /* A frame that nobody sent. */
     strcpy(history, "# nothing\ng 0 1 00\n");
     CHECK(onu_judge((uint8_t *)history, strlen(history), 0, room, sizeof room, &written, &line) == ONU_BAD_LINE && line == 2 && written == 0);

@@ -432,7 +432,7 @@ class GivenTest(unittest.TestCase):
             self.assertEqual((left, type(left.frame)), (Forwarded(1024, frame("81000064 0800 4500")), bytes))
             self.assertEqual(self.unit.explain(257, kind(sent))[-1]["answer"], "g 1024 " + ADDRESSES + "8100006408004500")
             self.assertEqual(replay(kind(b"f 257 00\n")), b"d 1\n")
-            self.assertTrue(judge(kind(b"# remark\n")).explained)
+            self.assertEqual(judge(kind(b"# remark\n"))[:2], (False, None))
             self.assertEqual(encode(kind(b"# remark\n")), "# remark\n")
             self.assertEqual(decode(kind(b"# remark\n")), [{"format": 1, "line": 1, "kind": "remark", "text": "# remark"}])
             self.assertEqual(mib(kind(b"# remark\n"))["mib_data_sync"], 0)
@@ -648,14 +648,14 @@ class TextTest(unittest.TestCase):
         self.assertEqual(raised.exception.answers, self.answers().encode())
 
     def test_an_explained_history(self) -> None:
-        found = judge(self.history("g 0 1024 " + UNTAGGED, "g 1 1024 " + ADDRESSES + "8100006408004500"))
+        found = judge(self.history("g 0 1024 " + UNTAGGED, "g 1 1024 " + ADDRESSES + "8100006408004500", "e"))
         self.assertTrue(found.explained)
         self.assertIsNone(found.line)
         self.assertEqual(found.details["messages"], 5)
         self.assertEqual(str(found), "explained")
 
     def test_a_unit_that_falls_back(self) -> None:
-        history = self.history("g 0 1024 " + ADDRESSES + "8100006408004500", "g 1 1024 " + UNTAGGED)
+        history = self.history("g 0 1024 " + ADDRESSES + "8100006408004500", "g 1 1024 " + UNTAGGED, "e")
         found = judge(history)
         self.assertFalse(found.explained)
         self.assertEqual(found.line, 13)
@@ -664,9 +664,34 @@ class TextTest(unittest.TestCase):
         self.assertTrue(judge(history, unordered=True).explained)
 
     def test_classes_that_the_model_has_not(self) -> None:
-        history = "o %s\nr %s\n" % (digits("0001440a002d0001"), digits("0001240a002d0001"))
+        history = "o %s\nr %s\ne\n" % (digits("0001440a002d0001"), digits("0001240a002d0001"))
         self.assertEqual(judge(history).line, 2)
         self.assertTrue(judge(history, modelled=True).explained)
+
+    def test_a_frame_that_leaves_again(self) -> None:
+        history = self.history("g 0 1024 " + UNTAGGED, "s any " + UNTAGGED, "e")
+        found = judge(history, modelled=True, unordered=True, padded=True, allow_unfinished=True)
+        self.assertEqual((found.line, found.details["stray"]), (13, {"gem": "any", "frame": UNTAGGED}))
+        self.assertEqual(judge(history, allow_strays=True).details["frames"]["strays"], 1)
+        self.assertTrue(judge(history, allow_strays=True).explained)
+
+    def test_a_frame_that_is_padded(self) -> None:
+        history = self.history("g 0 1024 " + UNTAGGED.ljust(120, "0"), "e")
+        self.assertEqual(judge(history, modelled=True, unordered=True, allow_strays=True, allow_unfinished=True).line, 12)
+        self.assertTrue(judge(history, padded=True).explained)
+
+    def test_a_history_without_an_end(self) -> None:
+        history = self.history("g 0 1024 " + UNTAGGED, "l 1")
+        found = judge(history.replace("\nl 1", ""))
+        self.assertEqual((found.explained, found.line, str(found)), (False, None, "explained so far: no end line"))
+        self.assertEqual((found.details["finished"], found.details["evidence"]), (False, True))
+        self.assertTrue(judge(history.replace("\nl 1", ""), allow_unfinished=True).explained)
+        self.assertEqual(judge(history, allow_unfinished=True).line, 13)
+
+    def test_a_history_without_evidence(self) -> None:
+        found = judge(self.history("e"))
+        self.assertEqual((found.explained, found.line, str(found)), (False, None, "explained so far: nothing was judged"))
+        self.assertEqual(str(judge("# remark\n", allow_unfinished=True)), "explained so far: no end line, nothing was judged")
 
     def test_a_history_with_a_bad_line(self) -> None:
         with self.assertRaises(BadLine) as raised:

@@ -183,12 +183,15 @@ Arguments:
   [FILE]  History, a file; standard input without it [example: bench.history]
 
 Options:
-      --modelled   Compare contents of replies only for a MIB reset and on classes 130, 171, 266 and 268; has no value [example: --modelled]
-      --unordered  Judge each frame by itself, for ports that several lanes serve; has no value [example: --unordered]
-      --json       Show it as JSON, for other programs; has no value [example: --json]
-  -h, --help       Print help
+      --modelled          Compare contents of replies only for a MIB reset and on classes 130, 171, 266 and 268; has no value [example: --modelled]
+      --unordered         Judge each frame by itself, for ports that several lanes serve; has no value [example: --unordered]
+      --allow-strays      Take strays, frames that leave and that no open frame can be; one that the unit makes up or sends twice isn't found then; has no value [example: --allow-strays]
+      --padded            Take zeros behind a frame that leaves with fewer than 68 bytes, up to 68, as a wire pads it; zeros that the unit adds aren't found then; has no value [example: --padded]
+      --allow-unfinished  Take a history without an end line, e; one that was cut isn't found then; has no value [example: --allow-unfinished]
+      --json              Show it as JSON, for other programs; has no value [example: --json]
+  -h, --help              Print help
 
-Status: 0 if it may, 3 if not, 1 or 2; onuctl help statuses says when
+Status: 0 if it may, 3 if not, 4 if it may so far, 1 or 2; onuctl help statuses says when
 Example: onuctl judge bench.history""",
     "forward": """\
 Forward the frames of a capture after a trace, and say what becomes of each
@@ -315,10 +318,11 @@ What lint finds, the most severe first: `--ignore KIND` leaves findings of a kin
   not-modelled (note): a class or an action that this model doesn't have; once for each""",
     "statuses": """\
 The status with which the program ends
-  0  all is written; judge found no deviation, and lint nothing as severe as --fail-on
+  0  all is written; judge explained the whole history, and lint found nothing as severe as --fail-on
   1  the words are wrong, a read or a write failed, or there is no memory or no room
   2  a line, a text or a capture is bad, or --strict met a message that wasn't carried out
   3  judge found a deviation, or lint something as severe as --fail-on; all is written
+  4  judge found no deviation, but the history may be cut, or nothing of it was judged; all is written
   141  nobody reads standard output any more""",
 }
 

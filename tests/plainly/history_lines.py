@@ -19,6 +19,11 @@ ROWS = [
     (b"g 0 1 00", 1), (b"d 0", 1), (b"f 1 00\nd 0\nd 0", 3), (b"f 1 00\nd 0\ng 0 1 00", 3), (b"f 1 00\ng 0 1 00\nd 0", 3),
     (b"f 1 00\ng 0 1 00\ng 0 1 00\n", 3), (b"f 1 00\nd 1\nf 1 00", 2), (b"f 1 00\nf 1 00\nd 1\nd 0\nf 1 00\nd 2\nd 1", 7),
     (b"f 1 00\nd 4294967295", 2), (b"f 1 00\nf 1 00\nd 1\ng 0 1 ", None),
+    (b"l 0", 1), (b"f 1 00\nl 0", None), (b"f 1 00\nl 0\nl 0", 3), (b"f 1 00\nl 0\nd 0", 3), (b"f 1 00\nd 0\nl 0", 3), (b"f 1 00\nl 1", 2),
+    (b"f 1 00\nf 1 00\nl 1\ng 0 any 00\nl 0", 5), (b"f 1 00..\nl 0\ng 0 1 00", 3), (b"s 1 00\nl 0", 2),
+    # Nothing but what says nothing stands behind the end.
+    (b"e", None), (b"e\r\n", None), (b"e\n# e\n\n\r\n", None), (b"e\ne", 2), (b"e\nw", 2), (b"e\no 00", 2), (b"e\nf 1 00", 2),
+    (b"f 1 00\ne\nd 0", 3), (b"e\ns 1 00", 2), (b"e\n\nr ", 3), (b"f 1 00\ne", None), (b"e\nx", 2),
     # Replies are waited for once they were seen.
     (b"w 1", 1), (b"w 0", None), (b"w", None), (b"r 00\nw 1\nw 2\nr 00", 3), (b"r 00\nr \nw 2\nw 1\nw 2", None), (b"o 00\nw 1", 2),
     (b"r 00\nw 4294967295", 2),
@@ -26,11 +31,21 @@ ROWS = [
     (b"f 65536 00", 1), (b"f 99999 00", 1), (b"f 000001 00", 1), (b"f  00", 1), (b"f +1 00", 1), (b"f 1a 00", 1), (b"d 12345678901", 1),
     (b"f 1 \nd 00000000000", 2), (b"f 1 \nd 4294967296", 2), (b"f 1 \nd 9999999999", 2), (b"f 1 \nd ", 2), (b"f 1 \nd -0", 2),
     (b"f 1 \ng 0 65536 00", 2), (b"f 1 \ng 0 000000 00", 2), (b"f 1 \ng 00000000000 1 00", 2), (b"w 00000000000", 1), (b"w 4294967296", 1),
+    (b"f 1 \nl 00000000000", 2), (b"f 1 \nl 4294967296", 2), (b"f 1 \nl ", 2), (b"f 1 \nl any", 2), (b"s 65536 00", 1), (b"s 000001 00", 1),
+    (b"s -1 00", 1), (b"s 00000 00", None), (b"s 65535 ", None),
+    # A GEM port that wasn't seen, and the front of a frame.
+    (b"f 1 \ng 0 any \ns any 00", None), (b"s Any 00", 1), (b"s ANY 00", 1), (b"s an 00", 1), (b"s anyx 00", 1), (b"s 1any 00", 1),
+    (b"f any 00", 1), (b"f 1 \ng any 1 00", 2), (b"f 1 \ng 0 any", 2), (b"f 1 \ng 0 any00", 2), (b"f 1 \nd any", 2), (b"w any", 1),
+    (b"f 1 00..\ng 0 1 00..\ns 1 00..", None), (b"f 1 ..\ng 0 any ..\ns any ..\r\n", None), (b"s 1 00.", 1), (b"s 1 00...", 1),
+    (b"s 1 00 ..", 1), (b"s 1 00.. ", 1), (b"s 1 0..", 1), (b"s 1 00..00", 1), (b"s 1 ..00", 1), (b"s 1..", 1), (b"f 1 00 ..", 1),
+    (b"f 1 0..", 1), (b"f 1..", 1), (b"o 00..", 1), (b"r 00..", 1), (b"o ..", 1), (b"f 1 \nd 0..", 2), (b"f 1 \nl 0..", 2), (b"e..", 1),
     # One space separates, and nothing follows.
     (b"o", 1), (b"r", 1), (b"f", 1), (b"g", 1), (b"d", 1), (b"x", 1), (b" w", 1), (b"w ", 1), (b"w 0 ", 1), (b"w  0", 1), (b"ww", 1),
     (b"O 00", 1), (b"o00", 1), (b"o  00", 1), (b"o 00 ", 1), (b"o 00 00", 1), (b"o\t00", 1), (b"o 00\r\r\n", 1), (b"r 0", 1), (b"r 0g", 1),
     (b"f 1", 1), (b"f 1  00", 1), (b"f 1 00 ", 1), (b"f 1 \nd 0 ", 2), (b"f 1 \ng 0", 2), (b"f 1 \ng 0 1", 2), (b"f 1 \ng 0  1 00", 2),
-    (b"f 1 \ng 0 1 00 ", 2), (b"- \n", 1), (b"m 3", 1), (b"\n#\n\no 0\nx", 4),
+    (b"f 1 \ng 0 1 00 ", 2), (b"s", 1), (b"s ", 1), (b"s 1", 1), (b"s any", 1), (b"s  1 00", 1), (b"s 1  00", 1), (b"s 1 00 ", 1),
+    (b"s 0 1 00", 1), (b"l", 1), (b"f 1 \nl 0 ", 2), (b"f 1 \nl  0", 2), (b"e ", 1), (b"E", 1), (b"ee", 1), (b"e 0", 1), (b" e", 1),
+    (b"- \n", 1), (b"m 3", 1), (b"\n#\n\no 0\nx", 4),
     # A line ends in a line feed, with or without a carriage return, or where the text does.
     (b"", None), (b"\n", None), (b"\r", None), (b"\r\n\n", None), (b"w", None), (b"w\r", None), (b"w 0\r\n# \r\r\n", None),
     (b"o 12\r\nr \r\n", None), (b"f 1 00\r\nd 0", None),
@@ -38,9 +53,10 @@ ROWS = [
     (b"o " + b"0" * 19998 + b"\n", None), (b"o " + b"0" * 19998 + b"\r\n", 1), (b"o " + b"0" * 19997 + b"\r\n", 1),
     (b"o " + b"0" * 19996 + b"\r\n", None), (b"o " + b"0" * 20000, 1), (b"#" + b"0" * 19999, None), (b"#" + b"0" * 20000, 1),
     (b"\n#" + b"0" * 19999 + b"\r", 2), (b"f 65535 " + b"0" * 19992 + b"\nd 0\n", None), (b"f 65535 " + b"0" * 19994 + b"\nd 0\n", 1),
+    (b"s any " + b"0" * 19992 + b"..\n", None), (b"s any " + b"0" * 19992 + b"..\r\n", 1), (b"s any " + b"0" * 19994 + b"..\n", 1),
     # A line of each kind, some with digits of both cases and numbers with zeros in front.
     (b"# a history\no 0001440a010c0401\nr 0001240A010C0401ff\nf 257 AD0800\nf 00000 \nw\nw 1\nw 0000000000\n\ng 0000000001 00009 \n"
-     b"g 0 65535 aDfE\nf 65535 12\nd 2\no \nr \n", None),
+     b"g 0 65535 aDfE\nf 65535 12\nd 2\no \nr \nf 7 \nl 0000000003\nf 1 aB..\ng 4 any Cd..\ns 00009 \ns any 0F..\ne\n# the end\n", None),
     # The first bad line counts.
     (b"o \nw\nx 00\nw\n", 3),
     # A bad line is said before all else, also where a line above it deviates, and however the history is judged.

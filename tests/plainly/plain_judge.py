@@ -1,19 +1,37 @@
 """A plain judge of histories, to compare the program's with, by docs/FORMATS.md ("Histories", "Judgements") alone. It looks at each front of
 a history by itself, tries each version at each frame, and takes the frames of a port one after the other. What a unit replies, and what
-becomes of a frame by each version, it asks of a model that it is given."""
+becomes of a frame by each version, it asks of a model that it is given. It is asked by the options of `judge`."""
 import re
 
 HEX = rb"((?:[0-9A-Fa-f]{2})*)"
+FRAME = HEX + rb"(\.\.)?"
+GEM = rb"(any|[0-9]{1,5})"
+NUMBER = rb"([0-9]{1,10})"
 LINES = {kind: re.compile(pattern) for kind, pattern in (
-    ("o", rb"o " + HEX), ("r", rb"r " + HEX), ("f", rb"f ([0-9]{1,5}) " + HEX), ("g", rb"g ([0-9]{1,10}) ([0-9]{1,5}) " + HEX),
-    ("d", rb"d ([0-9]{1,10})"), ("w", rb"w(?: ([0-9]{1,10}))?"))}
-MOST = {"f": [65535], "g": [4294967295, 65535], "d": [4294967295], "w": [4294967295]}
+    ("o", rb"o " + HEX), ("r", rb"r " + HEX), ("f", rb"f ([0-9]{1,5}) " + FRAME), ("g", rb"g " + NUMBER + b" " + GEM + b" " + FRAME),
+    ("s", rb"s " + GEM + b" " + FRAME), ("d", rb"d " + NUMBER), ("l", rb"l " + NUMBER), ("w", rb"w(?: " + NUMBER + b")?"), ("e", rb"e"))}
+MOST = {"f": [65535], "g": [4294967295, 65535], "s": [65535], "d": [4294967295], "l": [4294967295], "w": [4294967295], "e": []}
 MODELLED_ACTIONS = (4, 6, 8, 9, 26)
 MODELLED_CLASSES = (130, 171, 266, 268)
+# What is known of a frame is enough where it has as many bytes; and a wire makes a frame as long.
+ENOUGH, LONG = 24, 68
 
 
 class BadLine(Exception):
     """A line of a history is bad, the number of which is the argument."""
+
+
+class Bytes:
+    """The bytes of a frame, or those of its front where it had more."""
+
+    def __init__(self, data, is_front):
+        self.data, self.is_front = data, is_front
+
+    def __str__(self):
+        return self.data.hex() + (".." if self.is_front else "")
+
+    def in_json(self):
+        return {"front" if self.is_front else "frame": self.data.hex()}
 
 
 def lines_of(text):
@@ -23,7 +41,8 @@ def lines_of(text):
 
 
 def event_of(line):
-    """What a line says by itself, or None where it is bad: a letter and what follows it; and "" where it says nothing."""
+    """What a line says by itself, or None where it is bad: a letter and what follows it; and "" where it says nothing. A GEM port that wasn't
+    seen is "any"."""
     if len(line) > 20000:
         return None
     line = line[:-1] if line.endswith(b"\r") else line
@@ -35,23 +54,24 @@ def event_of(line):
         return None
     if kind in "or":
         return kind, bytes.fromhex(found[1].decode())
-    *numbers, data = found.groups() if kind in "fg" else (*found.groups(), None)
-    numbers = [digits and int(digits) for digits in numbers]
-    if any(value and value > most for value, most in zip(numbers, MOST[kind])):
+    *numbers, data, end = found.groups() if kind in "fgs" else (*found.groups(), None, None)
+    numbers = ["any" if digits == b"any" else digits and int(digits) for digits in numbers]
+    if any(isinstance(value, int) and value > most for value, most in zip(numbers, MOST[kind])):
         return None
-    return (kind, *numbers) if data is None else (kind, *numbers, bytes.fromhex(data.decode()))
+    return (kind, *numbers) if data is None else (kind, *numbers, Bytes(bytes.fromhex(data.decode()), end is not None))
 
 
 def read_history(text):
     """The events of a history, one for each line."""
-    events, frames, replies, ended = [], 0, 0, set()
+    events, frames, replies, ended, is_over = [], 0, 0, set(), False
     for number, line in enumerate(lines_of(text), 1):
         event = event_of(line)
-        if event is None:
+        if event is None or is_over and event[0]:
             raise BadLine(number)
+        is_over = is_over or event[0] == "e"
         frames += event[0] == "f"
         replies += event[0] == "r"
-        if event[0] in ("g", "d"):
+        if event[0] in ("g", "d", "l"):
             if event[1] >= frames or event[1] in ended:
                 raise BadLine(number)
             ended.add(event[1])
@@ -61,30 +81,51 @@ def read_history(text):
     return events
 
 
+def may_be(leaves, seen, is_padded):
+    """Whether what would leave may be what was seen. Each is whole or a front; they are the same as far as both go, and a whole one is longer
+    than the front beside it. A whole frame that is padded may have zeros behind it."""
+    least = most = leaves.data
+    if is_padded and not leaves.is_front:
+        most = least.ljust(LONG, b"\0")
+    both = min(len(most), len(seen.data))
+    if most[:both] != seen.data[:both]:
+        return False
+    if leaves.is_front and seen.is_front:
+        return True
+    if leaves.is_front:
+        return len(seen.data) > len(least)
+    return len(most) > len(seen.data) if seen.is_front else len(least) <= len(seen.data) <= len(most)
+
+
 class Frame:
     """A frame that was sent into a port, and the place of the event that ended it, if one did."""
 
     def __init__(self, number, place, port, data):
         self.number, self.sent, self.port, self.data, self.place = number, place, port, data, None
 
+    def is_judged(self):
+        """Of a frame of which too little is known nothing is said: it is as one that hasn't ended."""
+        return self.place is not None and (not self.data.is_front or len(self.data.data) >= ENOUGH)
+
 
 class Shown:
     """What a history shows. A model gives of messages and frames what each message is answered, as (reply, wants an answer, is accepted) or
     None where it has a fault, and of each frame its fate by each version: (GEM port, bytes), or the reason of its drop."""
 
-    def __init__(self, events, model, modelled, unordered):
-        self.events, self.modelled, self.unordered = events, modelled, unordered
+    def __init__(self, events, model, options):
+        self.events, self.options = events, options
+        self.modelled, self.unordered = "--modelled" in options, "--unordered" in options
         self.frames = []
         for place, event in enumerate(events):
             if event[0] == "f":
                 self.frames.append(Frame(len(self.frames), place, event[1], event[2]))
-            elif event[0] in ("g", "d"):
+            elif event[0] in ("g", "d", "l"):
                 self.frames[event[1]].place = place
         sent = [(place, event[1]) for place, event in enumerate(events) if event[0] == "o"]
-        answers, self.fates = model([data for _, data in sent], [(frame.port, frame.data) for frame in self.frames])
+        answers, self.fates = model([data for _, data in sent], [(frame.port, frame.data.data) for frame in self.frames])
         self.asked = [(place, data, *answer) for (place, data), answer in zip(sent, answers) if answer is not None]
         self.waiting = [asked for asked in self.asked if asked[3]]
-        self.ended = [frame for frame in self.frames if frame.place is not None]
+        self.ended = [frame for frame in self.frames if frame.is_judged()]
         for frame in self.ended:
             frame.least, frame.most = self.least_at(frame.sent), self.accepted_before(frame.place)
             frame.fitting = [version for version in range(frame.least, frame.most + 1) if self.is_seen(frame, version)]
@@ -104,10 +145,16 @@ class Shown:
                 most = max(most, self.count_before("r", before) if number is None else number)
         return self.accepted_before(self.waiting[most - 1][0] + 1) if 0 < most <= len(self.waiting) else 0
 
+    def left_by(self, frame, fate):
+        """What would leave of a frame: of its front, the front."""
+        return Bytes(fate[1], frame.data.is_front)
+
     def is_seen(self, frame, version):
         """Whether a frame ended as by a version."""
         event, fate = self.events[frame.place], self.fates[frame.number][version]
-        return not isinstance(fate, tuple) if event[0] == "d" else fate == (event[2], event[3])
+        if event[0] != "g" or not isinstance(fate, tuple):
+            return event[0] != "g" and not isinstance(fate, tuple)
+        return event[2] in ("any", fate[0]) and may_be(self.left_by(frame, fate), event[3], "--padded" in self.options)
 
     def request_before(self, place):
         """The request that a reply at a place answers, if one waits."""
@@ -156,12 +203,19 @@ class Shown:
         found = []
         for version in range(least, most + 1):
             fate = self.fates[frame.number][version]
-            does = {"gem": fate[0], "frame": fate[1].hex()} if isinstance(fate, tuple) else {"reason": fate}
+            does = {"gem": fate[0], **self.left_by(frame, fate).in_json()} if isinstance(fate, tuple) else {"reason": fate}
             if found and {key: found[-1][key] for key in found[-1] if key not in ("from", "to")} == does:
                 found[-1]["to"] = version
             else:
                 found.append({"from": version, "to": version, **does})
         return found
+
+    def counts(self):
+        """What became of all frames; and the lines of strays, and the frames of which only a front is known."""
+        ends = [self.events[frame.place][0] for frame in self.ended]
+        return {"forwarded": ends.count("g"), "dropped": ends.count("d"), "open": len(self.frames) - len(ends),
+                "strays": self.count_before("s", len(self.events)), "doubtful": 0, "lost": ends.count("l"),
+                "cut": sum(1 for frame in self.frames if frame.data.is_front)}
 
     def explained(self, chosen):
         events, steps, last = self.events, [], {}
@@ -169,10 +223,13 @@ class Shown:
             if version > last.get(port, 0):
                 steps.append({"port": port, "version": version, "frame": frame.number, "line": frame.sent + 1})
             last[port] = version
-        counts = {kind: self.count_before(kind, len(events)) for kind in "orfgd"}
-        frames = {"forwarded": counts["g"], "dropped": counts["d"], "open": counts["f"] - counts["g"] - counts["d"]}
-        return {"format": 1, "explained": True, "messages": counts["o"], "accepted": self.accepted_before(len(events)),
-                "replies": counts["r"], "frames": frames, "versions": [] if self.unordered else steps}
+        messages, replies = (self.count_before(kind, len(events)) for kind in "or")
+        is_finished = ("e",) in events
+        # Replies alone are no evidence of what became of frames.
+        has_evidence = bool(self.ended) if self.frames else replies > 0
+        return {"format": 2, "explained": has_evidence and (is_finished or "--allow-unfinished" in self.options), "finished": is_finished,
+                "evidence": has_evidence, "messages": messages, "accepted": self.accepted_before(len(events)), "replies": replies,
+                "frames": self.counts(), "versions": [] if self.unordered else steps}
 
     def wrong_reply(self, place):
         request = self.request_before(place)
@@ -181,35 +238,54 @@ class Shown:
 
     def wrong_frame(self, frame):
         event, (least, most) = self.events[frame.place], self.bounds(frame)
-        seen = "dropped" if event[0] == "d" else {"gem": event[2], "frame": event[3].hex()}
+        seen = {"d": "dropped", "l": "lost"}[event[0]] if event[0] != "g" else {"gem": event[2], **event[3].in_json()}
         return {"frame": {"number": frame.number, "port": frame.port, "sent_line": frame.sent + 1, "seen": seen, "at_least": least,
                           "at_most": most, "versions": self.runs(frame, least, most)}}
 
+    def wrong_at(self, place):
+        """What no right unit does at a place, or None where the events up to there are explained as those before them are."""
+        event = self.events[place]
+        if event[0] == "r" and not self.is_right_reply(place):
+            return self.wrong_reply(place)
+        if event[0] == "s" and "--allow-strays" not in self.options:
+            return {"stray": {"gem": event[1], **event[2].in_json()}}
+        if event[0] in ("g", "d", "l") and self.least_versions(place + 1) is None:
+            return self.wrong_frame(self.frames[event[1]])
+        return None
+
     def judge(self):
         """What is found, as `judge --json` writes it."""
-        for place, event in enumerate(self.events):
-            front = {"format": 1, "explained": False, "line": place + 1}
-            if event[0] == "r" and not self.is_right_reply(place):
-                return {**front, **self.wrong_reply(place)}
-            if event[0] in ("g", "d") and self.least_versions(place + 1) is None:
-                return {**front, **self.wrong_frame(self.frames[event[1]])}
+        for place in range(len(self.events)):
+            wrong = self.wrong_at(place)
+            if wrong:
+                return {"format": 2, "explained": False, "line": place + 1, **wrong}
         return self.explained(self.least_versions(len(self.events)))
 
 
-def judge(text, model, modelled=False, unordered=False):
+def judge(text, model, options=()):
     """What is found of a history, as `judge --json` writes it. Raises BadLine."""
-    return Shown(read_history(text), model, modelled, unordered).judge()
+    return Shown(read_history(text), model, options).judge()
+
+
+def status_of(found):
+    """The status of `judge`: explained, a deviation, or neither."""
+    return 0 if found["explained"] else 3 if "line" in found else 4
+
+
+def left_in_words(left):
+    """A frame that left, and by which GEM port."""
+    return f"{left['gem']} {left['frame']}" if "frame" in left else f"{left['gem']} {left['front']}.."
 
 
 def end_of(found):
     """How a frame left or was dropped, in a line."""
-    return f"d {found['reason']}" if "reason" in found else f"g {found['gem']} {found['frame']}"
+    return f"d {found['reason']}" if "reason" in found else f"g {left_in_words(found)}"
 
 
 def lines_of_frame(frame):
     seen = frame["seen"]
     yield f"frame {frame['number']}, sent into port {frame['port']} at line {frame['sent_line']}"
-    yield "seen d" if seen == "dropped" else f"seen g {seen['gem']} {seen['frame']}"
+    yield {"dropped": "seen d", "lost": "not seen to leave"}[seen] if isinstance(seen, str) else f"seen g {left_in_words(seen)}"
     for run in frame["versions"]:
         first, last = run["from"], run["to"]
         yield (f"version {first} " if first == last else f"versions {first} to {last} ") + end_of(run)
@@ -218,17 +294,39 @@ def lines_of_frame(frame):
         yield f"no version is left: at least {least} by frames before it or by what was waited for, at most {most}"
 
 
-def in_words(found):
-    """The lines that `judge` writes of what is found."""
+def sent_in(found):
+    """How many frames were sent."""
+    return sum(found["frames"][key] for key in ("forwarded", "dropped", "lost", "open"))
+
+
+def lines_of_end(found, options):
+    """Whether it is a pass, and why it isn't."""
     if found["explained"]:
-        frames = found["frames"]
-        yield f"messages {found['messages']} accepted {found['accepted']} replies {found['replies']}"
-        yield (f"frames {sum(frames.values())} forwarded {frames['forwarded']} dropped {frames['dropped']} open {frames['open']}")
-        for step in found["versions"]:
-            yield f"port {step['port']} version {step['version']} from frame {step['frame']} line {step['line']}"
         yield "explained"
         return
+    if not found["finished"] and "--allow-unfinished" not in options:
+        yield "unfinished: the history has no end line; it may be cut"
+    if not found["evidence"]:
+        sent = sent_in(found)
+        yield f"no frame was judged: {sent} were sent" if sent else "nothing was judged: no reply, no frame that ended"
+
+
+def in_words(found, options=()):
+    """The lines that `judge` writes of what is found, by the options of `judge`."""
+    if "line" not in found:
+        frames = found["frames"]
+        more = "".join(f" {key} {frames[key]}" for key in ("strays", "lost", "cut") if frames[key])
+        yield f"messages {found['messages']} accepted {found['accepted']} replies {found['replies']}"
+        yield f"frames {sent_in(found)} forwarded {frames['forwarded']} dropped {frames['dropped']} open {frames['open']}{more}"
+        for step in found["versions"]:
+            yield f"port {step['port']} version {step['version']} from frame {step['frame']} line {step['line']}"
+        yield from lines_of_end(found, options)
+        return
     yield f"deviation at line {found['line']}"
+    if "stray" in found:
+        yield "a frame left that no open frame can be"
+        yield f"seen s {left_in_words(found['stray'])}"
+        return
     if "frame" in found:
         yield from lines_of_frame(found["frame"])
         return
