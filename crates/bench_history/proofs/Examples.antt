@@ -4,7 +4,7 @@ use Rattle.std.specs.Prelude.{codes}
 use Rattle.hex.specs.Hex.{decode_pairs}
 use Rattle.bench_history.specs.History.{history_of}
 use Rattle.bench_history.specs.Line.{event_of}
-use Rattle.bench_history.specs.declared.event.Event.TheVariants.{Sent, Replied, Entered, Left, Strayed, Dropped, Lost, Waited, Ended, Nothing}
+use Rattle.bench_history.specs.declared.event.Event.TheVariants.{Sent, Replied, Entered, Left, LeftOneOf, Strayed, Dropped, Lost, Waited, Ended, Nothing}
 use Rattle.bench_history.specs.declared.extent.Extent.TheVariants.{Whole, Front}
 use Rattle.bench_history.specs.declared.gem.SeenGem.TheVariants.{Port, Any}
 
@@ -110,3 +110,55 @@ any_port = refl
 a_gem_port_in_capitals : event_of (codes "s Any 01") ≡ None
 unfolding event_of decode_pairs
 a_gem_port_in_capitals = refl
+
+-- ---- frames of which one left
+
+one_of_two_twice : history_of (lines (codes "f 1 00" ∷ codes "f 2 00" ∷ codes "a 7 00 0 1" ∷ codes "a any 0102.. 0 1" ∷ []))
+    ≡ Ok (Entered 1 Whole (0 ∷ []) ∷ Entered 2 Whole (0 ∷ [])
+    ∷ LeftOneOf (Port 7) Whole (record { frame = 0 ∷ []; numbers = 0 ∷ 1 ∷ [] })
+    ∷ LeftOneOf Any Front (record { frame = 1 ∷ 2 ∷ []; numbers = 0 ∷ 1 ∷ [] }) ∷ [])
+unfolding event_of decode_pairs
+one_of_two_twice = refl
+
+one_of_two_a_third_time : history_of (lines (codes "f 1 00" ∷ codes "f 2 00" ∷ codes "a 7 00 0 1" ∷ codes "a 7 00 0 1" ∷ codes "a 7 00 0 1" ∷ []))
+    ≡ Err 5
+unfolding event_of decode_pairs
+one_of_two_a_third_time = refl
+
+-- the three have left, and no line names them alone three times
+one_that_is_used_up : history_of (lines (codes "f 1 00" ∷ codes "f 1 00" ∷ codes "f 1 00" ∷ codes "a 7 00 0 1 2" ∷ codes "a 7 00 0" ∷ codes "a 7 00 2"
+    ∷ codes "a 7 00 1" ∷ [])) ≡ Err 7
+unfolding event_of decode_pairs
+one_that_is_used_up = refl
+
+a_doubtful_frame_is_lost : history_of (lines (codes "f 1 00" ∷ codes "f 2 00" ∷ codes "a 7 00 0 1" ∷ codes "l 0" ∷ [])) ≡ Err 4
+unfolding event_of decode_pairs
+a_doubtful_frame_is_lost = refl
+
+a_doubtful_frame_leaves : history_of (lines (codes "f 1 00" ∷ codes "f 2 00" ∷ codes "a 7 00 0 1" ∷ codes "g 1 7 00" ∷ [])) ≡ Err 4
+unfolding event_of decode_pairs
+a_doubtful_frame_leaves = refl
+
+one_of_one : history_of (lines (codes "f 1 00" ∷ codes "a 7 00 0" ∷ [])) ≡ Err 2
+unfolding event_of decode_pairs
+one_of_one = refl
+
+one_that_ended : history_of (lines (codes "f 1 00" ∷ codes "f 1 00" ∷ codes "d 0" ∷ codes "a 7 00 0 1" ∷ [])) ≡ Err 4
+unfolding event_of decode_pairs
+one_that_ended = refl
+
+one_not_sent : history_of (lines (codes "f 1 00" ∷ codes "a 7 00 0 1" ∷ [])) ≡ Err 2
+unfolding event_of decode_pairs
+one_not_sent = refl
+
+the_same_twice : event_of (codes "a 7 00 1 1") ≡ None
+unfolding event_of decode_pairs
+the_same_twice = refl
+
+one_of_none : event_of (codes "a 7 00") ≡ None
+unfolding event_of decode_pairs
+one_of_none = refl
+
+a_space_behind : event_of (codes "a 7 00 0 1 ") ≡ None
+unfolding event_of decode_pairs
+a_space_behind = refl

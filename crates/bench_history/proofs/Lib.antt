@@ -1,5 +1,9 @@
 pub mod Added
+pub mod Doubting
 mod Examples
+pub mod Reaching
 pub mod Spelled
 pub mod Steps
+pub mod Rising
 pub mod Borders
+pub mod Sound

@@ -1,34 +1,13 @@
 -- What one line of a history says by itself.
-use Rattle.std.specs.Prelude.{ℕ, ◌+◌, ◌-◌, List, Option, Some, None, if◌then◌else◌, ◌==◌, nat_lt, nat_eq, length, position, take, drop, codes}
-use Rattle.std.specs.List.{ends_with, starts_with}
+use Rattle.std.specs.Prelude.{ℕ, List, Option, Some, None, if◌then◌else◌, ◌==◌, nat_lt, nat_eq, length, drop, codes}
+use Rattle.std.specs.List.{starts_with}
 use Rattle.std.specs.Option.{option_and_then, option_map}
 use Rattle.std.specs.Str.{bytes_eq}
-use Rattle.script_lines.specs.Line.{decimal_of, line_limit, port_of, spelled_bytes, without_cr}
+use Rattle.script_lines.specs.Line.{line_limit, port_of, spelled_bytes, without_cr}
+use Rattle.bench_history.specs.Among.{one_of}
+use Rattle.bench_history.specs.Words.{gem_of, number_of, numbered, seen_bytes}
 use Rattle.bench_history.specs.declared.event.Event.{Event}
-use Rattle.bench_history.specs.declared.event.Event.TheVariants.{Sent, Replied, Entered, Left, Strayed, Dropped, Lost, Waited, Ended, Nothing}
-use Rattle.bench_history.specs.declared.extent.Extent.{Extent}
-use Rattle.bench_history.specs.declared.extent.Extent.TheVariants.{Whole, Front}
-use Rattle.bench_history.specs.declared.gem.SeenGem.{SeenGem}
-use Rattle.bench_history.specs.declared.gem.SeenGem.TheVariants.{Port, Any}
-
--- a number of 32 bits in one to ten decimal digits
-abbrev pub number_of : List ℕ → Option ℕ
-number_of digits = option_and_then (λ n. if nat_lt n 4294967296 then Some n else None) (decimal_of 10 digits)
-
--- the GEM port of a frame that left, by its number; or `any`, where it wasn't seen
-abbrev pub gem_of : List ℕ → Option SeenGem
-gem_of word = if bytes_eq word (codes "any") then Some Any else option_map Port (port_of word)
-
--- what the word in front of the first space names, and what stands behind that
-abbrev pub numbered : {A : Type 0} → (List ℕ → Option A) → List ℕ → Option (A × List ℕ)
-numbered number parts =
-    option_and_then (λ space. option_map (λ n. (n, drop (space + 1) parts)) (number (take space parts))) (position (λ b. b == 32) parts)
-
--- `HEX`: all bytes of a frame; or `HEX..`: its first bytes
-abbrev pub seen_bytes : List ℕ → Option (Extent × List ℕ)
-seen_bytes digits =
-    if ends_with nat_eq digits (codes "..") then option_map (λ bytes. (Front, bytes)) (spelled_bytes (take (length digits - 2) digits))
-    else option_map (λ bytes. (Whole, bytes)) (spelled_bytes digits)
+use Rattle.bench_history.specs.declared.event.Event.TheVariants.{Sent, Replied, Entered, Left, LeftOneOf, Strayed, Dropped, Lost, Waited, Ended, Nothing}
 
 -- `PORT HEX`: a frame was sent into a port
 abbrev pub entered_by : List ℕ → Option Event
@@ -46,6 +25,10 @@ left_by parts =
 abbrev pub strayed_by : List ℕ → Option Event
 strayed_by parts = option_and_then (λ gem. option_map (λ seen. Strayed gem.0 seen.0 seen.1) (seen_bytes gem.1)) (numbered gem_of parts)
 
+-- `GEM HEX N N ..`: a frame left by a GEM port, and is one of these
+abbrev pub left_one_by : List ℕ → Option Event
+left_one_by parts = option_and_then (λ gem. option_map (λ told. LeftOneOf gem.0 told.0 told.1) (one_of gem.1)) (numbered gem_of parts)
+
 -- nothing behind the `w`: the replies seen so far are waited for; or a space and a number of replies
 abbrev pub waited_by : List ℕ → Option Event
 waited_by behind =
@@ -59,12 +42,17 @@ end_told line =
     else (if starts_with nat_eq line (codes "l ") then option_map Lost (number_of (drop 2 line))
     else (if bytes_eq line (codes "e") then Some Ended else None))
 
--- `f PORT HEX`, `g N GEM HEX` and `s GEM HEX`, or an end that wasn't seen
+-- `a GEM HEX N N ..` and `s GEM HEX`, or an end that wasn't seen
+abbrev pub unsure_told : List ℕ → Option Event
+unsure_told line =
+    if starts_with nat_eq line (codes "a ") then left_one_by (drop 2 line)
+    else (if starts_with nat_eq line (codes "s ") then strayed_by (drop 2 line) else end_told line)
+
+-- `f PORT HEX` and `g N GEM HEX`, or of a frame that can't be told for sure
 abbrev pub frame_told : List ℕ → Option Event
 frame_told line =
     if starts_with nat_eq line (codes "f ") then entered_by (drop 2 line)
-    else (if starts_with nat_eq line (codes "g ") then left_by (drop 2 line)
-    else (if starts_with nat_eq line (codes "s ") then strayed_by (drop 2 line) else end_told line))
+    else (if starts_with nat_eq line (codes "g ") then left_by (drop 2 line) else unsure_told line)
 
 -- `o HEX`, `r HEX`, `w` and `w N`, or of a frame
 abbrev pub told : List ℕ → Option Event

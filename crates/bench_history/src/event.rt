@@ -1,4 +1,5 @@
 //! What was seen.
+use crate::among::Among;
 use crate::digits::Digits;
 use crate::extent::Extent;
 use crate::gem::SeenGem;
@@ -14,6 +15,11 @@ pub enum Event<'a> {
     Replied {
         reply: Digits<'a>,
     },
+    /// A reply that isn't the model's, and is taken for the answer to the nearest request that it can answer. No line of a history says
+    /// so: the judge puts it where it goes on behind a wrong reply.
+    Excused {
+        reply: Digits<'a>,
+    },
     /// A frame was sent into a port. Frames are numbered from 0, in the order of these events.
     Entered {
         port: u16,
@@ -26,6 +32,12 @@ pub enum Event<'a> {
         extent: Extent,
         number: u32,
         frame: Digits<'a>,
+    },
+    /// A frame was seen to leave by a GEM port, with these bytes, and is one of these frames: which of them can't be seen.
+    LeftOneOf {
+        gem: SeenGem,
+        extent: Extent,
+        among: Among<'a>,
     },
     /// A frame was seen to leave by a GEM port, with these bytes, that no open frame can be: it was never sent, or has left before.
     Strayed {

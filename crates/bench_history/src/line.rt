@@ -1,75 +1,14 @@
 //! What one line of a history says.
-ghost use Rattle.std.specs.Prelude.{◌≡◌, ◌≤◌, ◌==◌, IfSome, length, option_map, position};
-ghost use Rattle.script_lines.specs.Line.{line_limit, port_of, without_cr};
-ghost use Rattle.bench_history.specs.Line.{content_told, end_told, entered_by, event_of, frame_told, gem_of, left_by, number_of, numbered, seen_bytes, strayed_by, told, waited_by};
+ghost use Rattle.std.specs.Prelude.{◌≡◌, ◌≤◌, length};
+ghost use Rattle.script_lines.specs.Line.{line_limit, without_cr};
+ghost use Rattle.bench_history.specs.Line.{content_told, end_told, entered_by, event_of, frame_told, left_by, left_one_by, strayed_by, told, unsure_told, waited_by};
 
+use crate::among::Among;
 use crate::digits::Digits;
 use crate::event::Event;
-use crate::extent::Extent;
-use crate::gem::SeenGem;
 use crate::number::read_count;
-use script_lines::{LINE_LIMIT, read_port};
-
-/// Where the first space stands.
-fn space_in(parts: &[u8]) -> Option<usize>
-    ensures { result ≡ position (λ b. b == 32) parts.now }
-{
-    parts.iter().position(|byte| *byte == b' ')
-}
-
-/// A number of 16 bits in one to five decimal digits, and what stands behind the first space; None where there is no such number.
-fn split_port(parts: &[u8]) -> Option<(u16, &[u8])>
-    ensures parts { option_map (λ (cut : _). (cut.0, cut.1.now)) result
-        ≡ numbered port_of parts.now }
-    ensures within { IfSome result (λ cut. length cut.1.now ≤ length parts.now) }
-{
-    let space = space_in(parts)?;
-    let port = read_port(parts.split_at(space).0)?;
-    Some((port, parts.split_at(space + 1).1))
-}
-
-/// The same of a number of 32 bits in one to ten decimal digits.
-fn split_number(parts: &[u8]) -> Option<(u32, &[u8])>
-    ensures parts { option_map (λ (cut : _). (cut.0, cut.1.now)) result
-        ≡ numbered number_of parts.now }
-    ensures within { IfSome result (λ cut. length cut.1.now ≤ length parts.now) }
-{
-    let space = space_in(parts)?;
-    let number = read_count(parts.split_at(space).0)?;
-    Some((number, parts.split_at(space + 1).1))
-}
-
-/// The GEM port that a word names; None where it names none.
-fn read_gem(word: &[u8]) -> Option<SeenGem>
-    ensures { result ≡ gem_of word.now }
-{
-    if word == b"any".as_slice() {
-        return Some(SeenGem::Any);
-    }
-    Some(SeenGem::Port(read_port(word)?))
-}
-
-/// A GEM port, and what stands behind the first space; None where none is named.
-fn split_gem(parts: &[u8]) -> Option<(SeenGem, &[u8])>
-    ensures parts { option_map (λ (cut : _). (cut.0, cut.1.now)) result
-        ≡ numbered gem_of parts.now }
-    ensures within { IfSome result (λ cut. length cut.1.now ≤ length parts.now) }
-{
-    let space = space_in(parts)?;
-    let gem = read_gem(parts.split_at(space).0)?;
-    Some((gem, parts.split_at(space + 1).1))
-}
-
-/// How much of a frame was seen, and the digits of that, by `HEX` or `HEX..`.
-fn read_seen(digits: &[u8]) -> Option<(Extent, Digits<'_>)>
-    requires { length digits.now ≤ line_limit }
-    ensures { result ≡ seen_bytes digits.now }
-{
-    if let Some(front) = digits.strip_suffix(b"..") {
-        return Some((Extent::Front, Digits::of(front)?));
-    }
-    Some((Extent::Whole, Digits::of(digits)?))
-}
+use crate::words::{read_seen, split_gem, split_number, split_port};
+use script_lines::LINE_LIMIT;
 
 /// A frame that entered, by `PORT HEX`.
 fn read_entered(parts: &[u8]) -> Option<Event<'_>>
@@ -101,6 +40,16 @@ fn read_left(parts: &[u8]) -> Option<Event<'_>>
     })
 }
 
+/// A frame that left and is one of several, by `GEM HEX N N ..`.
+fn read_left_one(parts: &[u8]) -> Option<Event<'_>>
+    requires { length parts.now ≤ line_limit }
+    ensures { result ≡ left_one_by parts.now }
+{
+    let (gem, text) = split_gem(parts)?;
+    let (extent, among) = Among::of(text)?;
+    Some(Event::LeftOneOf { gem, extent, among })
+}
+
 /// A stray, by `GEM HEX`.
 fn read_strayed(parts: &[u8]) -> Option<Event<'_>>
     requires { length parts.now ≤ line_limit }
@@ -129,6 +78,20 @@ fn read_end_told(content: &[u8]) -> Option<Event<'_>>
     None
 }
 
+/// What a line says of a frame that can't be told for sure.
+fn read_unsure_told(content: &[u8]) -> Option<Event<'_>>
+    requires { length content.now ≤ line_limit }
+    ensures { result ≡ unsure_told content.now }
+{
+    if let Some(parts) = content.strip_prefix(b"a ") {
+        return read_left_one(parts);
+    }
+    if let Some(parts) = content.strip_prefix(b"s ") {
+        return read_strayed(parts);
+    }
+    read_end_told(content)
+}
+
 /// What a line says of a frame.
 fn read_frame_told(content: &[u8]) -> Option<Event<'_>>
     requires { length content.now ≤ line_limit }
@@ -140,10 +103,7 @@ fn read_frame_told(content: &[u8]) -> Option<Event<'_>>
     if let Some(parts) = content.strip_prefix(b"g ") {
         return read_left(parts);
     }
-    if let Some(parts) = content.strip_prefix(b"s ") {
-        return read_strayed(parts);
-    }
-    read_end_told(content)
+    read_unsure_told(content)
 }
 
 /// What a line that begins with `w` waits for, by what stands behind that.

@@ -1,6 +1,6 @@
 //! The number that a line names a frame or a count of replies by.
 ghost use Rattle.std.specs.Prelude.{◌≡◌};
-ghost use Rattle.bench_history.specs.Line.{number_of};
+ghost use Rattle.bench_history.specs.Words.{number_of};
 
 use script_lines::read_decimal;
 

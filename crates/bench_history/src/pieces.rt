@@ -39,6 +39,17 @@ impl Pieces {
         })
     }
 
+    /// The text, part by part. Each of its lines lies whole in one part.
+    pub fn parts(&self, alloc: Global) -> Result<Vec<&[u8]>, AllocError>
+        ensures { IfOk result (λ parts. flat_map (λ part. part.now) parts.items ≡ self.now) }
+    {
+        let mut parts = Vec::with_capacity(alloc, self.pieces.len())?;
+        'each_piece: for piece in &self.pieces {
+            parts.push(piece.own())?;
+        }
+        Ok(parts)
+    }
+
     /// The events of the history, as [`read_history`](crate::read_history) reads them of a text that is one slice.
     pub fn read(&self, alloc: Global) -> Result<Vec<Event<'_>>, HistoryFault>
         ensures events { IfOk result (λ events. history_of self.now ≡ Ok events.items) }

@@ -1,9 +1,12 @@
 //! What the lines of a history so far allow the next to say.
-ghost use Rattle.std.specs.Prelude.{◌≡◌, ◌<◌, ◌++◌, ◌^◌, [], ◌∷◌, IfOk, List, slice_set, true};
-ghost use Rattle.bench_history.specs.History.{fits, is_open, may_follow};
+ghost use Rattle.std.specs.Prelude.{◌≡◌, ◌<◌, ◌++◌, ◌^◌, [], ◌∷◌, IfOk, List, length, nat_lt, slice_set, true};
+ghost use Rattle.std.specs.List.{list_all, list_any};
+ghost use Rattle.bench_history.specs.History.{fits, is_doubtful, is_open, may_be_left, may_be_one, may_end, may_follow};
 ghost use Rattle.bench_history.specs.Seen.{IsSeen};
 ghost use Rattle.bench_history.specs.declared.event.Event.{Event};
 
+use crate::among::Among;
+use crate::doubts::Doubts;
 use crate::event::Event;
 use std::alloc::{AllocError, Global};
 
@@ -16,6 +19,16 @@ pub(crate) struct Seen {
     replies: u64,
     // Whether the observation ended.
     is_over: bool,
+    doubts: Doubts,
+}
+
+/// Whether a frame is one of several.
+fn are_several(among: &Among<'_>) -> bool
+    ensures { result ≡ nat_lt 1 (length among.now.numbers) }
+{
+    let mut numbers = among.numbers();
+    let _least = numbers.take_least();
+    numbers.take_least().is_some()
 }
 
 impl Seen {
@@ -27,6 +40,7 @@ impl Seen {
             ended: Vec::new(alloc),
             replies: 0,
             is_over: false,
+            doubts: Doubts::new(alloc),
         }
     }
 
@@ -38,6 +52,58 @@ impl Seen {
         matches!(self.ended.get(number as usize), Some(false))
     }
 
+    /// Whether a frame may end.
+    fn may_end(&self, number: u32) -> bool
+        ensures { (events : List Event) → IsSeen events self.now
+            → result ≡ may_end number events }
+    {
+        self.is_open(number) && !self.doubts.is_doubtful(number)
+    }
+
+    /// Whether it may be one that left.
+    fn may_be_left(&self, number: u32) -> bool
+        ensures { (events : List Event) → IsSeen events self.now
+            → result ≡ may_be_left events number }
+    {
+        self.is_open(number) && !self.doubts.is_used_up(number)
+    }
+
+    /// Whether each of some frames may.
+    fn may_each_be_left(&self, among: &Among<'_>) -> bool
+        ensures { (events : List Event) → IsSeen events self.now
+            → result ≡ list_all (may_be_left events) among.now.numbers }
+    {
+        let mut numbers = among.numbers();
+        while let Some(number) = numbers.take_least() {
+            if !self.may_be_left(number) {
+                return false;
+            }
+        }
+        true
+    }
+
+    /// Whether any of them is doubtful.
+    fn is_any_doubtful(&self, among: &Among<'_>) -> bool
+        ensures { (events : List Event) → IsSeen events self.now
+            → result ≡ list_any (λ n. is_doubtful n events) among.now.numbers }
+    {
+        let mut numbers = among.numbers();
+        while let Some(number) = numbers.take_least() {
+            if self.doubts.is_doubtful(number) {
+                return true;
+            }
+        }
+        false
+    }
+
+    /// Whether one of frames may have left.
+    fn may_be_one(&self, among: &Among<'_>) -> bool
+        ensures { (events : List Event) → IsSeen events self.now
+            → result ≡ may_be_one among.now.numbers events }
+    {
+        self.may_each_be_left(among) && (are_several(among) || self.is_any_doubtful(among))
+    }
+
     /// Whether an event fits those seen, while the observation goes on.
     fn fits(&self, event: &Event<'_>) -> bool
         ensures { (events : List Event) → IsSeen events self.now
@@ -45,7 +111,8 @@ impl Seen {
     {
         match event {
             Event::Left { number, .. } | Event::Dropped { number } | Event::Lost { number } =>
-                self.is_open(*number),
+                self.may_end(*number),
+            Event::LeftOneOf { among, .. } => self.may_be_one(among),
             Event::Waited {
                 replies: Some(replies),
             } => u64::from(*replies) <= self.replies,
@@ -69,6 +136,7 @@ impl Seen {
         ensures ended { self.new.ended.items ≡ slice_set self.old.ended.items number true }
         ensures replies { self.new.replies ≡ self.old.replies }
         ensures over { self.new.is_over ≡ self.old.is_over }
+        ensures doubts { self.new.doubts ≡ self.old.doubts }
     {
         if let Some(ended) = self.ended.get_mut(number as usize) {
             *ended = true;
@@ -82,11 +150,12 @@ impl Seen {
             → may_follow events event.now ≡ true
             → IfOk result (λ _. IsSeen (events ++ event.now ∷ []) self.new) }
     {
+        self.doubts.follow(event)?;
         match event {
             Event::Entered { .. } => self.ended.push(false)?,
             Event::Left { number, .. } | Event::Dropped { number } | Event::Lost { number } =>
                 self.end(*number),
-            Event::Replied { .. } => self.replies += 1,
+            Event::Replied { .. } | Event::Excused { .. } => self.replies += 1,
             Event::Ended => self.is_over = true,
             _ => {}
         }

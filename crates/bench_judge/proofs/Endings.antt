@@ -19,7 +19,7 @@ use Rattle.bench_judge.specs.Frames.{AreFrames, AreWithin, IsKeptIn}
 use Rattle.bench_judge.specs.Bounds.{IsLeastLeft, IsMostLeft}
 use Rattle.bench_judge.specs.Cut.{IsFitted, IsTurn, Suits, until}
 use Rattle.bench_judge.specs.Judged.{AreRuns, IsAtLeast, IsAtMost, IsEndAs, IsWrongFrame}
-use Rattle.bench_judge.specs.Walk.{AreInOrder, IsWalk}
+use Rattle.bench_judge.specs.Walk.{AreSound, IsWalk}
 use Rattle.bench_judge.specs.declared.frame.Frame.{Frame}
 use Rattle.bench_judge.specs.declared.judgement.End.{End}
 use Rattle.bench_judge.specs.declared.judgement.Run.{Run}
@@ -52,13 +52,13 @@ same_verdicts one other sent from to runs same are =
       some = λ le. same_runs one other sent from (to + 1) runs (λ v lt. same v (omega (arith, lt))) (are.some le);
     }
 
-module _ (settings : JudgeSettings) (events : List Event) (walk : Walk) (place : ℕ) (order : AreInOrder events) (known : IsWalk settings events walk)
+module _ (settings : JudgeSettings) (events : List Event) (walk : Walk) (place : ℕ) (sound : AreSound events) (known : IsWalk settings events walk)
     (lt : place < walk.walked) (turn : IsTurn settings.padded settings.unordered events place) where
   pub within : place < length events
   within = omega (arith, lt, known.within)
 
   abbrev pub e : EndsAt events place
-  e = turn_ends settings.unordered events place order within turn
+  e = turn_ends settings.unordered events place sound within turn
 
   abbrev pub f : EndedFrame
   f = e.f

@@ -1,13 +1,14 @@
 -- Events that stand in order.
 use Rattle.std.proofs.Common.{◌≡◌, ◌+◌, ℕ, true, cond, List, [], ◌∷◌, ◌++◌, length, take, Some, None, Result, Ok, Err, inl, inr, refl, ap, sym, subst, ◌∙◌, arith}
-use Rattle.std.proofs.lemmas.List.{take-append-le, take-take, take_at}
+use Rattle.std.proofs.lemmas.List.{take-append-le, take_at}
 use Rattle.std.proofs.lemmas.Option.{cond_some, option_and_then_some, slice_get_within}
 use Rattle.script_lines.specs.Text.{lines_of}
 use Rattle.bench_history.specs.History.{events_from, history_of, may_follow, next_of}
 use Rattle.bench_history.specs.Line.{event_of}
 use Rattle.bench_history.specs.declared.event.Event.{Event}
-use Rattle.bench_judge.specs.Walk.{AreInOrder}
-use Rattle.bench_judge.proofs.Places.{get_in_front, get_pushed}
+use Rattle.bench_history.proofs.Sound.{sound_if_it_follows}
+use Rattle.bench_judge.specs.Walk.{AreInOrder, AreSound}
+use Rattle.bench_judge.proofs.Places.{get_pushed}
 
 -- an event that may stand behind others
 in_order_more : (before : List Event) (event : Event) → may_follow before event ≡ true → AreInOrder before → AreInOrder (before ++ event ∷ [])
@@ -44,11 +45,9 @@ none_in_order : AreInOrder []
 none_in_order i event at = cc at
 
 -- a history stands in order
-pub history_in_order : (text : List ℕ) (events : List Event) → history_of text ≡ Ok events → AreInOrder events
+history_in_order : (text : List ℕ) (events : List Event) → history_of text ≡ Ok events → AreInOrder events
 history_in_order text events is = from_in_order (lines_of text) [] events is none_in_order
 
--- and so does each front of it
-pub in_order_front : (k : ℕ) (events : List Event) → AreInOrder events → AreInOrder (take k events)
-in_order_front k events order i event at =
-    let there = get_in_front k events i event at in
-    ap (λ (xs : List Event). may_follow xs event) (take-take i k events (omega (arith, there.0))) ∙ order i event there.1
+-- so its events are sound
+pub history_is_sound : (text : List ℕ) (events : List Event) → history_of text ≡ Ok events → AreSound events
+history_is_sound text events is i event at = sound_if_it_follows (take i events) event (history_in_order text events is i event at)

@@ -1,12 +1,14 @@
 mod Examples
-pub mod Actions
 pub mod Alone
+pub mod Candidates
 pub mod Afters
 pub mod Answering
 pub mod Choices
 pub mod Counted
 pub mod Cuts
 pub mod Deviations
+pub mod Doubted
+pub mod Doubtful
 pub mod Endings
 pub mod Found
 pub mod Fronts
@@ -14,10 +16,10 @@ pub mod InOrder
 pub mod Joined
 pub mod Least
 pub mod Leaves
-pub mod Lengths
 pub mod Lists
 pub mod Messages
 pub mod Nearest
+pub mod Numbered
 pub mod OneOn
 pub mod Places
 pub mod Queues
@@ -30,6 +32,7 @@ pub mod Settling
 pub mod Sightings
 pub mod Swept
 pub mod Turns
+pub mod Versions
 pub mod Waits
 pub mod WasJudged
 pub mod Whole

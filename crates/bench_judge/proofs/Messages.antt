@@ -12,8 +12,9 @@ use Rattle.mib_state.specs.After.{accepted, after, is_accepted}
 use Rattle.mib_upload.specs.Upload.{DeskState, answered, start}
 use Rattle.bench_history.specs.declared.event.Event.{Event}
 use Rattle.bench_history.specs.declared.event.Event.TheVariants.{Sent}
-use Rattle.bench_judge.specs.Asked.{Wanted, asked, request_in, wanted, wanted_from}
-use Rattle.bench_judge.specs.Replies.{is_judged}
+use Rattle.bench_reply.specs.Replies.{Wanted}
+use Rattle.bench_reply.specs.Kept.{IsExpected}
+use Rattle.bench_judge.specs.Asked.{asked, request_in, wanted, wanted_from}
 use Rattle.bench_judge.specs.Windows.{most_behind, up_to}
 use Rattle.bench_judge.specs.Scene.{IsAsking, IsDue, desk_from}
 use Rattle.bench_judge.specs.declared.asking.Asking.{Asking}
@@ -76,8 +77,7 @@ due_same : (modelled : Bool) (events : List Event) (place k : ℕ) (due : Due) �
 due_same modelled events place k due same is = record {
   answers = is.answers;
   at = ap (λ (qs : List Request). slice_get (wanted_from start qs) k) same ∙ is.at;
-  reply = is.reply;
-  judged = is.judged;
+  expected = is.expected;
   message = is.message;
   sent = is.sent;
   request = is.request;
@@ -108,8 +108,7 @@ due_above modelled events place k due q more asks wants is =
     record {
       answers = is.answers;
       at = ap (λ (ws : List Wanted). slice_get ws k) wants ∙ get_more (wanted_from start qs) more k is.answers is.at;
-      reply = is.reply;
-      judged = is.judged;
+      expected = is.expected;
       message = is.message;
       sent = is.sent;
       request = is.request;
@@ -123,8 +122,7 @@ due_above modelled events place k due q more asks wants is =
 -- what is kept of a request, when it is sent
 pub record IsKeptDue (modelled : Bool) (place : ℕ) (q : Request) (old new : Asking) (due : Due) : Type 0 where
   pub sent : due.sent ≡ place
-  pub judged : due.is_judged ≡ is_judged modelled q
-  pub reply : due.reply ≡ (answered old.desk q).0
+  pub expected : IsExpected modelled (wanted_at old.desk q) due.expected
   pub accepted : due.accepted ≡ length new.requests.items
 
 -- the same, or that it wants no answer
@@ -151,8 +149,7 @@ due_last modelled events place message q old new due at read asks wants requests
     record {
       answers = wanted_at old.desk q;
       at = ap (λ (ws : List Wanted). slice_get ws k) wants ∙ get_last (wanted_from start qs) (wanted_at old.desk q);
-      reply = is.reply;
-      judged = is.judged;
+      expected = is.expected;
       message = message;
       sent = ap (slice_get events) is.sent ∙ at;
       request = read;

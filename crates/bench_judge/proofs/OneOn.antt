@@ -1,18 +1,18 @@
 -- What is kept of events, one event on.
-use Rattle.std.proofs.Common.{◌≡◌, ◌<◌, ◌≤◌, ◌+◌, ℕ, Bool, true, false, ◌&&◌, cond, eqb, leb, ltb, not, List, [], ◌∷◌, ◌++◌, length, take, set, max, Option, Some, None, inl, inr, refl, ap, sym, subst, ◌∙◌, arith}
+use Rattle.std.proofs.Common.{◌≡◌, ◌<◌, ◌≤◌, ◌+◌, ℕ, Bool, true, false, cond, eqb, ltb, not, List, [], ◌∷◌, ◌++◌, length, take, set, max, Option, Some, None, inl, inr, refl, ap, sym, subst, ◌∙◌, arith}
 use Rattle.std.specs.List.{slice_get}
 use Rattle.std.proofs.lemmas.Bool.{and_parts, cases_lt, leb-true, ltb-true}
-use Rattle.std.proofs.lemmas.Option.{same_Some, slice_get_within}
+use Rattle.std.proofs.lemmas.Option.{same_Some}
 use Rattle.omci_msg.specs.declared.request.Request.{Request}
-use Rattle.bench_history.specs.History.{frames_in, has_ended, is_end_of, is_ended, is_frame, is_open, is_reply, may_follow, replies_in}
+use Rattle.bench_history.specs.History.{frames_in, has_ended, is_end_of, is_frame, is_open, is_reply, is_sound, replies_in}
+use Rattle.bench_history.specs.Among.{OneOf}
 use Rattle.bench_history.specs.declared.event.Event.{Event}
-use Rattle.bench_history.specs.declared.event.Event.TheVariants.{Sent, Replied, Entered, Left, Strayed, Dropped, Lost, Waited, Ended, Nothing}
+use Rattle.bench_history.specs.declared.event.Event.TheVariants.{Sent, Replied, Excused, Entered, Left, LeftOneOf, Strayed, Dropped, Lost, Waited, Ended, Nothing}
 use Rattle.bench_history.specs.declared.extent.Extent.{Extent}
 use Rattle.bench_history.specs.declared.gem.SeenGem.{SeenGem}
 use Rattle.bench_sight.specs.Sight.{is_enough}
 use Rattle.bench_judge.specs.Admitted.{IsAdmitted}
-use Rattle.bench_judge.specs.Asked.{request_in, wanted}
-use Rattle.bench_judge.specs.Replies.{IsRight}
+use Rattle.bench_judge.specs.Asked.{request_in}
 use Rattle.bench_judge.specs.Windows.{most_behind, waited, waits_for}
 use Rattle.bench_judge.specs.Scene.{AreAdmittedUpTo, AreFramesOf, IsAsking, IsScene, ended_by}
 use Rattle.bench_judge.specs.declared.asking.Asking.{Asking}
@@ -21,7 +21,7 @@ use Rattle.bench_judge.specs.declared.scene.Scene.{Scene}
 use Rattle.bench_judge.specs.declared.settings.JudgeSettings.{JudgeSettings}
 use Rattle.bench_judge.proofs.Places.{element_at}
 use Rattle.bench_judge.proofs.Counted.{replies_with}
-use Rattle.bench_judge.proofs.Messages.{asking_same, asks_nothing, wanted_grows}
+use Rattle.bench_judge.proofs.Messages.{asking_same, asks_nothing}
 use Rattle.bench_judge.proofs.Sightings.{IsSentFrame, frames_ended, frames_more, frames_same}
 use Rattle.bench_judge.proofs.Waits.{waited_with}
 
@@ -43,10 +43,10 @@ at_most_one true = omega arith
 at_most_one false = omega arith
 
 -- no more replies are waited for than were seen
-waits_within : (before : List Event) (replies : Option ℕ) (n : ℕ) → n ≡ replies_in before → may_follow before (Waited replies) ≡ true
+waits_within : (before : List Event) (replies : Option ℕ) (n : ℕ) → n ≡ replies_in before → is_sound before (Waited replies) ≡ true
     → waits_for before (Waited replies) ≤ n
-waits_within before (Some k) n same may = omega (arith, same, leb-true k (replies_in before) (and_parts (not (is_ended before)) (leb k (replies_in before)) may).1)
-waits_within before None n same may = omega (arith, same)
+waits_within before (Some k) n same sound = omega (arith, same, leb-true k (replies_in before) sound)
+waits_within before None n same sound = omega (arith, same)
 
 -- ---- an event more
 
@@ -56,7 +56,6 @@ pub record IsOneOn (events : List Event) (place : ℕ) (event : Event) (old new 
   pub asking : IsAsking old.settings.modelled events (place + 1) new.asking
   pub frames : AreFramesOf events (place + 1) new.frames.items
   pub replies : new.replies ≡ old.replies + cond (is_reply event) 1 0
-  pub answered : new.replies ≤ length old.asking.due.items
   pub waited : new.waited ≡ max old.waited (waits_for (take place events) event)
   pub seen : waits_for (take place events) event ≤ old.replies
 
@@ -69,7 +68,6 @@ one_on events place event old new at admitted one is =
       asking = subst (λ (s : JudgeSettings). IsAsking s.modelled events (place + 1) new.asking) (sym one.settings) one.asking;
       frames = one.frames;
       replies = omega (arith, one.replies, is.replies, replies_with events place event at);
-      answered = omega (arith, one.answered, is.asking.count, one.asking.count, wanted_grows events place event at);
       few = omega (arith, one.replies, is.few, one_reply);
       waited = one.waited ∙ ap (λ (w : ℕ). max w (waits_for (take place events) event)) is.waited ∙ sym (waited_with events place event at);
       seen = omega (arith, one.waited, one.replies, one.seen, is.seen);
@@ -95,27 +93,38 @@ scene_sent events place message old new at same_settings asking frames replies w
       frames = subst (λ (fs : List Frame). AreFramesOf events (place + 1) fs) (sym (ap (λ v. v.items) frames))
           (frames_same events place (Sent message) old.frames.items at refl (λ n. refl) is.frames);
       replies = omega (arith, replies);
-      answered = omega (arith, replies, is.answered);
       waited = omega (arith, waited);
       seen = omega arith;
     }) is
 
-pub scene_replied : (events : List Event) (place : ℕ) (bytes : List ℕ) (old new : Scene) → slice_get events place ≡ Some (Replied bytes)
-    → IsRight old.settings.modelled (take place events) bytes
+-- what is a reply, and nothing else
+pub record IsAnyReply (event : Event) : Type 0 where
+  pub asks : request_in event ≡ None
+  pub enters : is_frame event ≡ false
+  pub ends : (n : ℕ) → is_end_of n event ≡ false
+  pub replies : is_reply event ≡ true
+  pub waits : (before : List Event) → waits_for before event ≡ 0
+
+pub reply_replies : (bytes : List ℕ) → IsAnyReply (Replied bytes)
+reply_replies bytes = record { asks = refl; enters = refl; ends = λ n. refl; replies = refl; waits = λ before. refl }
+
+pub excused_replies : (bytes : List ℕ) → IsAnyReply (Excused bytes)
+excused_replies bytes = record { asks = refl; enters = refl; ends = λ n. refl; replies = refl; waits = λ before. refl }
+
+pub scene_replied : (events : List Event) (place : ℕ) (event : Event) (old new : Scene) → slice_get events place ≡ Some event → IsAnyReply event
+    → IsAdmitted old.settings (take place events) event
     → new.settings ≡ old.settings → new.asking ≡ old.asking → new.frames ≡ old.frames
     → new.replies ≡ old.replies + 1 → new.waited ≡ old.waited
     → IsScene events place old → IsScene events (place + 1) new
-scene_replied events place bytes old new at right same_settings asking frames replies waited is =
-    let next = slice_get_within (wanted (take place events)) (replies_in (take place events)) right.answers right.next in
-    one_on events place (Replied bytes) old new at right (record {
+scene_replied events place event old new at reply admitted same_settings asking frames replies waited is =
+    one_on events place event old new at admitted (record {
       settings = same_settings;
-      asking = subst (λ (a : Asking). IsAsking old.settings.modelled events (place + 1) a) (sym asking) (unasked events place (Replied bytes) old at refl is);
+      asking = subst (λ (a : Asking). IsAsking old.settings.modelled events (place + 1) a) (sym asking) (unasked events place event old at reply.asks is);
       frames = subst (λ (fs : List Frame). AreFramesOf events (place + 1) fs) (sym (ap (λ v. v.items) frames))
-          (frames_same events place (Replied bytes) old.frames.items at refl (λ n. refl) is.frames);
-      replies = replies;
-      answered = omega (arith, replies, is.replies, is.asking.count, next);
-      waited = omega (arith, waited);
-      seen = omega arith;
+          (frames_same events place event old.frames.items at reply.enters reply.ends is.frames);
+      replies = omega (arith, replies, ap {B = ℕ} (λ (b : Bool). cond b 1 0) reply.replies);
+      waited = omega (arith, waited, reply.waits (take place events));
+      seen = omega (arith, reply.waits (take place events));
     }) is
 
 pub scene_entered : (events : List Event) (place port : ℕ) (extent : Extent) (bytes : List ℕ) (frame : Frame) (old new : Scene)
@@ -130,26 +139,24 @@ scene_entered events place port extent bytes frame old new at sent same_settings
       frames = subst (λ (fs : List Frame). AreFramesOf events (place + 1) fs) (sym frames)
           (frames_more events place port extent bytes old.frames.items frame at sent is.frames);
       replies = omega (arith, replies);
-      answered = omega (arith, replies, is.answered);
       waited = omega (arith, waited);
       seen = omega arith;
     }) is
 
 pub scene_waited : (events : List Event) (place : ℕ) (replies : Option ℕ) (old new : Scene) → slice_get events place ≡ Some (Waited replies)
-    → may_follow (take place events) (Waited replies) ≡ true
+    → is_sound (take place events) (Waited replies) ≡ true
     → new.settings ≡ old.settings → new.asking ≡ old.asking → new.frames ≡ old.frames → new.replies ≡ old.replies
     → new.waited ≡ max old.waited (waits_for (take place events) (Waited replies))
     → IsScene events place old → IsScene events (place + 1) new
-scene_waited events place replies old new at may same_settings asking frames same waited is =
+scene_waited events place replies old new at sound same_settings asking frames same waited is =
     one_on events place (Waited replies) old new at tt (record {
       settings = same_settings;
       asking = subst (λ (a : Asking). IsAsking old.settings.modelled events (place + 1) a) (sym asking) (unasked events place (Waited replies) old at refl is);
       frames = subst (λ (fs : List Frame). AreFramesOf events (place + 1) fs) (sym (ap (λ v. v.items) frames))
           (frames_same events place (Waited replies) old.frames.items at refl (λ n. refl) is.frames);
       replies = omega (arith, same);
-      answered = omega (arith, same, is.answered);
       waited = waited;
-      seen = waits_within (take place events) replies old.replies is.replies may;
+      seen = waits_within (take place events) replies old.replies is.replies sound;
     }) is
 
 -- what asks nothing, sends no frame and ends none, and waits for nothing
@@ -169,6 +176,9 @@ ended_idle = record { asks = refl; enters = refl; ends = λ n. refl; replies = r
 pub stray_idle : (gem : SeenGem) (extent : Extent) (bytes : List ℕ) → IsIdle (Strayed gem extent bytes)
 stray_idle gem extent bytes = record { asks = refl; enters = refl; ends = λ n. refl; replies = refl; waits = λ before. refl }
 
+pub one_of_idle : (gem : SeenGem) (extent : Extent) (among : OneOf) → IsIdle (LeftOneOf gem extent among)
+one_of_idle gem extent among = record { asks = refl; enters = refl; ends = λ n. refl; replies = refl; waits = λ before. refl }
+
 pub scene_idle : (events : List Event) (place : ℕ) (event : Event) (old : Scene) → slice_get events place ≡ Some event → IsIdle event
     → IsAdmitted old.settings (take place events) event
     → IsScene events place old → IsScene events (place + 1) old
@@ -178,7 +188,6 @@ scene_idle events place event old at idle admitted is =
       asking = unasked events place event old at idle.asks is;
       frames = frames_same events place event old.frames.items at idle.enters idle.ends is.frames;
       replies = omega (arith, ap {B = ℕ} (λ (b : Bool). cond b 1 0) idle.replies);
-      answered = is.answered;
       waited = omega (arith, idle.waits (take place events));
       seen = omega (arith, idle.waits (take place events));
     }) is
@@ -193,12 +202,12 @@ pub record IsEnd (number : ℕ) (event : Event) : Type 0 where
   pub replies : is_reply event ≡ false
   pub waits : (before : List Event) → waits_for before event ≡ 0
   pub admitted : (settings : JudgeSettings) (before : List Event) → IsAdmitted settings before event
-  pub sent : (before : List Event) → may_follow before event ≡ true → number < frames_in before
+  pub sent : (before : List Event) → is_sound before event ≡ true → number < frames_in before
 
--- an event that may follow speaks of an open frame
-open_frame : (before : List Event) (number : ℕ) → not (is_ended before) && is_open number before ≡ true → number < frames_in before
-open_frame before number may =
-    ltb-true number (frames_in before) (and_parts (ltb number (frames_in before)) (not (has_ended number before)) (and_parts (not (is_ended before)) (is_open number before) may).1).0
+-- an open frame was sent
+open_frame : (before : List Event) (number : ℕ) → is_open number before ≡ true → number < frames_in before
+open_frame before number open_yet =
+    ltb-true number (frames_in before) (and_parts (ltb number (frames_in before)) (not (has_ended number before)) open_yet).0
 
 pub left_ends : (gem : SeenGem) (extent : Extent) (number : ℕ) (bytes : List ℕ) → IsEnd number (Left gem extent number bytes)
 left_ends gem extent number bytes = record {
@@ -208,7 +217,7 @@ left_ends gem extent number bytes = record {
   replies = refl;
   waits = λ before. refl;
   admitted = λ settings before. tt;
-  sent = λ before may. open_frame before number may;
+  sent = λ before sound. open_frame before number sound;
 }
 
 pub dropped_ends : (number : ℕ) → IsEnd number (Dropped number)
@@ -219,7 +228,7 @@ dropped_ends number = record {
   replies = refl;
   waits = λ before. refl;
   admitted = λ settings before. tt;
-  sent = λ before may. open_frame before number may;
+  sent = λ before sound. open_frame before number sound;
 }
 
 pub lost_ends : (number : ℕ) → IsEnd number (Lost number)
@@ -230,19 +239,19 @@ lost_ends number = record {
   replies = refl;
   waits = λ before. refl;
   admitted = λ settings before. tt;
-  sent = λ before may. open_frame before number may;
+  sent = λ before sound. open_frame before number sound;
 }
 
 pub scene_ended : (events : List Event) (place number most : ℕ) (event : Event) (old new : Scene)
-    → slice_get events place ≡ Some event → IsEnd number event → may_follow (take place events) event ≡ true
+    → slice_get events place ≡ Some event → IsEnd number event → is_sound (take place events) event ≡ true
     → new.settings ≡ old.settings → new.asking ≡ old.asking
     → most ≡ length old.asking.requests.items
     → ((frame : Frame) → slice_get old.frames.items number ≡ Some frame
     → new.frames.items ≡ set old.frames.items number (ended_by place most frame))
     → new.replies ≡ old.replies → new.waited ≡ old.waited
     → IsScene events place old → IsScene events (place + 1) new
-scene_ended events place number most event old new at ends may same_settings asking greatest frames replies waited is =
-    let within : number < length old.frames.items = omega (arith, ends.sent (take place events) may, is.frames.count) in
+scene_ended events place number most event old new at ends sound same_settings asking greatest frames replies waited is =
+    let within : number < length old.frames.items = omega (arith, ends.sent (take place events) sound, is.frames.count) in
     let here = element_at old.frames.items number within in
     let frame : Frame = here.0 in
     let behind : most ≡ most_behind (take place events) = greatest ∙ ap (λ (qs : List Request). length qs) is.asking.requests in
@@ -254,7 +263,6 @@ scene_ended events place number most event old new at ends may same_settings ask
       frames = subst (λ (fs : List Frame). AreFramesOf events (place + 1) fs) (sym written)
           (frames_ended events place number event old.frames.items frame at ends.enters ends.ends here.1 is.frames);
       replies = omega (arith, replies, ap {B = ℕ} (λ (b : Bool). cond b 1 0) ends.replies);
-      answered = omega (arith, replies, is.answered);
       waited = omega (arith, waited, ends.waits (take place events));
       seen = omega (arith, ends.waits (take place events));
     }) is

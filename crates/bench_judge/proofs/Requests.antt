@@ -6,7 +6,8 @@ use Rattle.mib_state.specs.After.{accepted, accepted_from, after, after_from, is
 use Rattle.mib_state.specs.Step.{left}
 use Rattle.mib_upload.specs.Upload.{DeskState, answered}
 use Rattle.mib_upload.proofs.Left.{desk_left}
-use Rattle.bench_judge.specs.Asked.{Wanted, wanted_from}
+use Rattle.bench_reply.specs.Replies.{Wanted}
+use Rattle.bench_judge.specs.Asked.{wanted_from}
 use Rattle.bench_judge.specs.Windows.{up_to}
 use Rattle.bench_judge.specs.Scene.{desk_from}
 
@@ -80,6 +81,18 @@ up_to_above s (q ∷ qs) more (suc n) within =
       | true ↦ λ is. ap (λ rest. q ∷ rest) (up_to_above later qs more n (omega (arith, is)))
       | false ↦ λ is. ap (λ rest. q ∷ rest) (up_to_above later qs more (suc n) is)
     ] within
+
+-- all are, where they don't want so many answers
+pub up_to_all : (s : DeskState) (qs : List Request) (n : ℕ) → length (wanted_from s qs) < n → up_to n qs ≡ qs
+up_to_all s qs zero more = absurd (omega (arith, more))
+up_to_all s [] (suc n) more = refl
+up_to_all s (q ∷ qs) (suc n) more =
+    let later : DeskState = (answered s q).1 in
+    elim q.wants_answer as (λ b. length (cond b (wanted_at s q ∷ wanted_from later qs) (wanted_from later qs)) < suc n
+    → (q ∷ cond b (up_to n qs) (up_to (suc n) qs)) ≡ q ∷ qs) [
+      | true ↦ λ is. ap (λ rest. q ∷ rest) (up_to_all later qs n (omega (arith, is)))
+      | false ↦ λ is. ap (λ rest. q ∷ rest) (up_to_all later qs (suc n) is)
+    ] more
 
 none_left : (n : ℕ) → up_to n [] ≡ []
 none_left zero = refl

@@ -1,5 +1,5 @@
 -- Whether a frame was seen to end as entities mean it to, by its events.
-use Rattle.std.proofs.Common.{◌≡◌, ℕ, Bool, List, Option, Some, slice_get, ap, sym, subst, ◌∙◌}
+use Rattle.std.proofs.Common.{◌≡◌, ℕ, Bool, List, Some, slice_get, ap, sym, ◌∙◌}
 use Rattle.std.specs.Prelude.{Decides}
 use Rattle.mib_state.specs.Entities.{Entities}
 use Rattle.frame_meaning.specs.Meaning.{meaning}

@@ -1,17 +1,17 @@
 -- The first event that leaves no choice ends a frame.
 use Rattle.std.proofs.Common.{◌≡◌, ◌==◌, ℕ, zero, suc, ◌+◌, ◌<◌, ◌≤◌, Bool, true, false, ◌&&◌, not, nat_lt, List, [], ◌∷◌, length, take, None, Some, slice_get, refl, ap, sym, ◌∙◌, arith, take-take, true≢false, cond}
-use Rattle.std.proofs.lemmas.Bool.{and_parts, ltb-true, ltb-false}
+use Rattle.std.proofs.lemmas.Bool.{ltb-true, ltb-false}
 use Rattle.std.proofs.lemmas.Option.{same_Some}
 use Rattle.std.proofs.lemmas.List.Sums.{sum_by-cons}
 use Rattle.std.proofs.lemmas.Bool.Decides.{Decides-eqb}
-use Rattle.bench_history.specs.History.{frames_in, has_ended, is_end_of, is_ended, is_frame, is_open, may_follow}
+use Rattle.bench_history.specs.History.{frames_in, has_ended, is_end_of, is_frame, is_open, is_sound}
 use Rattle.bench_history.specs.declared.event.Event.{Event}
-use Rattle.bench_history.specs.declared.event.Event.TheVariants.{Sent, Replied, Entered, Left, Strayed, Dropped, Lost, Waited, Ended, Nothing}
+use Rattle.bench_history.specs.declared.event.Event.TheVariants.{Sent, Replied, Excused, Entered, Left, LeftOneOf, Strayed, Dropped, Lost, Waited, Ended, Nothing}
 use Rattle.bench_history.specs.declared.extent.Extent.{Extent}
 use Rattle.bench_sight.specs.Sight.{is_enough}
 use Rattle.bench_judge.specs.Explained.{EndedFrame, IsEnded}
 use Rattle.bench_judge.specs.Cut.{HasChoice, IsTurn}
-use Rattle.bench_judge.specs.Walk.{AreInOrder}
+use Rattle.bench_judge.specs.Walk.{AreSound}
 use Rattle.bench_judge.proofs.Fronts.{ended_in_front, ended_of_front, version_in_front, version_of_front}
 use Rattle.bench_judge.proofs.Lists.{in_front}
 use Rattle.bench_judge.proofs.Whole.{one_number, sent_once}
@@ -46,7 +46,9 @@ sends_at (Entered port extent bytes ∷ events) (suc n) lt =
     behind_frame port extent bytes events n (sends_at events n (let one = entered_count port extent bytes events in omega (arith, lt, one)))
 sends_at (Sent message ∷ events) n lt = behind_other (Sent message) events n (λ l. refl) (sends_at events n lt)
 sends_at (Replied reply ∷ events) n lt = behind_other (Replied reply) events n (λ l. refl) (sends_at events n lt)
+sends_at (Excused reply ∷ events) n lt = behind_other (Excused reply) events n (λ l. refl) (sends_at events n lt)
 sends_at (Left gem extent number frame ∷ events) n lt = behind_other (Left gem extent number frame) events n (λ l. refl) (sends_at events n lt)
+sends_at (LeftOneOf gem extent among ∷ events) n lt = behind_other (LeftOneOf gem extent among) events n (λ l. refl) (sends_at events n lt)
 sends_at (Strayed gem extent frame ∷ events) n lt = behind_other (Strayed gem extent frame) events n (λ l. refl) (sends_at events n lt)
 sends_at (Dropped number ∷ events) n lt = behind_other (Dropped number) events n (λ l. refl) (sends_at events n lt)
 sends_at (Lost number ∷ events) n lt = behind_other (Lost number) events n (λ l. refl) (sends_at events n lt)
@@ -156,11 +158,11 @@ none_known events place n event at is_end s short f is here =
         ap (λ e. is_enough e a) extent ∙ ap (is_enough y) bytes
 
 -- the first event that leaves no choice ends a frame
-pub turn_ends : {padded : Bool} (unordered : Bool) (events : List Event) (place : ℕ) → AreInOrder events → place < length events → IsTurn padded unordered events place → EndsAt events place
-turn_ends {padded} unordered events place order within turn =
+pub turn_ends : {padded : Bool} (unordered : Bool) (events : List Event) (place : ℕ) → AreSound events → place < length events → IsTurn padded unordered events place → EndsAt events place
+turn_ends {padded} unordered events place sound within turn =
     elim (slice_get events place) as (λ o. slice_get events place ≡ o → EndsAt events place) [
       | None ↦ λ none. absurd (past events place within none)
-      | Some event ↦ λ at. by_event event at (order place event at)
+      | Some event ↦ λ at. by_event event at (sound place event at)
     ] refl
   where
     past : {A : Type 0} (xs : List A) (n : ℕ) → n < length xs → slice_get xs n ≡ None → ⊥
@@ -173,22 +175,24 @@ turn_ends {padded} unordered events place order within turn =
         absurd (turn.behind (carried unordered events place
         (no_end events place (λ f is here. true≢false (sym (seen_here events place event f at is here) ∙ none f.number))) turn.before))
 
-    ends : (n : ℕ) (event : Event) → slice_get events place ≡ Some event → is_end_of n event ≡ true → not (is_ended (take place events)) && is_open n (take place events) ≡ true
+    ends : (n : ℕ) (event : Event) → slice_get events place ≡ Some event → is_end_of n event ≡ true → is_open n (take place events) ≡ true
         → EndsAt events place
-    ends n event at is_end may =
-        elim (ends_here events place n event at is_end (and_parts (not (is_ended (take place events))) (is_open n (take place events)) may).1) [
+    ends n event at is_end open_yet =
+        elim (ends_here events place n event at is_end open_yet) [
           | ends_there here ↦ here
           | unknown s short ↦ absurd (turn.behind (carried unordered events place (no_end events place (none_known events place n event at is_end s short)) turn.before))
         ]
 
-    by_event : (event : Event) → slice_get events place ≡ Some event → may_follow (take place events) event ≡ true → EndsAt events place
-    by_event (Left gem extent number frame) at may = ends number (Left gem extent number frame) at (same_number number) may
-    by_event (Dropped number) at may = ends number (Dropped number) at (same_number number) may
-    by_event (Lost number) at may = ends number (Lost number) at (same_number number) may
-    by_event (Sent message) at may = carries (Sent message) at (λ n. refl)
-    by_event (Replied reply) at may = carries (Replied reply) at (λ n. refl)
-    by_event (Entered port extent frame) at may = carries (Entered port extent frame) at (λ n. refl)
-    by_event (Strayed gem extent frame) at may = carries (Strayed gem extent frame) at (λ n. refl)
-    by_event (Waited replies) at may = carries (Waited replies) at (λ n. refl)
-    by_event Ended at may = carries Ended at (λ n. refl)
-    by_event Nothing at may = carries Nothing at (λ n. refl)
+    by_event : (event : Event) → slice_get events place ≡ Some event → is_sound (take place events) event ≡ true → EndsAt events place
+    by_event (Left gem extent number frame) at sound = ends number (Left gem extent number frame) at (same_number number) sound
+    by_event (Dropped number) at sound = ends number (Dropped number) at (same_number number) sound
+    by_event (Lost number) at sound = ends number (Lost number) at (same_number number) sound
+    by_event (Sent message) at sound = carries (Sent message) at (λ n. refl)
+    by_event (Replied reply) at sound = carries (Replied reply) at (λ n. refl)
+    by_event (Excused reply) at sound = carries (Excused reply) at (λ n. refl)
+    by_event (Entered port extent frame) at sound = carries (Entered port extent frame) at (λ n. refl)
+    by_event (LeftOneOf gem extent among) at sound = carries (LeftOneOf gem extent among) at (λ n. refl)
+    by_event (Strayed gem extent frame) at sound = carries (Strayed gem extent frame) at (λ n. refl)
+    by_event (Waited replies) at sound = carries (Waited replies) at (λ n. refl)
+    by_event Ended at sound = carries Ended at (λ n. refl)
+    by_event Nothing at sound = carries Nothing at (λ n. refl)

@@ -1,11 +1,19 @@
 -- What of a history was judged, by its frames as they are kept.
-use Rattle.std.proofs.Common.{◌≡◌, ◌<◌, ℕ, zero, suc, Bool, true, false, ◌||◌, List, [], ◌∷◌, length, Option, Some, None, is_some, slice_get, inl, inr, refl, ap, sym, ◌∙◌, arith}
-use Rattle.std.specs.List.{list_any}
-use Rattle.std.proofs.lemmas.Bool.{true≢false}
+use Rattle.std.proofs.Common.{◌≡◌, ◌<◌, ◌≤◌, ◌+◌, ℕ, zero, suc, Bool, true, false, ◌||◌, List, [], ◌∷◌, length, Some, Decides, is_some, slice_get, inl, inr, refl, ap, sym, subst, ◌∙◌, arith}
+use Rattle.std.specs.List.{list_all, list_any}
+use Rattle.std.proofs.lemmas.Bool.{cases_lt, true≢false}
+use Rattle.std.proofs.lemmas.Option.{same_Some, slice_get_within}
+use Rattle.bench_history.specs.Among.{OneOf}
+use Rattle.bench_history.specs.History.{doubt_of}
 use Rattle.bench_history.specs.declared.event.Event.{Event}
-use Rattle.bench_judge.specs.Evidence.{HasJudged}
+use Rattle.bench_history.specs.declared.event.Event.TheVariants.{LeftOneOf}
+use Rattle.bench_history.specs.declared.extent.Extent.{Extent}
+use Rattle.bench_history.specs.declared.gem.SeenGem.{SeenGem}
+use Rattle.bench_judge.specs.Counted.{AreKnown, is_known, is_known_in}
+use Rattle.bench_judge.specs.Evidence.{HasJudged, HasJudgedDoubt, HasJudgedEnd, IsKnownDoubt}
 use Rattle.bench_judge.specs.Frames.{AreFrames, IsKeptIn, IsKeptOf}
 use Rattle.bench_judge.specs.declared.frame.Frame.{Frame}
+use Rattle.bench_judge.proofs.Counted.{known_same}
 
 -- a frame that has ended
 record HasEnded (frames : List Frame) : Type 0 where
@@ -39,13 +47,71 @@ none_ended (other ∷ frames) zero frame none at ended =
 none_ended (other ∷ frames) (suc n) frame none at ended =
     none_ended frames n frame (no_first (is_some other.ended) (list_any (λ f. is_some f.ended) frames) none).1 at ended
 
-pub judged_one : (events : List Event) (frames : List Frame) → list_any (λ f. is_some f.ended) frames ≡ true → AreFrames events frames → HasJudged events
+pub judged_one : (events : List Event) (frames : List Frame) → list_any (λ f. is_some f.ended) frames ≡ true → AreFrames events frames → HasJudgedEnd events
 judged_one events frames any are =
     let one = some_ended frames any in
     let o : IsKeptOf events one.n one.frame = are.only one.n one.frame one.at one.ended in
     (o.f, o.is)
 
-pub judged_none : (events : List Event) (frames : List Frame) → list_any (λ f. is_some f.ended) frames ≡ false → AreFrames events frames → HasJudged events → ⊥
+pub judged_none : (events : List Event) (frames : List Frame) → list_any (λ f. is_some f.ended) frames ≡ false → AreFrames events frames → HasJudgedEnd events → ⊥
 judged_none events frames none are judged =
     let o : IsKeptIn events frames judged.0 = are.each judged.0 judged.1 in
     none_ended frames judged.0.number o.frame none o.at (ap is_some o.kept.ended)
+
+-- ---- frames of which one left
+
+same_among : (gem other : SeenGem) (x y : Extent) (a b : OneOf) → LeftOneOf gem x a ≡ LeftOneOf other y b → a ≡ b
+same_among gem other x y a b is = cc is
+
+-- whether enough is known of each, as frames are kept
+pub known_doubt : (events : List Event) (frames : List Frame) (event : Event) (gem : SeenGem) (extent : Extent) (among : OneOf) (result : Bool)
+    → event ≡ LeftOneOf gem extent among → result ≡ list_all (is_known_in frames) among.numbers → AreKnown events frames
+    → Decides result (IsKnownDoubt events event)
+known_doubt events frames event gem extent among result is found known =
+    let all : list_all (is_known_in frames) among.numbers ≡ list_all (is_known events) among.numbers =
+    ap (λ (k : ℕ → Bool). list_all k among.numbers) (known_same events frames known) in (
+      λ yes. record { gem = gem; extent = extent; among = among; is = is; known = sym all ∙ sym found ∙ yes },
+      λ doubt.
+          let same : among ≡ doubt.among = same_among gem doubt.gem extent doubt.extent among doubt.among (sym is ∙ doubt.is) in
+          found ∙ all ∙ ap (λ (o : OneOf). list_all (is_known events) o.numbers) same ∙ doubt.known,
+    )
+
+-- another event says nothing of the kind
+pub no_doubt : (events : List Event) (event : Event) → doubt_of event ≡ [] → Decides false (IsKnownDoubt events event)
+no_doubt events event none = (
+  λ yes. cc yes,
+  λ doubt. absurd (cc (sym none ∙ ap doubt_of doubt.is)),
+)
+
+-- no such event stands before a place
+abbrev pub AreNoDoubts : List Event → ℕ → Type 0
+AreNoDoubts events place = (i : ℕ) (event : Event) → i < place → slice_get events i ≡ Some event → IsKnownDoubt events event → ⊥
+
+pub no_doubt_here : (events : List Event) (place : ℕ) (event : Event) → slice_get events place ≡ Some event → (IsKnownDoubt events event → ⊥)
+    → AreNoDoubts events place → AreNoDoubts events (place + 1)
+no_doubt_here events place event at not none i other less here doubt =
+    elim (cases_lt i place) [
+      | inl above ↦ none i other above here doubt
+      | inr not_above ↦
+          let same : i ≡ place = omega (arith, less, not_above) in
+          let is : other ≡ event = same_Some other event (sym here ∙ ap (slice_get events) same ∙ at) in
+          not (subst (IsKnownDoubt events) is doubt)
+    ]
+
+pub no_doubt_at_all : (events : List Event) (place : ℕ) → length events ≤ place → AreNoDoubts events place → HasJudgedDoubt events → ⊥
+no_doubt_at_all events place whole none judged =
+    let less = slice_get_within events judged.0 judged.1 judged.2 in
+    none judged.0 judged.1 (omega (arith, less, whole)) judged.2 judged.3
+
+-- ---- a frame was judged
+
+pub judged_by_end : (events : List Event) (frames : List Frame) → list_any (λ f. is_some f.ended) frames ≡ true → AreFrames events frames
+    → Decides true (HasJudged events)
+judged_by_end events frames any are = (λ yes. inl (judged_one events frames any are), λ judged. refl)
+
+pub judged_by_doubt : (events : List Event) (frames : List Frame) (result : Bool) → list_any (λ f. is_some f.ended) frames ≡ false → AreFrames events frames
+    → Decides result (HasJudgedDoubt events) → Decides result (HasJudged events)
+judged_by_doubt events frames result none are decides = (
+  λ yes. inr (decides.0 yes),
+  λ judged. elim judged [ inl end ↦ absurd (judged_none events frames none are end) | inr doubt ↦ decides.1 doubt ],
+)

@@ -1,5 +1,5 @@
 -- What is kept of the events before a place, said of the front of them.
-use Rattle.std.proofs.Common.{◌≡◌, ◌<◌, ◌≤◌, ◌+◌, ℕ, Bool, true, false, ltb, eqb, not, ◌&&◌, cond, zero, suc, List, [], ◌∷◌, length, take, Option, Some, None, is_some, inl, inr, refl, ap, sym, subst, ◌∙◌, arith}
+use Rattle.std.proofs.Common.{◌≡◌, ◌<◌, ◌≤◌, ◌+◌, ℕ, Bool, true, false, ltb, eqb, not, cond, zero, suc, List, [], ◌∷◌, length, take, Option, Some, None, is_some, inl, inr, refl, ap, sym, subst, ◌∙◌, arith}
 use Rattle.std.specs.List.{slice_get}
 use Rattle.std.proofs.lemmas.Bool.{and_parts, both_ways, cases_order, eqb-true, not-true}
 use Rattle.std.proofs.lemmas.List.{take-take}
@@ -7,9 +7,9 @@ use Rattle.std.proofs.lemmas.List.Folds.{list_any_at}
 use Rattle.std.proofs.lemmas.List.Sums.{sum_by-cons}
 use Rattle.std.proofs.lemmas.Option.{get_or_from_slice_get, slice_get_within}
 use Rattle.omci_msg.specs.declared.request.Request.{Request}
-use Rattle.bench_history.specs.History.{frames_in, has_ended, is_end_of, is_ended, is_frame, is_open, may_follow, replies_in}
+use Rattle.bench_history.specs.History.{frames_in, has_ended, is_end_of, is_frame, is_open, is_sound, replies_in}
 use Rattle.bench_history.specs.declared.event.Event.{Event}
-use Rattle.bench_history.specs.declared.event.Event.TheVariants.{Sent, Replied, Entered, Left, Strayed, Dropped, Lost, Waited, Ended, Nothing}
+use Rattle.bench_history.specs.declared.event.Event.TheVariants.{Sent, Replied, Excused, Entered, Left, LeftOneOf, Strayed, Dropped, Lost, Waited, Ended, Nothing}
 use Rattle.bench_history.specs.declared.extent.Extent.{Extent}
 use Rattle.bench_sight.specs.Sight.{is_enough}
 use Rattle.bench_judge.specs.Admitted.{AreAdmitted, IsAdmitted}
@@ -17,7 +17,7 @@ use Rattle.bench_judge.specs.Counted.{AreKnown, is_enough_of, is_known, is_known
 use Rattle.bench_judge.specs.Explained.{EndedFrame, IsEnded}
 use Rattle.bench_judge.specs.Frames.{AreFrames, AreWithin, IsKeptIn, IsKeptOf}
 use Rattle.bench_judge.specs.Asked.{accepted_of, wanted}
-use Rattle.bench_judge.specs.Walk.{AreInOrder, IsAwaited}
+use Rattle.bench_judge.specs.Walk.{AreSentBy, AreSound, IsAwaited}
 use Rattle.bench_judge.specs.Windows.{least_behind, most_behind}
 use Rattle.bench_judge.specs.Scene.{AreAdmittedUpTo, AreFramesOf, IsDue, IsEndOf, IsFrameOf}
 use Rattle.bench_judge.specs.declared.asking.Due.{Due}
@@ -60,31 +60,34 @@ one_number a b (Left gem extent number frame) is also = sym (eqb-true number a i
 one_number a b (Dropped number) is also = sym (eqb-true number a is) ∙ eqb-true number b also
 one_number a b (Sent message) is also = absurd (cc is)
 one_number a b (Replied reply) is also = absurd (cc is)
+one_number a b (Excused reply) is also = absurd (cc is)
 one_number a b (Lost number) is also = sym (eqb-true number a is) ∙ eqb-true number b also
+one_number a b (LeftOneOf gem extent among) is also = absurd (cc is)
 one_number a b (Strayed gem extent frame) is also = absurd (cc is)
 one_number a b Ended is also = absurd (cc is)
 one_number a b (Entered port extent frame) is also = absurd (cc is)
 one_number a b (Waited replies) is also = absurd (cc is)
 one_number a b Nothing is also = absurd (cc is)
 
-not_yet : (n number : ℕ) (before : List Event) → eqb number n ≡ true → not (is_ended before) && is_open number before ≡ true → has_ended n before ≡ false
-not_yet n number before ends may =
-    let open_yet = (and_parts (not (is_ended before)) (is_open number before) may).1 in
+not_yet : (n number : ℕ) (before : List Event) → eqb number n ≡ true → is_open number before ≡ true → has_ended n before ≡ false
+not_yet n number before ends open_yet =
     ap (λ (k : ℕ). has_ended k before) (sym (eqb-true number n ends))
     ∙ not-true (has_ended number before) (and_parts (ltb number (frames_in before)) (not (has_ended number before)) open_yet).1
 
 -- an event that ends a frame stands where it is open
-open_before : (n : ℕ) (before : List Event) (event : Event) → is_end_of n event ≡ true → may_follow before event ≡ true → has_ended n before ≡ false
-open_before n before (Left gem extent number bytes) ends may = not_yet n number before ends may
-open_before n before (Dropped number) ends may = not_yet n number before ends may
-open_before n before (Lost number) ends may = not_yet n number before ends may
-open_before n before (Sent message) ends may = cc ends
-open_before n before (Replied reply) ends may = cc ends
-open_before n before (Entered port extent bytes) ends may = cc ends
-open_before n before (Strayed gem extent bytes) ends may = cc ends
-open_before n before (Waited replies) ends may = cc ends
-open_before n before Ended ends may = cc ends
-open_before n before Nothing ends may = cc ends
+open_before : (n : ℕ) (before : List Event) (event : Event) → is_end_of n event ≡ true → is_sound before event ≡ true → has_ended n before ≡ false
+open_before n before (Left gem extent number bytes) ends sound = not_yet n number before ends sound
+open_before n before (Dropped number) ends sound = not_yet n number before ends sound
+open_before n before (Lost number) ends sound = not_yet n number before ends sound
+open_before n before (Sent message) ends sound = cc ends
+open_before n before (Replied reply) ends sound = cc ends
+open_before n before (Excused reply) ends sound = cc ends
+open_before n before (Entered port extent bytes) ends sound = cc ends
+open_before n before (LeftOneOf gem extent among) ends sound = cc ends
+open_before n before (Strayed gem extent bytes) ends sound = cc ends
+open_before n before (Waited replies) ends sound = cc ends
+open_before n before Ended ends sound = cc ends
+open_before n before Nothing ends sound = cc ends
 
 -- an event that ends a frame is among those of a front
 has_ended_at : (events : List Event) (n place i : ℕ) (event : Event) → slice_get events i ≡ Some event → is_end_of n event ≡ true → i < place
@@ -94,42 +97,42 @@ has_ended_at events n place i event at ends less =
     list_any_at (is_end_of n) (take place events) i event (slice_get_within (take place events) i event here)
     (ap (is_end_of n) (get_or_from_slice_get (take place events) i event event here) ∙ ends)
 
-ends_before : (events : List Event) (n i j : ℕ) (one other : Event) → AreInOrder events
+ends_before : (events : List Event) (n i j : ℕ) (one other : Event) → AreSound events
     → slice_get events i ≡ Some one → slice_get events j ≡ Some other
     → is_end_of n one ≡ true → is_end_of n other ≡ true → i < j → ⊥
-ends_before events n i j one other order at there ends again less =
-    both_ways (has_ended n (take j events)) (open_before n (take j events) other again (order j other there)) (has_ended_at events n j i one at ends less)
+ends_before events n i j one other sound at there ends again less =
+    both_ways (has_ended n (take j events)) (open_before n (take j events) other again (sound j other there)) (has_ended_at events n j i one at ends less)
 
-ends_once : (events : List Event) (n i j : ℕ) (one other : Event) → AreInOrder events
+ends_once : (events : List Event) (n i j : ℕ) (one other : Event) → AreSound events
     → slice_get events i ≡ Some one → slice_get events j ≡ Some other
     → is_end_of n one ≡ true → is_end_of n other ≡ true → i ≡ j
-ends_once events n i j one other order at there ends again =
+ends_once events n i j one other sound at there ends again =
     elim (cases_order i j) [
       | inl is ↦ is
       | inr differ ↦ elim differ [
-        | inl less ↦ absurd (ends_before events n i j one other order at there ends again less)
-        | inr less ↦ absurd (ends_before events n j i other one order there at again ends less)
+        | inl less ↦ absurd (ends_before events n i j one other sound at there ends again less)
+        | inr less ↦ absurd (ends_before events n j i other one sound there at again ends less)
       ]
     ]
 
 -- ---- the frames
 
 -- how a frame that has ended was kept at its end
-kept_end : (events : List Event) (place : ℕ) (f : EndedFrame) (frame : Frame) (e : Option ℕ) → AreInOrder events
+kept_end : (events : List Event) (place : ℕ) (f : EndedFrame) (frame : Frame) (e : Option ℕ) → AreSound events
     → f.ended < place → slice_get events f.ended ≡ Some f.seen → is_end_of f.number f.seen ≡ true → frame.is_enough ≡ true
     → IsEndOf events place f.number frame e → (e ≡ Some f.ended) × (frame.most ≡ most_behind (take f.ended events))
-kept_end events place f frame (Some end) order less at ends enough is =
-    let same : end ≡ f.ended = ends_once events f.number end f.ended is.seen f.seen order is.at at is.is_end ends in
+kept_end events place f frame (Some end) sound less at ends enough is =
+    let same : end ≡ f.ended = ends_once events f.number end f.ended is.seen f.seen sound is.at at is.is_end ends in
     (ap (λ (k : ℕ). Some k) same, is.most ∙ ap (λ (k : ℕ). most_behind (take k events)) same)
-kept_end events place f frame None order less at ends enough is =
+kept_end events place f frame None sound less at ends enough is =
     elim is.0 [
       | inl short ↦ absurd (both_ways frame.is_enough short enough)
       | inr open_yet ↦ absurd (both_ways (has_ended f.number (take place events)) open_yet (has_ended_at events f.number place f.ended f.seen at ends less))
     ]
 
-frame_of_ended : (events : List Event) (place : ℕ) (frames : List Frame) → AreInOrder events → AreFramesOf events place frames
+frame_of_ended : (events : List Event) (place : ℕ) (frames : List Frame) → AreSound events → AreFramesOf events place frames
     → (f : EndedFrame) → IsEnded (take place events) f → IsKeptIn (take place events) frames f
-frame_of_ended events place frames order are f is =
+frame_of_ended events place frames sound are f is =
     let sent = get_in_front place events f.sent (Entered f.port f.extent f.bytes) is.entered in
     let seen = get_in_front place events f.ended f.seen is.seen in
     let fronts : take f.sent (take place events) ≡ take f.sent events = take-take f.sent place events (omega (arith, sent.0)) in
@@ -143,7 +146,7 @@ frame_of_ended events place frames order are f is =
     let same : frame.sent ≡ f.sent = sent_once events frame.sent f.sent frame.port f.port kept.extent f.extent kept.bytes f.bytes kept.entered sent.1 (kept.number ∙ number) in
     let one = same_sent events frame.sent f.sent frame.port f.port kept.extent f.extent kept.bytes f.bytes same kept.entered sent.1 in
     let enough : frame.is_enough ≡ true = kept.enough ∙ ap (λ e. is_enough e kept.bytes) one.1 ∙ ap (is_enough f.extent) one.2 ∙ is.enough in
-    let end = kept_end events place f frame frame.ended order seen.0 seen.1 is.is_end enough kept.end in
+    let end = kept_end events place f frame frame.ended sound seen.0 seen.1 is.is_end enough kept.end in
     record {
       frame = frame;
       at = here.1;
@@ -183,10 +186,10 @@ ended_of_frame events place n frame (Some end) same some kept is =
     }
 ended_of_frame events place n frame None same some kept is = cc some
 
-pub whole_frames : (events : List Event) (place : ℕ) (frames : List Frame) → AreInOrder events → AreFramesOf events place frames
+pub whole_frames : (events : List Event) (place : ℕ) (frames : List Frame) → AreSound events → AreFramesOf events place frames
     → AreFrames (take place events) frames
-whole_frames events place frames order are = record {
-  each = frame_of_ended events place frames order are;
+whole_frames events place frames sound are = record {
+  each = frame_of_ended events place frames sound are;
   only = λ n frame at some.
       let kept : IsFrameOf events place n frame = are.each n frame at in
       ended_of_frame events place n frame frame.ended refl some kept kept.end;
@@ -215,7 +218,9 @@ known_past (Entered port extent bytes ∷ rest) (suc n) past =
     known_past rest n (let one = sum_by-cons (λ y. cond (is_frame y) 1 0) (Entered port extent bytes) rest in omega (arith, past, one))
 known_past (Sent message ∷ rest) n past = known_past rest n past
 known_past (Replied reply ∷ rest) n past = known_past rest n past
+known_past (Excused reply ∷ rest) n past = known_past rest n past
 known_past (Left gem extent number bytes ∷ rest) n past = known_past rest n past
+known_past (LeftOneOf gem extent among ∷ rest) n past = known_past rest n past
 known_past (Strayed gem extent bytes ∷ rest) n past = known_past rest n past
 known_past (Dropped number ∷ rest) n past = known_past rest n past
 known_past (Lost number ∷ rest) n past = known_past rest n past
@@ -237,8 +242,12 @@ known_at (Sent message ∷ rest) zero port extent bytes at = cc at
 known_at (Sent message ∷ rest) (suc i) port extent bytes at = known_at rest i port extent bytes at
 known_at (Replied reply ∷ rest) zero port extent bytes at = cc at
 known_at (Replied reply ∷ rest) (suc i) port extent bytes at = known_at rest i port extent bytes at
+known_at (Excused reply ∷ rest) zero port extent bytes at = cc at
+known_at (Excused reply ∷ rest) (suc i) port extent bytes at = known_at rest i port extent bytes at
 known_at (Left gem x number b ∷ rest) zero port extent bytes at = cc at
 known_at (Left gem x number b ∷ rest) (suc i) port extent bytes at = known_at rest i port extent bytes at
+known_at (LeftOneOf gem x among ∷ rest) zero port extent bytes at = cc at
+known_at (LeftOneOf gem x among ∷ rest) (suc i) port extent bytes at = known_at rest i port extent bytes at
 known_at (Strayed gem x b ∷ rest) zero port extent bytes at = cc at
 known_at (Strayed gem x b ∷ rest) (suc i) port extent bytes at = known_at rest i port extent bytes at
 known_at (Dropped number ∷ rest) zero port extent bytes at = cc at
@@ -268,6 +277,18 @@ whole_known events place frames are n = by (slice_get frames n) refl
         ap is_enough_of at ∙ kept.enough ∙ sym (known_at (take place events) frame.sent frame.port kept.extent kept.bytes here) ∙ ap (is_known (take place events)) number
     by None none = ap is_enough_of none ∙ sym (known_past (take place events) n (omega (arith, past frames n none, are.count)))
 
+pub whole_sent : (events : List Event) (place : ℕ) (frames : List Frame) → AreFramesOf events place frames → AreSentBy (take place events) frames
+whole_sent events place frames are n frame at =
+    let kept : IsFrameOf events place n frame = are.each n frame at in
+    let fronts : take frame.sent (take place events) ≡ take frame.sent events = take-take frame.sent place events (omega (arith, kept.within)) in
+    record {
+      extent = kept.extent;
+      bytes = kept.bytes;
+      entered = front_get place events frame.sent kept.within ∙ kept.entered;
+      number = sym kept.number ∙ ap (λ (xs : List Event). frames_in xs) (sym fronts);
+      least = kept.least ∙ ap (λ (xs : List Event). least_behind xs) (sym fronts);
+    }
+
 -- ---- what is admitted
 
 pub whole_admitted : (settings : JudgeSettings) (events : List Event) (place : ℕ) → AreAdmittedUpTo settings events place → AreAdmitted settings (take place events)
@@ -277,12 +298,12 @@ whole_admitted settings events place admitted i event at =
 
 -- the request that the next reply answers
 pub whole_awaited : (modelled : Bool) (events : List Event) (place : ℕ) (due : Due) (awaited : Awaited)
-    → IsDue modelled events place (replies_in (take place events)) due → awaited.sent ≡ due.sent → awaited.reply ≡ due.reply
+    → IsDue modelled events place (replies_in (take place events)) due → awaited.sent ≡ due.sent → awaited.reply ≡ due.expected.reply
     → IsAwaited (take place events) awaited
 whole_awaited modelled events place due awaited is sent reply = record {
   answers = is.answers;
   next = is.at;
-  reply = reply ∙ is.reply;
+  reply = reply ∙ is.expected.reply;
   message = is.message;
   sent = ap (slice_get (take place events)) sent ∙ front_get place events due.sent is.within ∙ is.sent;
   request = is.request;

@@ -1,20 +1,36 @@
 -- What is known of the first event that isn't admitted.
-use Rattle.std.proofs.Common.{◌≡◌, ℕ, ◌+◌, ◌<◌, List, length, take, get_or, Some, None, slice_get, refl, ap, sym, subst, ◌∙◌, arith, take-take, le_of_lt}
+use Rattle.std.proofs.Common.{◌≡◌, ℕ, ◌+◌, ◌<◌, Bool, true, not, nat_lt, List, [], ◌∷◌, length, map, take, get_or, Some, None, slice_get, inl, inr, refl, ap, sym, subst, ◌∙◌, arith, take-take, le_of_lt}
+use Rattle.std.specs.Prelude.{Contains}
+use Rattle.std.specs.List.{list_all}
+use Rattle.std.proofs.lemmas.Bool.{and_parts, ltb-true}
+use Rattle.bench_history.specs.Among.{OneOf}
 use Rattle.bench_history.specs.declared.event.Event.{Event}
-use Rattle.bench_history.specs.declared.event.Event.TheVariants.{Replied, Sent}
+use Rattle.bench_history.specs.declared.event.Event.TheVariants.{Sent, Replied, Excused, Entered, Left, LeftOneOf, Strayed, Dropped, Lost, Waited, Ended, Nothing}
+use Rattle.bench_history.specs.declared.extent.Extent.{Extent}
+use Rattle.bench_history.specs.declared.gem.SeenGem.{SeenGem}
 use Rattle.bench_judge.specs.Admitted.{IsAdmitted}
 use Rattle.bench_judge.specs.Asked.{wanted}
-use Rattle.bench_history.specs.History.{replies_in}
-use Rattle.bench_judge.specs.Judged.{IsWrongReply}
-use Rattle.bench_judge.specs.Walk.{IsAwaited, IsNext, IsWalk}
+use Rattle.bench_history.specs.History.{frames_in, has_ended, is_open, replies_in}
+use Rattle.bench_judge.specs.Judged.{IsCandidate, IsWrongOneOf, IsWrongReply}
+use Rattle.bench_judge.specs.Walk.{AreSound, IsAwaited, IsNext, IsWalk}
+use Rattle.bench_judge.specs.declared.judgement.Candidate.{Candidate}
+use Rattle.bench_judge.specs.declared.judgement.WrongOneOf.{WrongOneOf}
 use Rattle.bench_judge.specs.declared.judgement.WrongReply.{WrongReply}
 use Rattle.bench_judge.specs.declared.settings.JudgeSettings.{JudgeSettings}
 use Rattle.bench_judge.specs.declared.walk.Awaited.{Awaited}
 use Rattle.bench_judge.specs.declared.walk.Walk.{Walk}
 use Rattle.bench_judge.proofs.Lists.{in_front, read_is}
+use Rattle.bench_judge.proofs.Numbered.{first_or_rest}
 
 some_is : {A : Type 0} (x y : A) → Some x ≡ Some y → x ≡ y
 some_is x y is = cc is
+
+-- what holds of all numbers holds of each
+all_at : (p : ℕ → Bool) (xs : List ℕ) → list_all p xs ≡ true → (n : ℕ) → Contains xs n → p n ≡ true
+all_at p [] all n has = absurd (omega (arith, has.1))
+all_at p (x ∷ xs) all n has =
+    let both = and_parts (p x) (list_all p xs) all in
+    elim (first_or_rest x xs n has) [ inl first ↦ ap p first ∙ both.0 | inr rest ↦ all_at p xs both.1 n rest ]
 
 module _ (settings : JudgeSettings) (events : List Event) (walk : Walk) (known : IsWalk settings events walk) (within : walk.walked < length events) where
   -- the event behind what was walked
@@ -58,3 +74,44 @@ module _ (settings : JudgeSettings) (events : List Event) (walk : Walk) (known :
 
   pub none_awaited : walk.awaited ≡ None → slice_get (wanted (take walk.walked events)) (replies_in (take walk.walked events)) ≡ None
   none_awaited is = subst (IsNext (take walk.walked events)) is known.awaited
+
+  -- ---- one of several frames
+
+  -- each that is named was sent
+  pub named_within : (gem : SeenGem) (extent : Extent) (among : OneOf) → AreSound events → slice_get events walk.walked ≡ Some (LeftOneOf gem extent among)
+      → (n : ℕ) → Contains among.numbers n → n < length walk.frames.items
+  named_within gem extent among sound at n has =
+      let front : List Event = take walk.walked events in
+      let open_yet : is_open n front ≡ true = all_at (λ m. is_open m front) among.numbers (sound walk.walked (LeftOneOf gem extent among) at) n has in
+      let sent = ltb-true n (frames_in front) (and_parts (nat_lt n (frames_in front)) (not (has_ended n front)) open_yet).0 in
+      omega (arith, sent, known.count)
+
+  pub one_of_is : (w : WrongOneOf) (among : OneOf) → slice_get events walk.walked ≡ Some (LeftOneOf w.gem w.extent among) → w.frame ≡ among.frame
+      → (numbers : List ℕ) → numbers ≡ among.numbers → map (λ (c : Candidate). c.number) w.candidates.items ≡ numbers
+      → ((k : ℕ) (c : Candidate) → slice_get w.candidates.items k ≡ Some c → IsCandidate (take walk.walked events) c)
+      → IsWrongOneOf settings.padded events walk.walked w
+  one_of_is w among at frame numbers same all each = record {
+    among = among;
+    seen = at;
+    frame = frame;
+    none = λ one. refused_is (LeftOneOf w.gem w.extent among) at one;
+    numbers = all ∙ same;
+    each = each;
+  }
+
+  -- every other event is admitted
+  pub no_other : (event : Event) → slice_get events walk.walked ≡ Some event → ((bytes : List ℕ) → event ≡ Replied bytes → ⊥)
+      → ((gem : SeenGem) (extent : Extent) (among : OneOf) → event ≡ LeftOneOf gem extent among → ⊥)
+      → ((gem : SeenGem) (extent : Extent) (bytes : List ℕ) → event ≡ Strayed gem extent bytes → ⊥) → ⊥
+  no_other (Replied bytes) at replied one stray = replied bytes refl
+  no_other (LeftOneOf gem extent among) at replied one stray = one gem extent among refl
+  no_other (Strayed gem extent bytes) at replied one stray = stray gem extent bytes refl
+  no_other (Sent message) at replied one stray = refused_is (Sent message) at tt
+  no_other (Excused bytes) at replied one stray = refused_is (Excused bytes) at tt
+  no_other (Entered port extent bytes) at replied one stray = refused_is (Entered port extent bytes) at tt
+  no_other (Left gem extent number bytes) at replied one stray = refused_is (Left gem extent number bytes) at tt
+  no_other (Dropped number) at replied one stray = refused_is (Dropped number) at tt
+  no_other (Lost number) at replied one stray = refused_is (Lost number) at tt
+  no_other (Waited replies) at replied one stray = refused_is (Waited replies) at tt
+  no_other Ended at replied one stray = refused_is Ended at tt
+  no_other Nothing at replied one stray = refused_is Nothing at tt

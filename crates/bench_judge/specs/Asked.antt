@@ -3,13 +3,13 @@ use Rattle.std.specs.Prelude.{ℕ, List, [], ◌∷◌, Option, None, if◌then�
 use Rattle.std.specs.List.{filter_map}
 use Rattle.std.specs.Result.{result_ok}
 use Rattle.omci_msg.specs.declared.request.Request.{Request}
-use Rattle.omci_msg.specs.declared.reply.Reply.{Reply}
 use Rattle.omci_msg.specs.Message.{request_of}
 use Rattle.mib_state.specs.Entities.{Entities}
 use Rattle.mib_state.specs.After.{accepted, after}
 use Rattle.mib_upload.specs.Upload.{DeskState, answered, start}
 use Rattle.bench_history.specs.declared.event.Event.{Event}
 use Rattle.bench_history.specs.declared.event.Event.TheVariants.{Sent}
+use Rattle.bench_reply.specs.Replies.{Wanted}
 
 -- the request of a message that was sent; one with a fault asks nothing
 abbrev pub request_in : Event → Option Request
@@ -19,11 +19,6 @@ request_in _ = None
 -- the requests that were sent, in order
 abbrev pub asked : List Event → List Request
 asked events = filter_map request_in events
-
--- a request that wants an answer, and the model's reply
-pub record Wanted : Type 0 where
-  pub request : Request
-  pub reply : Reply
 
 -- of requests from a state on those that want an answer, each with the model's reply
 abbrev pub wanted_from : DeskState → List Request → List Wanted

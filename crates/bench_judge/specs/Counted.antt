@@ -1,10 +1,10 @@
 -- How much events have of what.
-use Rattle.std.specs.Prelude.{◌≡◌, ℕ, zero, suc, ◌+◌, ◌-◌, Bool, true, false, List, [], ◌∷◌, Option, Some, None, count_by, length, slice_get}
-use Rattle.bench_history.specs.History.{frames_in, replies_in}
+use Rattle.std.specs.Prelude.{◌≡◌, ◌<◌, ℕ, zero, suc, ◌+◌, ◌-◌, Bool, true, false, List, [], ◌∷◌, Option, Some, None, count_by, length, slice_get, slice_index_or, slice_set}
+use Rattle.std.specs.List.{range_with_len}
+use Rattle.bench_history.specs.History.{frames_in, is_doubtful, replies_in}
 use Rattle.bench_history.specs.declared.event.Event.{Event}
 use Rattle.bench_history.specs.declared.event.Event.TheVariants.{Sent, Entered, Left, Strayed, Dropped, Lost}
-use Rattle.bench_history.specs.declared.extent.Extent.{Extent}
-use Rattle.bench_history.specs.declared.extent.Extent.TheVariants.{Whole, Front}
+use Rattle.bench_history.specs.declared.extent.Extent.TheVariants.{Front}
 use Rattle.bench_sight.specs.Sight.{is_enough}
 use Rattle.bench_judge.specs.Asked.{accepted_of}
 use Rattle.bench_judge.specs.declared.frame.Frame.{Frame}
@@ -43,6 +43,10 @@ abbrev pub is_lost : (ℕ → Bool) → Event → Bool
 is_lost known (Lost number) = known number
 is_lost known _ = false
 
+-- how many frames are doubtful
+abbrev pub doubtful_in : List Event → ℕ
+doubtful_in events = count_by (λ n. is_doubtful n events) (range_with_len 0 (frames_in events))
+
 -- how much events have of what; all other frames are open, those too of which too little is known
 pub record AreCounts (events : List Event) (counts : Counts) : Type 0 where
   pub messages : counts.messages ≡ count_by is_message events
@@ -52,6 +56,7 @@ pub record AreCounts (events : List Event) (counts : Counts) : Type 0 where
   pub dropped : counts.dropped ≡ count_by (is_dropped (is_known events)) events
   pub lost : counts.lost ≡ count_by (is_lost (is_known events)) events
   pub others : counts.«open» ≡ frames_in events - (counts.forwarded + counts.dropped + counts.lost)
+  pub doubtful : counts.doubtful ≡ doubtful_in events
   pub strays : counts.strays ≡ count_by is_stray events
   pub cut : counts.cut ≡ count_by is_cut events
 
@@ -63,6 +68,16 @@ is_enough_of None = false
 
 abbrev pub is_known_in : List Frame → ℕ → Bool
 is_known_in frames n = is_enough_of (slice_get frames n)
+
+-- there is a mark for each of so many frames, by their numbers: whether it is doubtful
+pub record AreMarks (events : List Event) (frames : ℕ) (marks : List Bool) : Type 0 where
+  pub count : length marks ≡ frames
+  pub each : (n : ℕ) → n < frames → slice_index_or marks n false ≡ is_doubtful n events
+
+-- marks, of which those of some numbers are set
+abbrev pub marked : List ℕ → List Bool → List Bool
+marked [] marks = marks
+marked (n ∷ rest) marks = marked rest (slice_set marks n true)
 
 -- frames say of each number what events say
 abbrev pub AreKnown : List Event → List Frame → Type 0

@@ -1,15 +1,37 @@
 -- What of a history was judged.
-use Rattle.std.specs.Prelude.{◌≡◌, ◌<◌, ◌⊎◌, ℕ, Bool, true, false, ◌&&◌, ◌||◌, List}
+use Rattle.std.specs.Prelude.{◌≡◌, ◌<◌, ◌⊎◌, ℕ, Bool, true, false, ◌&&◌, ◌||◌, List, Some, slice_get}
+use Rattle.std.specs.List.{list_all}
 use Rattle.bench_history.specs.History.{frames_in, replies_in}
+use Rattle.bench_history.specs.Among.{OneOf}
 use Rattle.bench_history.specs.declared.event.Event.{Event}
+use Rattle.bench_history.specs.declared.event.Event.TheVariants.{LeftOneOf}
+use Rattle.bench_history.specs.declared.extent.Extent.{Extent}
+use Rattle.bench_history.specs.declared.gem.SeenGem.{SeenGem}
+use Rattle.bench_judge.specs.Counted.{is_known}
 use Rattle.bench_judge.specs.Explained.{EndedFrame, IsEnded}
 use Rattle.bench_judge.specs.declared.judgement.Evidence.{Evidence}
 use Rattle.bench_judge.specs.declared.judgement.Evidence.TheVariants.{Judged, NoFrame, Nothing}
 use Rattle.bench_judge.specs.declared.judgement.Explanation.{Explanation}
 
--- a frame was judged
+-- a frame that has ended was judged
+abbrev pub HasJudgedEnd : List Event → Type 0
+HasJudgedEnd events = (f : EndedFrame) × IsEnded events f
+
+-- an event says of several frames that one left, and enough is known of each
+pub record IsKnownDoubt (events : List Event) (event : Event) : Type 0 where
+  pub gem : SeenGem
+  pub extent : Extent
+  pub among : OneOf
+  pub is : event ≡ LeftOneOf gem extent among
+  pub known : list_all (is_known events) among.numbers ≡ true
+
+-- such an event was judged
+abbrev pub HasJudgedDoubt : List Event → Type 0
+HasJudgedDoubt events = (i : ℕ) × (event : Event) × (slice_get events i ≡ Some event) × IsKnownDoubt events event
+
+-- frames were judged
 abbrev pub HasJudged : List Event → Type 0
-HasJudged events = (f : EndedFrame) × IsEnded events f
+HasJudged events = HasJudgedEnd events ⊎ HasJudgedDoubt events
 
 -- what of explained events was judged: a frame; or, where none was sent, a reply
 abbrev pub IsEvidence : List Event → Evidence → Type 0

@@ -1,17 +1,19 @@
 -- What a judgement says of a history.
-use Rattle.std.specs.Prelude.{◌≡◌, ◌<◌, ◌≤◌, ◌+◌, ◌-◌, ℕ, Bool, true, false, List, [], ◌∷◌, Some, None, Ok, Err, drop, length, max, min, slice_get, take}
+use Rattle.std.specs.Prelude.{◌≡◌, ◌<◌, ◌≤◌, ◌+◌, ◌-◌, ℕ, Bool, true, false, List, [], ◌∷◌, Some, None, Ok, Err, drop, length, map, max, min, slice_get, take}
 use Rattle.tag_view.specs.Frame.{frame_bytes, spelled}
 use Rattle.omci_msg.specs.Message.{request_of}
 use Rattle.frame_meaning.specs.Meaning.{meaning}
 use Rattle.frame_meaning.specs.declared.verdict.Verdict.{Verdict}
 use Rattle.frame_meaning.specs.declared.verdict.Verdict.TheVariants.{Forward, Drop}
 use Rattle.bench_history.specs.History.{history_of, is_ended, replies_in}
+use Rattle.bench_history.specs.Among.{OneOf}
 use Rattle.bench_history.specs.declared.event.Event.{Event}
 use Rattle.bench_history.specs.declared.event.Event.TheVariants as event
-use Rattle.bench_judge.specs.Asked.{Wanted, version, wanted}
+use Rattle.bench_reply.specs.Replies.{IsReplyTo, Wanted}
+use Rattle.bench_judge.specs.Asked.{version, wanted}
 use Rattle.bench_judge.specs.Counted.{AreCounts}
+use Rattle.bench_judge.specs.Doubt.{IsOneOf, IsSent}
 use Rattle.bench_judge.specs.Evidence.{IsEvidence}
-use Rattle.bench_judge.specs.Replies.{IsReplyTo}
 use Rattle.bench_judge.specs.Windows.{least_behind, most_behind}
 use Rattle.bench_judge.specs.Explained.{EndedFrame, IsChoice, IsEnded, IsExplained, IsLeastChoice}
 use Rattle.bench_judge.specs.declared.fault.JudgeFault.{JudgeFault}
@@ -26,6 +28,8 @@ use Rattle.bench_judge.specs.declared.judgement.Wrong.{Wrong}
 use Rattle.bench_judge.specs.declared.judgement.Wrong.TheVariants as wrong
 use Rattle.bench_judge.specs.declared.judgement.WrongReply.{WrongReply}
 use Rattle.bench_judge.specs.declared.judgement.WrongFrame.{WrongFrame}
+use Rattle.bench_judge.specs.declared.judgement.WrongOneOf.{WrongOneOf}
+use Rattle.bench_judge.specs.declared.judgement.Candidate.{Candidate}
 use Rattle.bench_judge.specs.declared.judgement.End.{End}
 use Rattle.bench_judge.specs.declared.judgement.End.TheVariants as end
 use Rattle.bench_judge.specs.declared.judgement.Run.{Run}
@@ -209,6 +213,26 @@ pub record IsWrongFrame (settings : JudgeSettings) (events : List Event) (place 
   pub at_most : IsAtMost settings.padded settings.unordered (take place events) f (most_behind (take place events)) w.at_most
   pub runs : AreRuns (λ v. meaning (version events v) f.port f.bytes) f.bytes w.at_least w.at_most w.runs.items
 
+-- what is said of a frame that one that left behind these events may be: the versions of its window, and their answers
+pub record IsCandidate (events : List Event) (c : Candidate) : Type 0 where
+  pub is : IsSent events c.number
+  pub port : c.port ≡ is.port
+  pub line : c.sent_line ≡ is.place + 1
+  pub extent : c.extent ≡ is.extent
+  pub sent : c.sent ≡ is.bytes
+  pub at_least : c.at_least ≡ least_behind (take is.place events)
+  pub at_most : c.at_most ≡ most_behind events
+  pub runs : AreRuns (λ v. meaning (version events v) is.port is.bytes) is.bytes c.at_least c.at_most c.runs.items
+
+-- what is said of a frame that left as none of those that it may be does: each of these
+pub record IsWrongOneOf (padded : Bool) (events : List Event) (place : ℕ) (w : WrongOneOf) : Type 0 where
+  pub among : OneOf
+  pub seen : slice_get events place ≡ Some (event.LeftOneOf w.gem w.extent among)
+  pub frame : w.frame ≡ among.frame
+  pub none : ¬ (IsOneOf padded (take place events) w.gem w.extent among)
+  pub numbers : map (λ c. c.number) w.candidates.items ≡ among.numbers
+  pub each : (k : ℕ) (c : Candidate) → slice_get w.candidates.items k ≡ Some c → IsCandidate (take place events) c
+
 -- what is wrong at a place
 abbrev pub IsWrongAt : JudgeSettings → List Event → ℕ → Wrong → Type 0
 IsWrongAt settings events place (wrong.Unasked reply) =
@@ -217,6 +241,7 @@ IsWrongAt settings events place (wrong.Reply r) = IsWrongReply settings.modelled
 IsWrongAt settings events place (wrong.Frame w) = IsWrongFrame settings events place w
 IsWrongAt settings events place (wrong.Stray gem extent frame) =
     (slice_get events place ≡ Some (event.Strayed gem extent frame)) × (settings.strays ≡ false)
+IsWrongAt settings events place (wrong.OneOf w) = IsWrongOneOf settings.padded events place w
 
 -- what is said of events that aren't explained: the line of the first that isn't, with those before it, and what is wrong there
 pub record IsDeviation (settings : JudgeSettings) (events : List Event) (d : Deviation) : Type 0 where

@@ -1,6 +1,7 @@
 pub mod Alone
 pub mod Asked
 pub mod Replies
+pub mod Doubt
 pub mod Admitted
 pub mod Windows
 pub mod Explained

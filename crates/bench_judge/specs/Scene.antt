@@ -9,9 +9,10 @@ use Rattle.bench_history.specs.declared.event.Event.{Event}
 use Rattle.bench_history.specs.declared.event.Event.TheVariants.{Sent, Entered}
 use Rattle.bench_history.specs.declared.extent.Extent.{Extent}
 use Rattle.bench_sight.specs.Sight.{is_enough}
-use Rattle.bench_judge.specs.Asked.{Wanted, accepted_of, asked, wanted}
+use Rattle.bench_reply.specs.Replies.{Wanted}
+use Rattle.bench_reply.specs.Kept.{IsExpected}
+use Rattle.bench_judge.specs.Asked.{accepted_of, asked, wanted}
 use Rattle.bench_judge.specs.Admitted.{IsAdmitted}
-use Rattle.bench_judge.specs.Replies.{is_judged}
 use Rattle.bench_judge.specs.Windows.{least_behind, most_behind, up_to, waited}
 use Rattle.bench_judge.specs.declared.asking.Asking.{Asking}
 use Rattle.bench_judge.specs.declared.asking.Due.{Due}
@@ -30,8 +31,7 @@ desk_from s (q ∷ rest) = desk_from (answered s q).1 rest
 pub record IsDue (modelled : Bool) (events : List Event) (place k : ℕ) (due : Due) : Type 0 where
   pub answers : Wanted
   pub at : slice_get (wanted (take place events)) k ≡ Some answers
-  pub reply : due.reply ≡ answers.reply
-  pub judged : due.is_judged ≡ is_judged modelled answers.request
+  pub expected : IsExpected modelled answers due.expected
   pub message : List ℕ
   pub sent : slice_get events due.sent ≡ Some (Sent message)
   pub request : request_of message ≡ Ok answers.request
@@ -96,7 +96,6 @@ pub record IsScene (events : List Event) (place : ℕ) (scene : Scene) : Type 0 
   pub asking : IsAsking scene.settings.modelled events place scene.asking
   pub frames : AreFramesOf events place scene.frames.items
   pub replies : scene.replies ≡ replies_in (take place events)
-  pub answered : scene.replies ≤ length scene.asking.due.items
   pub few : scene.replies ≤ place
   pub waited : scene.waited ≡ waited (take place events)
   pub seen : scene.waited ≤ scene.replies

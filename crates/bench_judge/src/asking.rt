@@ -1,7 +1,6 @@
 //! What a unit was asked.
-use crate::message::read_asked;
-use crate::replying::is_judged;
 use bench_history::Digits;
+use bench_reply::{Expected, read_asked};
 use mib_upload::Desk;
 use omci_msg::{Reply, Request};
 use std::alloc::{AllocError, Global};
@@ -11,10 +10,8 @@ use std::alloc::{AllocError, Global};
 pub(crate) struct Due {
     /// The place of the event that sent it.
     pub(crate) sent: usize,
-    /// Whether the contents of its reply are looked at.
-    pub(crate) is_judged: bool,
-    /// What the model replies.
-    pub(crate) reply: Reply,
+    /// The reply that it is to get.
+    pub(crate) expected: Expected,
     /// How many requests were accepted up to and with it.
     pub(crate) accepted: usize,
 }
@@ -84,8 +81,7 @@ impl Asking {
         if request.wants_answer {
             self.due.push(Due {
                 sent: place,
-                is_judged: is_judged(modelled, &request),
-                reply,
+                expected: Expected::of(modelled, &request, reply),
                 accepted: self.requests.len(),
             })?;
         }

@@ -1,14 +1,17 @@
 //! How much a history has of what.
-ghost use Rattle.std.specs.Prelude.{◌≡◌, length};
+ghost use Rattle.std.specs.Prelude.{◌≡◌, ◌++◌, ◌∷◌, [], IfOk, List, count_by, length, slice_set, true};
+ghost use Rattle.bench_history.specs.History.{frames_in};
+ghost use Rattle.bench_history.specs.declared.event.Event.{Event as TheEvent};
 ghost use Rattle.bench_judge.specs.Asked.{accepted_of};
-ghost use Rattle.bench_judge.specs.Counted.{AreCounts, AreKnown, is_known_in};
+ghost use Rattle.bench_judge.specs.Counted.{AreCounts, AreKnown, AreMarks, doubtful_in, is_known_in, marked};
 
 use crate::frame::Frame;
 use crate::judgement::Counts;
-use bench_history::{Event, Extent};
+use bench_history::{Among, Event, Extent};
+use std::alloc::{AllocError, Global};
 
 /// Whether enough is known of the frame of a number.
-fn is_known_in(frames: &[Frame], number: u32) -> bool
+pub(crate) fn is_known_in(frames: &[Frame], number: u32) -> bool
     ensures { result ≡ is_known_in frames.now number }
 {
     match frames.get(number as usize) {
@@ -47,10 +50,11 @@ impl Counts {
             ≡ self.old.strays + (if is_stray event.now then 1 else 0) }
         ensures cut { self.new.cut ≡ self.old.cut + (if is_cut event.now then 1 else 0) }
         ensures accepted { self.new.accepted ≡ self.old.accepted }
+        ensures doubtful { self.new.doubtful ≡ self.old.doubtful }
     {
         match event {
             Event::Sent { .. } => self.messages += 1,
-            Event::Replied { .. } => self.replies += 1,
+            Event::Replied { .. } | Event::Excused { .. } => self.replies += 1,
             Event::Entered { extent, .. } => {
                 self.open += 1;
                 if *extent == Extent::Front {
@@ -66,10 +70,74 @@ impl Counts {
     }
 }
 
-/// How much events have of what, whose frames are these, and of which so many requests are accepted.
-pub(crate) fn counts(events: &[Event<'_>], frames: &[Frame], accepted: usize) -> Counts
+/// Sets the mark of the frame of a number, if there is one.
+fn set_mark(marks: &mut Vec<bool>, number: u32)
+    ensures { marks.new.items ≡ slice_set marks.old.items number true }
+{
+    if let Some(mark) = marks.get_mut(number as usize) {
+        *mark = true;
+    }
+}
+
+/// Marks frames of which one left.
+fn mark(marks: &mut Vec<bool>, among: &Among<'_>)
+    ensures { marks.new.items ≡ marked among.now.numbers marks.old.items }
+{
+    let mut numbers = among.numbers();
+    'each_number: while let Some(number) = numbers.take_least() {
+        set_mark(marks, number);
+    }
+}
+
+/// Marks the frames of which the next event says that one left.
+fn mark_next(marks: &mut Vec<bool>, event: &Event<'_>, frames: usize)
+    ensures { (before : List TheEvent) → AreMarks before frames marks.old.items
+        → AreMarks (before ++ event.now ∷ []) frames marks.new.items }
+{
+    if let Event::LeftOneOf { among, .. } = event {
+        mark(marks, among);
+    }
+}
+
+/// How many of marks are set.
+fn count_set(marks: &[bool]) -> usize
+    ensures { result ≡ count_by (λ mark. mark) marks.now }
+{
+    let mut count = 0;
+    for mark in marks {
+        if *mark {
+            count += 1;
+        }
+    }
+    count
+}
+
+/// How many of so many frames are doubtful.
+pub(crate) fn doubtful(
+    alloc: Global,
+    events: &[Event<'_>],
+    frames: usize,
+) -> Result<usize, AllocError>
+    requires { frames ≡ frames_in events.now }
+    ensures { IfOk result (λ count. count ≡ doubtful_in events.now) }
+{
+    let mut marks = vec![in alloc; false; frames]?;
+    for event in events {
+        mark_next(&mut marks, event, frames);
+    }
+    Ok(count_set(&marks))
+}
+
+/// How much events have of what, whose frames are these, and of which so many requests are accepted and so many frames doubtful.
+pub(crate) fn counts(
+    events: &[Event<'_>],
+    frames: &[Frame],
+    accepted: usize,
+    doubtful: usize,
+) -> Counts
     requires known { AreKnown events.now frames.now }
     requires accepted { accepted ≡ length (accepted_of events.now) }
+    requires doubtful { doubtful ≡ doubtful_in events.now }
     ensures { AreCounts events.now result }
 {
     let mut counts = Counts {
@@ -81,6 +149,7 @@ pub(crate) fn counts(events: &[Event<'_>], frames: &[Frame], accepted: usize) ->
         lost: 0,
         open: 0,
         strays: 0,
+        doubtful,
         cut: 0,
     };
     for event in events {

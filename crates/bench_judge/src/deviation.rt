@@ -1,21 +1,22 @@
 //! What is said of the first line that isn't explained.
-ghost use Rattle.std.specs.Prelude.{◌≡◌, ◌<◌, ℕ, List, Some, true, IfOk, length, slice_get};
+ghost use Rattle.std.specs.Prelude.{◌≡◌, ◌<◌, ℕ, Contains, List, Some, true, IfOk, length, map, slice_get, take};
 ghost use Rattle.bench_history.specs.History.{is_end_of};
 ghost use Rattle.bench_history.specs.declared.event.Event.TheVariants.{Entered, Replied};
-ghost use Rattle.bench_judge.specs.Cut.{IsTurn};
+ghost use Rattle.bench_judge.specs.Cut.{IsSomeWalk, IsTurn};
 ghost use Rattle.bench_history.specs.declared.extent.Extent.{Extent as TheExtent};
-ghost use Rattle.bench_judge.specs.Judged.{IsEndAs, IsWrongAt, IsWrongFrame};
-ghost use Rattle.bench_judge.specs.Walk.{AreInOrder, IsWalk};
+ghost use Rattle.bench_judge.specs.Judged.{IsCandidate, IsEndAs, IsWrongAt, IsWrongFrame};
+ghost use Rattle.bench_judge.specs.declared.judgement.Candidate.{Candidate as TheCandidate};
+ghost use Rattle.bench_judge.specs.Walk.{AreSound, IsWalk};
 
 use crate::bounds::{at_least, at_most};
 use crate::cut::frames_until;
 use crate::fitting::versions_of;
 use crate::frame::Case;
-use crate::judgement::{End, Wrong, WrongFrame, WrongReply};
+use crate::judgement::{Candidate, End, Wrong, WrongFrame, WrongOneOf, WrongReply};
 use crate::runs::runs;
 use crate::settings::JudgeSettings;
 use crate::walk::Walk;
-use bench_history::{Digits, Event, Extent};
+use bench_history::{Among, Digits, Event, Extent};
 use script_lines::MOST_SPELLED;
 use std::alloc::{AllocError, Global};
 
@@ -74,7 +75,7 @@ pub(crate) fn wrong_frame<'a>(
     settings: &JudgeSettings,
     place: usize,
 ) -> Result<WrongFrame<'a>, AllocError>
-    requires order { AreInOrder events.now }
+    requires sound { AreSound events.now }
     requires walked { IsWalk settings.now events.now walk.now }
     requires within { place < walk.now.walked }
     requires turn { IsTurn settings.now.padded settings.now.unordered events.now place }
@@ -134,23 +135,89 @@ fn wrong_reply<'a>(
     }
 }
 
+/// What is said of the frame of a number, which one that left behind the events that were walked may be.
+fn candidate<'a>(
+    alloc: Global,
+    events: &[Event<'a>],
+    walk: &Walk,
+    number: usize,
+) -> Result<Candidate<'a>, AllocError>
+    requires walked { IsSomeWalk events.now walk.now }
+    requires known { number < length walk.now.frames.items }
+    ensures number { IfOk result (λ c. c.number ≡ number) }
+    ensures is { IfOk result (IsCandidate (take walk.now.walked events.now)) }
+{
+    let frame = walk.frames[number];
+    let (extent, sent) = sent_by(&events[frame.sent]);
+    let mut buffer = [0; MOST_SPELLED];
+    let bytes = sent.read(&mut buffer);
+    let at_most = walk.requests.len();
+    let runs = runs(
+        alloc,
+        &walk.requests,
+        frame.port,
+        bytes,
+        frame.least,
+        at_most,
+    )?;
+    Ok(Candidate {
+        number,
+        port: frame.port,
+        sent_line: frame.sent + 1,
+        extent,
+        sent,
+        at_least: frame.least,
+        at_most,
+        runs,
+    })
+}
+
+/// What is said of the frames of which one left.
+fn candidates<'a>(
+    alloc: Global,
+    events: &[Event<'a>],
+    walk: &Walk,
+    among: &Among<'_>,
+) -> Result<Vec<Candidate<'a>>, AllocError>
+    requires walked { IsSomeWalk events.now walk.now }
+    requires known { (n : ℕ) → Contains among.now.numbers n → n < length walk.now.frames.items }
+    ensures numbers { IfOk result (λ all. map (λ c. c.number) all.items ≡ among.now.numbers) }
+    ensures each { IfOk result (λ all. (k : ℕ) (c : TheCandidate) → slice_get all.items k ≡ Some c
+        → IsCandidate (take walk.now.walked events.now) c) }
+{
+    let mut numbers = among.numbers();
+    let mut all = Vec::new(alloc);
+    'each_number: while let Some(number) = numbers.take_least() {
+        all.push(candidate(alloc, events, walk, number as usize)?)?;
+    }
+    Ok(all)
+}
+
 /// What is said of the event behind those that were walked, which isn't admitted.
 pub(crate) fn wrong_event<'a>(
+    alloc: Global,
     events: &[Event<'a>],
     walk: Walk,
     settings: &JudgeSettings,
-) -> Wrong<'a>
+) -> Result<Wrong<'a>, AllocError>
+    requires sound { AreSound events.now }
     requires walked { IsWalk settings.now events.now walk }
     requires within { walk.walked < length events.now }
-    ensures { IsWrongAt settings.now events.now walk.walked result }
+    ensures { IfOk result (IsWrongAt settings.now events.now walk.walked) }
 {
     match &events[walk.walked] {
-        Event::Replied { reply } => wrong_reply(events, walk, settings, reply.copied()),
-        Event::Strayed { gem, extent, frame } => Wrong::Stray {
+        Event::Replied { reply } => Ok(wrong_reply(events, walk, settings, reply.copied())),
+        Event::Strayed { gem, extent, frame } => Ok(Wrong::Stray {
             gem: *gem,
             extent: *extent,
             frame: frame.copied(),
-        },
+        }),
+        Event::LeftOneOf { gem, extent, among } => Ok(Wrong::OneOf(WrongOneOf {
+            gem: *gem,
+            extent: *extent,
+            frame: among.frame(),
+            candidates: candidates(alloc, events, &walk, among)?,
+        })),
         _ => unreachable!(),
     }
 }

@@ -27,7 +27,7 @@ pub(crate) struct Late {
 }
 
 /// Applies requests until so many are applied, where fewer were. How many are then.
-fn advance(live: &mut Live, requests: &[Request], applied: usize, wanted: usize) -> usize
+pub(crate) fn advance(live: &mut Live, requests: &[Request], applied: usize, wanted: usize) -> usize
     requires { applied ≤ length requests.now }
     ensures within { result ≤ length requests.now }
     ensures live { live.old ≡ after (take applied requests.now)

@@ -57,6 +57,8 @@ pub struct Counts {
     pub open: usize,
     /// Frames that left, and that no open frame can be.
     pub strays: usize,
+    /// Frames of which it can't be seen whether they left: one of several did.
+    pub doubtful: usize,
     /// Frames of which only the first bytes are known.
     pub cut: usize,
 }
@@ -96,6 +98,8 @@ pub enum Wrong<'a> {
         extent: Extent,
         frame: Digits<'a>,
     },
+    /// A frame that left as none of those that it may be does by any version.
+    OneOf(WrongOneOf<'a>),
 }
 
 /// A reply other than the model's.
@@ -123,6 +127,36 @@ pub struct WrongFrame<'a> {
     /// The least version that the lines before leave to it.
     pub at_least: usize,
     /// The greatest. Where it is under the least, no version is left.
+    pub at_most: usize,
+    /// What the frame's versions from the least to the greatest mean for it, ascending.
+    pub runs: Vec<Run>,
+}
+
+/// A frame that left as none of those that it may be does by any version.
+#[derive(Debug, Drop)]
+pub struct WrongOneOf<'a> {
+    pub gem: SeenGem,
+    pub extent: Extent,
+    /// The frame as it was seen to leave.
+    pub frame: Digits<'a>,
+    /// The frames that it may be, by their numbers, ascending.
+    pub candidates: Vec<Candidate<'a>>,
+}
+
+/// A frame that one that was seen to leave may be.
+#[derive(Debug, Drop)]
+pub struct Candidate<'a> {
+    pub number: usize,
+    pub port: u16,
+    /// The line that sent it.
+    pub sent_line: usize,
+    /// How much of the frame is known.
+    pub extent: Extent,
+    /// The frame as it was sent.
+    pub sent: Digits<'a>,
+    /// The least version of its window.
+    pub at_least: usize,
+    /// The greatest.
     pub at_most: usize,
     /// What the frame's versions from the least to the greatest mean for it, ascending.
     pub runs: Vec<Run>,

@@ -1,9 +1,9 @@
 //! The judgement of a history.
 ghost use Rattle.std.specs.Prelude.{◌≡◌, IfErr, IfOk};
 ghost use Rattle.bench_judge.specs.Judged.{IsFound, IsJudgement, IsWhyUnjudged};
-ghost use Rattle.bench_judge.specs.Walk.{AreInOrder};
+ghost use Rattle.bench_judge.specs.Walk.{AreSound};
 
-use crate::counts::counts;
+use crate::counts::{counts, doubtful};
 use crate::cut::choice_until;
 use crate::deviation::{wrong_event, wrong_frame};
 use crate::evidence::{evidence, is_finished};
@@ -24,7 +24,7 @@ fn judge_events<'a, W: Watch>(
     settings: &JudgeSettings,
     watch: &mut W,
 ) -> Result<Judgement<'a>, AllocError>
-    requires { AreInOrder events.now }
+    requires { AreSound events.now }
     ensures { IfOk result (IsFound settings.now events.now) }
 {
     watch.reached(Stage::Read {
@@ -46,15 +46,16 @@ fn judge_events<'a, W: Watch>(
     if walk.walked < events.len() {
         return Ok(Judgement::Deviates(Deviation {
             line: walk.walked + 1,
-            wrong: wrong_event(events, walk, settings),
+            wrong: wrong_event(alloc, events, walk, settings)?,
         }));
     }
-    let counts = counts(events, &walk.frames, walk.requests.len());
+    let doubtful = doubtful(alloc, events, walk.frames.len())?;
+    let counts = counts(events, &walk.frames, walk.requests.len(), doubtful);
     Ok(Judgement::Explained(Explanation {
         counts,
         steps: steps(alloc, &walk.frames, &versions, settings.unordered)?,
         finished: is_finished(events),
-        evidence: evidence(&walk.frames, counts.replies),
+        evidence: evidence(events, &walk.frames, counts.replies),
     }))
 }
 
@@ -67,12 +68,24 @@ fn judge_events<'a, W: Watch>(
 /// last reply that a wait above the frame waits for, and no more than those that were sent before the frame was seen to end. The frames
 /// before it at its port have no greater versions, unless each frame is judged by itself.
 ///
+/// A stray is explained only where strays are allowed. Where one of several frames left, one of them must have a version of its own by
+/// which it leaves so; such *doubtful* frames have no part in the order of their ports. Of a frame of which only a front is known, what
+/// leaves of it and what was seen are compared as far as both are known. A front of less than 24 bytes is too short to judge: nothing is
+/// said of its frame, and each line that names it among several is explained.
+///
+/// The settings forgive what they name ([`JudgeSettings`]): contents that the model doesn't have, the order of frames, strays, padding.
+///
+/// An explained history says what was judged of it ([`Evidence`](crate::Evidence)), and whether a line ends the observation. A frame that
+/// ended is evidence, and so is a line that names several frames, if none of them has too short a front. A reply is evidence only where no
+/// frame was sent. [`Explanation::passes`] says whether that is enough to pass the unit.
+///
 /// Where it isn't explained, the judgement names the first line that isn't with all those before it.
 ///
 /// It takes time in proportion to the events, and to the versions times the ports, and memory in proportion to the text. Where the history
 /// isn't explained, it takes that once more for each try of a shorter front: two where the last line deviates, and at most twice as many as
 /// halvings lead to one line. Where each frame is judged by itself, each that may not have the last version of its window takes time in
-/// proportion to the versions.
+/// proportion to the versions. A line that names several frames takes time in proportion to these, and, where none of them leaves so by
+/// the last version, once more for each version.
 ///
 /// [`JudgeFault::BadLine`] comes exactly where a line is bad, with the number of the first; [`JudgeFault::NoMemory`] where a request for
 /// memory is refused.

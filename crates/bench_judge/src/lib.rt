@@ -5,20 +5,24 @@
 //! and what the versions that are left to its frame would have done.
 //!
 //! **The definitions** stand in `specs/`: what was asked and what the model replies (Asked), which replies are right (Replies), from
-//! which version to which a frame may leave (Windows), which histories are explained (Explained), and what is said of one (Judged). A
-//! *version* is a number of accepted requests: the entities after them decide what becomes of a frame.
+//! which version to which a frame may leave (Windows), when one of several frames may have left (Doubt), which events may stand by
+//! themselves (Admitted), which histories are explained (Explained), what counts as evidence (Evidence), and what is said of a history
+//! (Judged). A *version* is a number of accepted requests: the entities after them decide what becomes of a frame.
 //!
-//! **The way.** The events are walked once, from front to back, up to the first wrong reply (walk); a frame is then its window and the
-//! places of its events (frame). A sweep goes once through the versions, with one plan that is followed from version to version, and lets
+//! **The way.** The events are walked once, from front to back, up to the first that isn't admitted: a wrong reply, a stray where none may
+//! leave, or a frame that left as none of those that it may be does (walk, admitting, doubt). A frame is then its window and the places of
+//! its events (frame). A sweep goes once through the versions, with one plan that is followed from version to version, and lets
 //! the next frame of each port take the least that it may have (sweep, seeing). Where a frame finds none, the first line is found by
 //! halving, and so is the greatest version that the frame behind it leaves (halving, bounds). No payload is decoded: digits are compared.
 #![tactic(auto)]
 
+mod admitting;
 mod asking;
 mod bounds;
 mod counts;
 mod cut;
 mod deviation;
+mod doubt;
 mod evidence;
 mod fault;
 mod fitting;
@@ -27,8 +31,6 @@ mod halving;
 mod judgement;
 mod judging;
 mod laws;
-mod message;
-mod replying;
 mod runs;
 mod scene;
 mod seeing;
@@ -40,8 +42,8 @@ mod watch;
 
 pub use fault::JudgeFault;
 pub use judgement::{
-    Answer, Counts, Deviation, End, Evidence, Explanation, Judgement, Leaving, Run, Step, Wrong,
-    WrongFrame, WrongReply,
+    Answer, Candidate, Counts, Deviation, End, Evidence, Explanation, Judgement, Leaving, Run,
+    Step, Wrong, WrongFrame, WrongOneOf, WrongReply,
 };
 pub use judging::{judge, judge_pieces, judge_watched};
 pub use laws::{law_of_fronts, law_of_least_versions};

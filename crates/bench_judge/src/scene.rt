@@ -1,21 +1,21 @@
 //! What is kept of the events on the way through them.
 ghost use Rattle.std.specs.Prelude.{◌≡◌, ◌+◌, ◌<◌, ◌≤◌, ◌^◌, ℕ, Decides, IfOk, List, Some, length, slice_get, slice_set, take, true};
-ghost use Rattle.bench_history.specs.History.{may_follow};
+ghost use Rattle.bench_history.specs.History.{is_sound};
 ghost use Rattle.bench_history.specs.declared.event.Event.{Event};
 ghost use Rattle.bench_history.specs.declared.event.Event.TheVariants.{Entered, Waited};
 ghost use Rattle.bench_judge.specs.Admitted.{IsAdmitted};
 ghost use Rattle.bench_judge.specs.Replies.{IsRight};
 ghost use Rattle.bench_judge.specs.Scene.{IsScene, ended_by};
-ghost use Rattle.bench_judge.specs.Walk.{AreInOrder, IsNext, IsRefused, IsWalk};
+ghost use Rattle.bench_judge.specs.Walk.{AreSound, IsNext, IsRefused, IsWalk};
 ghost use Rattle.bench_judge.specs.Windows.{least_behind, waits_for};
 ghost use Rattle.bench_judge.specs.declared.frame.Frame.{Frame};
 
 use crate::asking::Asking;
 use crate::frame::Frame;
-use crate::replying::is_reply_to;
 use crate::settings::JudgeSettings;
 use crate::walk::{Awaited, Walk};
 use bench_history::{Digits, Event, Extent};
+use bench_reply::is_reply_to;
 use bench_sight::is_enough;
 use std::alloc::{AllocError, Global};
 
@@ -28,7 +28,7 @@ pub(crate) struct Scene {
     pub(crate) asking: Asking,
     /// The frames, by their numbers.
     pub(crate) frames: Vec<Frame>,
-    /// How many replies were seen. All are right.
+    /// How many replies were seen. All are right or excused.
     pub(crate) replies: usize,
     /// The last reply that is waited for, by its number from 1; 0 where none is.
     pub(crate) waited: usize,
@@ -74,29 +74,18 @@ impl Scene {
     }
 
     /// Whether a reply is that to the next request that wants one.
-    fn is_right(&self, reply: &Digits<'_>) -> bool
+    pub(crate) fn is_right(&self, reply: &Digits<'_>) -> bool
         ensures { (events : List Event) (place : ℕ) → IsScene events place self.now
             → Decides result (IsRight self.now.settings.modelled (take place events) reply.now) }
     {
         match self.asking.due.get(self.replies) {
-            Some(due) => is_reply_to(due, reply),
+            Some(due) => is_reply_to(&due.expected, reply),
             None => false,
         }
     }
 
-    /// Whether an event by itself is one that a right unit may have shown.
-    pub(crate) fn admits(&self, event: &Event<'_>) -> bool
-        ensures { (events : List Event) (place : ℕ) → IsScene events place self.now
-            → Decides result (IsAdmitted self.now.settings (take place events) event.now) }
-    {
-        match event {
-            Event::Replied { reply } => self.is_right(reply),
-            Event::Strayed { .. } => self.settings.strays,
-            _ => true,
-        }
-    }
-
-    /// The least version of a frame that is sent now: the requests accepted up to and with the one whose reply is waited for.
+    /// The least version of a frame that is sent now: the requests accepted up to and with the one whose reply is waited for; all where
+    /// that reply answers none.
     fn least(&self) -> usize
         ensures { (events : List Event) (place : ℕ) → IsScene events place self.now
             → result ≡ least_behind (take place events) }
@@ -106,7 +95,7 @@ impl Scene {
         }
         match self.asking.due.get(self.waited - 1) {
             Some(due) => due.accepted,
-            None => 0,
+            None => self.asking.requests.len(),
         }
     }
 
@@ -151,7 +140,7 @@ impl Scene {
     fn wait(&mut self, replies: Option<u32>)
         ensures scene { (events : List Event) (place : ℕ)
             → slice_get events place ≡ Some (Waited replies)
-            → may_follow (take place events) (Waited replies) ≡ true
+            → is_sound (take place events) (Waited replies) ≡ true
             → IsScene events place self.old
             → IsScene events (place + 1) self.new }
         ensures settings { self.new.settings ≡ self.old.settings }
@@ -170,13 +159,13 @@ impl Scene {
         let due = self.asking.due.get(self.replies)?;
         Some(Awaited {
             sent: due.sent,
-            reply: due.reply,
+            reply: due.expected.reply,
         })
     }
 
     /// What is known of the events before a place.
     pub(crate) fn into_walk(self, walked: usize) -> Walk
-        ensures { (events : List Event) → AreInOrder events → walked ≤ length events
+        ensures { (events : List Event) → AreSound events → walked ≤ length events
             → IsScene events walked self
             → (walked < length events
             → IsRefused self.settings (take walked events) (slice_get events walked))
@@ -196,7 +185,7 @@ impl Scene {
         requires { self.old.replies < 2 ^ 63 }
         ensures settings { self.new.settings ≡ self.old.settings }
         ensures scene { (events : List Event) → slice_get events place ≡ Some event.now
-            → may_follow (take place events) event.now ≡ true
+            → is_sound (take place events) event.now ≡ true
             → IsAdmitted self.old.settings (take place events) event.now
             → IsScene events place self.old
             → IfOk result (λ _. IsScene events (place + 1) self.new) }
@@ -205,7 +194,7 @@ impl Scene {
             Event::Sent { message } => {
                 self.asking.send(place, message, self.settings.modelled)?;
             }
-            Event::Replied { .. } => self.replies += 1,
+            Event::Replied { .. } | Event::Excused { .. } => self.replies += 1,
             Event::Entered {
                 port,
                 extent,
@@ -215,7 +204,7 @@ impl Scene {
                 end_frame(&mut self.frames, *number, place, self.asking.requests.len());
             }
             Event::Waited { replies } => self.wait(*replies),
-            Event::Strayed { .. } | Event::Ended | Event::Nothing => {}
+            Event::Strayed { .. } | Event::LeftOneOf { .. } | Event::Ended | Event::Nothing => {}
         }
         Ok(())
     }

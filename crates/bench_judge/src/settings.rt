@@ -3,8 +3,10 @@
 /// What a history is judged by.
 #[derive(Clone, Copy)]
 pub struct JudgeSettings {
-    /// The contents of a reply are looked at only where its request is a MIB reset, or a Create, Delete, Set, Get or Get next on class
-    /// 130, 171, 266 or 268. A real unit has more classes than the model, and so other syncs and other rows.
+    /// The contents of a reply are compared only where its request is a MIB reset, or a Create, Delete, Set, Get or Get next on class
+    /// 130, 171, 266 or 268: a real unit has more classes than the model, and so other syncs and other rows. Values of read-only
+    /// attributes aren't compared, nor is the size of the table or what is read of it: a real unit has its own. Results, masks and all
+    /// other values are.
     pub modelled: bool,
     /// Each frame is judged by itself: a port that several lanes serve may give a frame an older version than one sent before it.
     pub unordered: bool,

@@ -1,7 +1,8 @@
 //! The way through events from front to back.
 ghost use Rattle.std.specs.Prelude.{IfOk};
-ghost use Rattle.bench_judge.specs.Walk.{AreInOrder, IsWalk};
+ghost use Rattle.bench_judge.specs.Walk.{AreSound, IsWalk};
 
+use crate::admitting::is_admitted;
 use crate::frame::Frame;
 use crate::scene::Scene;
 use crate::settings::JudgeSettings;
@@ -31,21 +32,23 @@ pub(crate) struct Awaited {
     pub(crate) reply: Reply,
 }
 
-/// Goes through the events of a history once, from front to back, up to the first that isn't admitted: a wrong reply, or a stray where none
-/// may leave.
+/// Goes through the events of a history once, from front to back, up to the first that isn't admitted: a wrong reply, a stray where none may
+/// leave, or a frame that left as none of those that it may be does.
 ///
-/// It takes time and memory in proportion to the events.
+/// It takes time and memory in proportion to the events, and once more to the versions for each frame that is one of several, none of
+/// which leaves so by the last version.
 pub(crate) fn walk_through(
     alloc: Global,
     events: &[Event<'_>],
     settings: &JudgeSettings,
 ) -> Result<Walk, AllocError>
-    requires { AreInOrder events.now }
+    requires { AreSound events.now }
     ensures { IfOk result (IsWalk settings.now events.now) }
 {
     let mut scene = Scene::new(alloc, settings)?;
+    let mut latest = None;
     for (place, event) in events.iter().enumerate() {
-        if !scene.admits(event) {
+        if !is_admitted(alloc, &scene, events, event, &mut latest)? {
             return Ok(scene.into_walk(place));
         }
         scene.add(place, event)?;

@@ -5,8 +5,9 @@
 pub enum Stage {
     /// The history was read: so many lines.
     Read { lines: usize },
-    /// The events were walked up to the first wrong reply, or all of them: so many frames and accepted requests, for whose versions is
-    /// looked now.
+    /// The events were walked, all of them or up to the first that no right unit shows whatever becomes of its other frames: a wrong
+    /// reply, a stray, or a frame that left as none of those that it may be does. They have so many frames and accepted requests; the
+    /// frames' versions are looked for now.
     Walked { frames: usize, requests: usize },
     /// The history isn't explained, and the first line that shows it is one of so many: half of them are left out next.
     Halving { lines: usize },

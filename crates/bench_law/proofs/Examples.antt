@@ -1,5 +1,6 @@
--- A worked example, computed: three messages that are seen before the unit carries them out, a wait, and a frame of which a front is
--- known, that leaves by a GEM port that isn't seen, with padding.
+-- Worked examples, computed. Three messages are seen before the unit carries them out, and a wait. Behind these a frame is sent of which a
+-- front is known, and leaves by a GEM port that isn't seen, with padding. Or one frame is sent into two ports, and it can't be seen of which
+-- the one is that leaves.
 use Rattle.std.proofs.Common.{◌≡◌, ◌<◌, ◌+◌, ◌-◌, ◌*◌, ◌/◌, ◌%◌, ℕ, zero, suc, true, false, List, [], ◌∷◌, ◌++◌, length, take, replicate, Some, None, slice_get, inr, refl, sym, ap, subst, ◌∙◌, arith, append_assoc, append-nil}
 use Rattle.omci_msg.specs.declared.request.Request.{Request}
 use Rattle.omci_msg.specs.declared.reply.Reply.{Reply}
@@ -13,20 +14,21 @@ use Rattle.frame_meaning.specs.declared.verdict.Verdict.TheVariants as verdict
 use Rattle.frame_meaning.specs.Meaning.{carries_upstream, forwarded_by, gem_port_at, gem_port_behind, gem_port_of, input_tpid_of, mapper_at, meaning, port_id_of, table_at, tags_at}
 use Rattle.plan_publish.specs.World.{IsRun, opening, world_after, answer, Message, Publish, Enter, Forward, Decided}
 use Rattle.plan_publish.specs.Interleavings.{entered_with, requests_in}
+use Rattle.bench_history.specs.Among.{OneOf}
 use Rattle.bench_history.specs.History.{frames_in, is_end_of}
 use Rattle.bench_history.specs.declared.event.Event.{Event}
-use Rattle.bench_history.specs.declared.event.Event.TheVariants.{Sent, Replied, Entered, Left, Strayed, Waited, Ended}
+use Rattle.bench_history.specs.declared.event.Event.TheVariants.{Sent, Replied, Entered, Left, LeftOneOf, Strayed, Waited, Ended}
 use Rattle.bench_history.specs.declared.extent.Extent.{Extent}
 use Rattle.bench_history.specs.declared.extent.Extent.TheVariants.{Whole, Front}
 use Rattle.bench_history.specs.declared.gem.SeenGem.{SeenGem}
-use Rattle.bench_history.specs.declared.gem.SeenGem.TheVariants.{Any}
+use Rattle.bench_history.specs.declared.gem.SeenGem.TheVariants.{Any, Port}
 use Rattle.bench_sight.specs.Sight.{IsSeenAs}
 use Rattle.bench_judge.specs.Asked.{asked}
 use Rattle.bench_judge.specs.Windows.{waits_for}
 use Rattle.bench_judge.specs.Explained.{EndedFrame, IsEnded, IsExplained}
 use Rattle.bench_judge.specs.declared.settings.JudgeSettings.{JudgeSettings}
 use Rattle.bench_law.specs.Steps.{Step, Happens, Shows, happened, shown}
-use Rattle.bench_law.specs.Observation.{HasLearnt, IsAnswer, IsForwarded, IsKnownAs, IsObservation}
+use Rattle.bench_law.specs.Observation.{HasLearnt, IsAnswer, IsForwarded, IsKnownAs, IsObservation, IsOneThatLeft}
 use Rattle.bench_law.proofs.Explaining.{no_right_unit_is_accused}
 
 -- ---- what holds of each element, by its place
@@ -158,7 +160,7 @@ answered_1 =
       wants_answer = refl;
       next = refl;
       answered = refl;
-      spelled = record { reply = created 1 268 4 1; read = refl; tci = refl; action = refl; class = refl; instance = refl; contents = λ judged. refl };
+      spelled = record { reply = created 1 268 4 1; read = refl; tci = refl; action = refl; class = refl; instance = refl; contents = λ byte compared. refl };
     }
 
 answered_2 : IsAnswer false (take 8 steps) (message 2 0x24 266 5 1 [])
@@ -172,7 +174,7 @@ answered_2 =
       wants_answer = refl;
       next = refl;
       answered = refl;
-      spelled = record { reply = created 2 266 5 1; read = refl; tci = refl; action = refl; class = refl; instance = refl; contents = λ judged. refl };
+      spelled = record { reply = created 2 266 5 1; read = refl; tci = refl; action = refl; class = refl; instance = refl; contents = λ byte compared. refl };
     }
 
 answered_3 : IsAnswer false (take 9 steps) (message 3 0x24 130 6 1 [])
@@ -186,7 +188,7 @@ answered_3 =
       wants_answer = refl;
       next = refl;
       answered = refl;
-      spelled = record { reply = created 3 130 6 1; read = refl; tci = refl; action = refl; class = refl; instance = refl; contents = λ judged. refl };
+      spelled = record { reply = created 3 130 6 1; read = refl; tci = refl; action = refl; class = refl; instance = refl; contents = λ byte compared. refl };
     }
 
 each_answered : EachFrom IsAnswered [] steps
@@ -299,6 +301,21 @@ strays : (place : ℕ) (gem : SeenGem) (extent : Extent) (bytes : List ℕ) → 
 unfolding IsNoStray
 strays place gem extent bytes at = each_at IsNoStray [] steps each_no_stray place (Shows (Strayed gem extent bytes)) at
 
+-- ---- frames that can't be told apart
+
+IsNoDoubt : List Step → Step → Type 0
+IsNoDoubt before (Shows (LeftOneOf gem extent among)) = ⊥
+IsNoDoubt before step = Unit {0}
+
+each_no_doubt : EachFrom IsNoDoubt [] steps
+unfolding EachFrom IsNoDoubt steps
+each_no_doubt = (tt, (tt, (tt, (tt, (tt, (tt, (tt, (tt, (tt, (tt, (tt, (tt, (tt, (tt, (tt, (tt, tt))))))))))))))))
+
+doubted : (place : ℕ) (gem : SeenGem) (extent : Extent) (among : OneOf) → slice_get steps place ≡ Some (Shows (LeftOneOf gem extent among))
+    → IsOneThatLeft true (take place steps) gem extent among
+unfolding IsNoDoubt
+doubted place gem extent among at = absurd (each_at IsNoDoubt [] steps each_no_doubt place (Shows (LeftOneOf gem extent among)) at)
+
 -- ---- it is an observation, and so it is explained
 
 observation : IsObservation 1 settings steps
@@ -310,6 +327,7 @@ observation =
       replied = replied;
       waited = waited;
       strays = strays;
+      doubted = doubted;
       lane_of = λ number. 0;
       place_of = λ number. 13;
       forwarded = forwards;
@@ -325,3 +343,104 @@ explained =
 three : entered_with 0 (happened (take 13 steps)) ≡ 3
 unfolding steps creating filled gem_port point mapper create create_in
 three = refl
+
+-- ---- one frame into two ports, of which one alone has a mapper
+
+-- no setting is needed
+plain : JudgeSettings
+plain = record { modelled = false; unordered = false; strays = false; padded = false }
+
+either : OneOf
+either = record { frame = frame; numbers = 0 ∷ 1 ∷ [] }
+
+twice : List Step
+twice =
+    take 12 steps
+    ++ Shows (Entered 257 Whole frame) ∷ Shows (Entered 258 Whole frame) ∷ Happens (Forward 0 257 frame) ∷ Shows (LeftOneOf (Port 1024) Whole either)
+    ∷ Shows Ended ∷ []
+
+twice_runs : IsRun 1 opening (happened twice)
+unfolding twice steps creating filled gem_port point mapper frame front addresses create create_in
+twice_runs = search lane_0
+
+twice_carried : EachFrom IsCarried [] twice
+unfolding EachFrom IsCarried twice steps creating message filled gem_port point mapper frame front addresses request_of action_of
+twice_carried = (tt, (tt, (tt, (refl, (tt, (refl, (refl, (tt, (tt, (tt, (tt, (tt, (tt, (tt, (tt, (tt, (tt, tt)))))))))))))))))
+
+twice_answered : EachFrom IsAnswered [] twice
+unfolding EachFrom IsAnswered twice steps
+twice_answered = (tt, (tt, (tt, (tt, (answered_1, (tt, (tt, (tt, (answered_2, (answered_3, (tt, (tt, (tt, (tt, (tt, (tt, (tt, tt)))))))))))))))))
+
+twice_waited : EachFrom IsWaited [] twice
+unfolding EachFrom IsWaited twice steps
+twice_waited =
+    (none_waited, (none_waited, (none_waited, (tt, (none_waited, (tt, (tt, (tt, (none_waited, (none_waited, (tt, (λ some. learnt, (none_waited, (none_waited, (tt, (none_waited, (none_waited, tt)))))))))))))))))
+
+twice_no_stray : EachFrom IsNoStray [] twice
+unfolding EachFrom IsNoStray twice steps
+twice_no_stray = (tt, (tt, (tt, (tt, (tt, (tt, (tt, (tt, (tt, (tt, (tt, (tt, (tt, (tt, (tt, (tt, (tt, tt)))))))))))))))))
+
+-- no line ends a frame by itself
+EndsNone : ℕ → Event → Type 0
+EndsNone n line = (number : ℕ) → is_end_of number line ≡ true → ⊥
+
+twice_lines : EachLine EndsNone 0 (shown twice)
+unfolding EachLine EndsNone twice steps
+twice_lines = (no_end, (no_end, (no_end, (no_end, (no_end, (no_end, (no_end, (no_end, (no_end, (no_end, (no_end, tt)))))))))))
+
+none_ended : (f : EndedFrame) → IsEnded (shown twice) f → ⊥
+unfolding EndsNone
+none_ended f is = line_of_each EndsNone 0 (shown twice) twice_lines f.ended f.ended f.seen is.seen (omega arith) f.number is.is_end
+
+-- the frame that left is that of number 0
+first_left : IsOneThatLeft false (take 15 twice) (Port 1024) Whole either
+unfolding twice steps either creating filled gem_port point mapper frame front addresses create create_in verdict_of_frame meaning forwarded_by table_at input_tpid_of tags_at mapper_at priority_of pointer_of carries_upstream port_id_of gem_port_behind gem_port_of gem_port_at frame_of fault_of
+first_left =
+    record {
+      frame = record { sent = 7; ended = 9; number = 0; port = 257; extent = Whole; bytes = frame; seen = Left (Port 1024) Whole 0 frame };
+      is_named = record { named = (0, omega arith, refl); entered = refl; number = refl; ended = refl; seen = refl };
+      left =
+          inr (
+            0,
+            14,
+            record {
+              bytes = frame;
+              verdict = verdict_of_frame;
+              forwards = refl;
+              sent = omega arith;
+              ended = omega arith;
+              known = refl;
+              decided = refl;
+              seen = (refl, refl);
+            },
+          );
+    }
+
+IsDoubted : List Step → Step → Type 0
+IsDoubted before (Shows (LeftOneOf gem extent among)) = IsOneThatLeft false before gem extent among
+IsDoubted before step = Unit {0}
+
+twice_doubted : EachFrom IsDoubted [] twice
+unfolding EachFrom IsDoubted twice steps
+twice_doubted = (tt, (tt, (tt, (tt, (tt, (tt, (tt, (tt, (tt, (tt, (tt, (tt, (tt, (tt, (tt, (first_left, (tt, tt)))))))))))))))))
+
+twice_observed : IsObservation 1 plain twice
+unfolding plain IsCarried IsAnswered IsWaited IsNoStray IsDoubted
+twice_observed =
+    record {
+      run = twice_runs;
+      carried_out = λ place q at. each_at IsCarried [] twice twice_carried place (Happens (Message q)) at;
+      replied = λ place bytes at. each_at IsAnswered [] twice twice_answered place (Shows (Replied bytes)) at;
+      waited = λ place line at. each_at IsWaited [] twice twice_waited place (Shows line) at;
+      strays = λ place gem extent bytes at. each_at IsNoStray [] twice twice_no_stray place (Shows (Strayed gem extent bytes)) at;
+      doubted = λ place gem extent among at. each_at IsDoubted [] twice twice_doubted place (Shows (LeftOneOf gem extent among)) at;
+      lane_of = λ number. 0;
+      place_of = λ number. 14;
+      forwarded = λ f is. absurd (none_ended f is);
+      in_order = λ order f g is_f is_g port less. absurd (none_ended f is_f);
+    }
+
+twice_explained : IsExplained plain (shown twice)
+twice_explained =
+    no_right_unit_is_accused 1 plain plain twice twice_observed
+    (record { modelled = λ is. is; unordered = λ is. is; strays = λ is. is; padded = λ is. is })

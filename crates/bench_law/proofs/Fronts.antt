@@ -1,5 +1,6 @@
 -- Fronts of lists.
 use Rattle.std.proofs.Common.{◌≡◌, ◌≤◌, ◌<◌, ◌⊎◌, ℕ, zero, suc, List, [], ◌∷◌, ◌++◌, length, take, drop, Some, slice_get, inl, inr, refl, sym, ap, subst, ◌∙◌, arith, append_assoc, append-nil, length-append, take-append-drop, take-take}
+use Rattle.std.proofs.Math.Seq.{take-length}
 use Rattle.std.proofs.lemmas.List.{take-append-le}
 
 -- a list begins with another
@@ -31,12 +32,8 @@ front_shorter {A} {xs} f = omega (arith, ap (λ (l : List A). length l) f.is, le
 pub front_within : {A : Type 0} {xs ys : List A} (k : ℕ) → IsFront xs ys → length xs ≤ k → IsFront xs (take k ys)
 front_within {A} {xs} {ys} k f le =
     let front : take (length xs) ys ≡ xs =
-    ap (λ (l : List A). take (length xs) l) f.is ∙ take-append-le (length xs) xs f.rest (omega arith) ∙ whole xs in
+    ap (λ (l : List A). take (length xs) l) f.is ∙ take-append-le (length xs) xs f.rest (omega arith) ∙ take-length xs in
     subst (λ l. IsFront l (take k ys)) front (fronts_taken (length xs) k ys le)
-  where
-    whole : (l : List A) → take (length l) l ≡ l
-    whole [] = refl
-    whole (x ∷ l) = ap (λ m. x ∷ m) (whole l)
 
 -- ---- elements by their places
 

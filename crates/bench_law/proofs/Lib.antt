@@ -7,6 +7,8 @@ pub mod Answers
 pub mod Windows
 pub mod Cut
 pub mod Sights
+pub mod Versions
+pub mod Candidates
 pub mod Settings
 pub mod Explaining
 pub mod Judging

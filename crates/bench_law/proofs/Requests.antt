@@ -7,7 +7,8 @@ use Rattle.mib_state.specs.Step.{left}
 use Rattle.mib_state.specs.After.{accepted, accepted_from, after, is_accepted}
 use Rattle.mib_upload.specs.Upload.{DeskState, answered}
 use Rattle.plan_publish.proofs.Parts.{accepted-append}
-use Rattle.bench_judge.specs.Asked.{Wanted, wanted_from}
+use Rattle.bench_reply.specs.Replies.{Wanted}
+use Rattle.bench_judge.specs.Asked.{wanted_from}
 use Rattle.bench_judge.specs.Windows.{up_to}
 use Rattle.bench_law.proofs.Fronts.{IsFront}
 

@@ -1,33 +1,35 @@
 -- What is explained by some settings is explained by all that allow more.
-use Rattle.std.proofs.Common.{◌≡◌, ◌<◌, ◌-◌, ◌&&◌, ℕ, Bool, true, false, List, length, take, replicate, refl, arith, length-append}
+use Rattle.std.proofs.Common.{◌≡◌, ◌<◌, ◌-◌, ◌&&◌, ℕ, Bool, true, false, List, length, take, replicate, inl, inr, refl, arith, length-append}
 use Rattle.std.specs.Prelude.{nat_eq, nat_lt}
 use Rattle.std.specs.List.{starts_with}
 use Rattle.std.proofs.lemmas.Bool.{and_parts, lt-ltb, ltb-true}
-use Rattle.omci_msg.specs.declared.request.Request.{Request}
 use Rattle.tag_view.specs.Frame.{frame_bytes}
 use Rattle.frame_meaning.specs.Meaning.{meaning}
 use Rattle.frame_meaning.specs.declared.verdict.Verdict.{Verdict}
 use Rattle.frame_meaning.specs.declared.verdict.Verdict.TheVariants.{Forward, Drop}
 use Rattle.bench_history.specs.declared.event.Event.{Event}
-use Rattle.bench_history.specs.declared.event.Event.TheVariants.{Replied, Left, Strayed}
+use Rattle.bench_history.specs.declared.event.Event.TheVariants.{Replied, Left, LeftOneOf, Strayed}
 use Rattle.bench_history.specs.declared.extent.Extent.{Extent}
 use Rattle.bench_history.specs.declared.extent.Extent.TheVariants.{Whole, Front}
 use Rattle.bench_sight.specs.Sight.{IsSeenAs, agree, padded_to}
 use Rattle.bench_sight.proofs.Prefixes.{Decides-begins, in_first_part}
+use Rattle.bench_reply.specs.Replies.{Wanted, is_compared}
 use Rattle.bench_judge.specs.Asked.{version}
-use Rattle.bench_judge.specs.Replies.{IsRight, is_judged}
+use Rattle.bench_judge.specs.Replies.{IsRight}
 use Rattle.bench_judge.specs.Admitted.{IsAdmitted}
+use Rattle.bench_judge.specs.Doubt.{LeavesBy, MayBe}
 use Rattle.bench_judge.specs.Explained.{EndedFrame, IsExplained, IsVersionOf}
 use Rattle.bench_judge.specs.declared.settings.JudgeSettings.{JudgeSettings}
 use Rattle.bench_law.specs.Law.{Allow}
 
 -- ---- replies
 
--- contents that are looked at were looked at
-judged_before : (now before : Bool) (q : Request) → (before ≡ true → now ≡ true) → is_judged now q ≡ true → is_judged before q ≡ true
-judged_before now false q allow judged = refl
-judged_before true true q allow judged = judged
-judged_before false true q allow judged = absurd (cc (allow refl))
+-- a byte that is compared was compared
+compared_before : (now before : Bool) (w : Wanted) (byte : ℕ) → (before ≡ true → now ≡ true) → is_compared now w byte ≡ true
+    → is_compared before w byte ≡ true
+compared_before now false w byte allow compared = refl
+compared_before true true w byte allow compared = compared
+compared_before false true w byte allow compared = absurd (cc (allow refl))
 
 right_now : (now before : Bool) (events : List Event) (bytes : List ℕ) → (before ≡ true → now ≡ true) → IsRight before events bytes → IsRight now events bytes
 right_now now before events bytes allow is =
@@ -42,7 +44,7 @@ right_now now before events bytes allow is =
             action = is.right.action;
             class = is.right.class;
             instance = is.right.instance;
-            contents = λ judged. is.right.contents (judged_before now before is.answers.request allow judged);
+            contents = λ byte compared. is.right.contents byte (compared_before now before is.answers byte allow compared);
           };
     }
 
@@ -92,8 +94,32 @@ ordered_before now false allow order = refl
 -- ---- histories
 
 module _ (settings needed : JudgeSettings) (allow : Allow settings needed) (events : List Event) where
+  may_be_now : (before : List Event) (n : ℕ) (seen : Event) → MayBe needed.padded before n seen → MayBe settings.padded before n seen
+  may_be_now before n seen is =
+      record {
+        sent = is.sent;
+        by =
+            elim is.by [
+              | inl few ↦ inl few
+              | inr leaves ↦
+                  let v : ℕ = leaves.0 in
+                  let by : LeavesBy needed.padded before n is.sent seen v = leaves.1 in
+                  inr (
+                    v,
+                    record {
+                      least = by.least;
+                      most = by.most;
+                      shows =
+                          seen_now settings.padded needed.padded (meaning (version before v) is.sent.port is.sent.bytes) is.sent.extent seen
+                          allow.padded by.shows;
+                    },
+                  )
+            ];
+      }
+
   admitted_now : (before : List Event) (event : Event) → IsAdmitted needed before event → IsAdmitted settings before event
   admitted_now before (Replied bytes) is = right_now settings.modelled needed.modelled before bytes allow.modelled is
+  admitted_now before (LeftOneOf gem extent among) is = (is.0, is.1, may_be_now before is.0 (Left gem extent is.0 among.frame) is.2)
   admitted_now before (Strayed gem extent frame) is = allow.strays is
   admitted_now before event is = tt
 

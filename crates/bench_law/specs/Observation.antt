@@ -7,15 +7,16 @@ use Rattle.omci_msg.specs.declared.reply.Reply.{Reply}
 use Rattle.frame_meaning.specs.declared.verdict.Verdict.{Verdict}
 use Rattle.plan_publish.specs.World.{IsRun, opening, world_after, answer, Message, Publish, Enter, Forward, Replied as Answered, Gave, Decided}
 use Rattle.plan_publish.specs.Interleavings.{requests_in, tokens_to}
-use Rattle.bench_history.specs.History.{replies_in}
+use Rattle.bench_history.specs.Among.{OneOf}
+use Rattle.bench_history.specs.History.{frames_in, replies_in}
 use Rattle.bench_history.specs.declared.gem.SeenGem.{SeenGem}
 use Rattle.bench_history.specs.declared.event.Event.{Event}
-use Rattle.bench_history.specs.declared.event.Event.TheVariants.{Replied, Strayed}
+use Rattle.bench_history.specs.declared.event.Event.TheVariants.{Replied, Entered, Left, LeftOneOf, Strayed}
 use Rattle.bench_history.specs.declared.extent.Extent.{Extent}
 use Rattle.bench_history.specs.declared.extent.Extent.TheVariants.{Whole, Front}
-use Rattle.bench_sight.specs.Sight.{IsSeenAs}
+use Rattle.bench_sight.specs.Sight.{IsSeenAs, is_enough}
+use Rattle.bench_reply.specs.Replies.{IsReplyTo}
 use Rattle.bench_judge.specs.Asked.{asked}
-use Rattle.bench_judge.specs.Replies.{IsReplyTo}
 use Rattle.bench_judge.specs.Windows.{waits_for}
 use Rattle.bench_judge.specs.Explained.{EndedFrame, IsEnded}
 use Rattle.bench_judge.specs.declared.settings.JudgeSettings.{JudgeSettings}
@@ -75,6 +76,21 @@ pub record IsForwarded (padded : Bool) (steps : List Step) (f : EndedFrame) (lan
   pub decided : answer (world_after (happened (take place steps))) (Forward lane f.port bytes) ≡ Decided verdict
   pub seen : IsSeenAs padded verdict Whole f.seen
 
+-- a frame that the line behind steps names, with that line as its end: as it would be if the line named it alone
+pub record IsNamed (before : List Step) (gem : SeenGem) (extent : Extent) (among : OneOf) (f : EndedFrame) : Type 0 where
+  pub named : Contains among.numbers f.number
+  pub entered : slice_get (shown before) f.sent ≡ Some (Entered f.port f.extent f.bytes)
+  pub number : f.number ≡ frames_in (take f.sent (shown before))
+  pub ended : f.ended ≡ length (shown before)
+  pub seen : f.seen ≡ Left gem extent f.number among.frame
+
+-- one of the frames that the line behind steps names is the one that left: a lane has forwarded it, and this was seen. Of one of which too
+-- little is known this isn't asked
+pub record IsOneThatLeft (padded : Bool) (before : List Step) (gem : SeenGem) (extent : Extent) (among : OneOf) : Type 0 where
+  pub frame : EndedFrame
+  pub is_named : IsNamed before gem extent among frame
+  pub left : (is_enough frame.extent frame.bytes ≡ false) ⊎ ((lane : ℕ) × (place : ℕ) × IsForwarded padded before frame lane place)
+
 -- ---- the observation
 
 -- steps are an observation of a machine with so many lanes
@@ -93,7 +109,10 @@ pub record IsObservation (lanes : ℕ) (settings : JudgeSettings) (steps : List 
   -- strays are seen only where they are allowed
   pub strays : (place : ℕ) (gem : SeenGem) (extent : Extent) (frame : List ℕ)
       → slice_get steps place ≡ Some (Shows (Strayed gem extent frame)) → settings.strays ≡ true
-  -- which lane forwards a frame, and by which step, by the frame's number
+  -- a line that names several frames names the one that left
+  pub doubted : (place : ℕ) (gem : SeenGem) (extent : Extent) (among : OneOf)
+      → slice_get steps place ≡ Some (Shows (LeftOneOf gem extent among)) → IsOneThatLeft settings.padded (take place steps) gem extent among
+  -- which lane forwards a frame whose end names it alone, and by which step, by the frame's number
   pub lane_of : ℕ → ℕ
   pub place_of : ℕ → ℕ
   pub forwarded : (f : EndedFrame) → IsEnded (shown steps) f → IsForwarded settings.padded steps f (lane_of f.number) (place_of f.number)

@@ -8,7 +8,7 @@ ghost use Rattle.bench_law.specs.Law.{NoDeviationIsFound, NoRightUnitIsAccused};
 /// holds for all settings that allow what the observation needs: one that needs no setting is explained by each. So where the judge finds a
 /// deviation, no course of the machine shows the history, with the lines where `specs/Observation.antt` lets them stand.
 ///
-/// Doubtful frames, repeated messages and a script that comes first aren't covered.
+/// Repeated messages and a script that comes first aren't covered.
 pub fn law_of_right_units()
     ensures explained { NoRightUnitIsAccused }
     ensures found { NoDeviationIsFound }

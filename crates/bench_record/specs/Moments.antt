@@ -1,7 +1,7 @@
 -- When an event stands in a history: by its time, in nanoseconds, and at one time by its kind.
 use Rattle.std.specs.Prelude.{ℕ, ◌+◌, ◌*◌, List, Option, Some, None}
 use Rattle.bench_history.specs.declared.event.Event.{Event}
-use Rattle.bench_history.specs.declared.event.Event.TheVariants.{Sent, Replied, Entered, Left, Strayed, Dropped, Lost, Waited, Ended, Nothing}
+use Rattle.bench_history.specs.declared.event.Event.TheVariants.{Sent, Replied, Excused, Entered, Left, LeftOneOf, Strayed, Dropped, Lost, Waited, Ended, Nothing}
 use Rattle.bench_history.specs.declared.extent.Extent.TheVariants.{Whole}
 use Rattle.bench_history.specs.declared.gem.SeenGem.TheVariants.{Port}
 use Rattle.bench_record.specs.Messages.{event_of_message, message_of}
@@ -19,8 +19,10 @@ abbrev pub rank_of : Event → ℕ
 rank_of (Sent message) = 0
 rank_of (Entered port extent frame) = 1
 rank_of (Replied reply) = 2
+rank_of (Excused reply) = 2
 rank_of (Waited replies) = 3
 rank_of (Left gem extent number frame) = 4
+rank_of (LeftOneOf gem extent among) = 4
 rank_of (Strayed gem extent frame) = 4
 rank_of (Dropped number) = 5
 rank_of (Lost number) = 5

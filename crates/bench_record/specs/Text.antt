@@ -4,7 +4,7 @@ use Rattle.std.specs.Fmt.{decimal}
 use Rattle.std.specs.List.{flat_map}
 use Rattle.hex.specs.Hex.{encode_lower}
 use Rattle.bench_history.specs.declared.event.Event.{Event}
-use Rattle.bench_history.specs.declared.event.Event.TheVariants.{Sent, Replied, Entered, Left, Strayed, Dropped, Lost, Waited, Ended, Nothing}
+use Rattle.bench_history.specs.declared.event.Event.TheVariants.{Sent, Replied, Excused, Entered, Left, LeftOneOf, Strayed, Dropped, Lost, Waited, Ended, Nothing}
 use Rattle.bench_history.specs.declared.extent.Extent.{Extent}
 use Rattle.bench_history.specs.declared.extent.Extent.TheVariants.{Whole, Front}
 use Rattle.bench_history.specs.declared.gem.SeenGem.{SeenGem}
@@ -31,12 +31,14 @@ abbrev pub gem_of : SeenGem → List ℕ
 gem_of (Port gem) = decimal gem
 gem_of Any = codes "any"
 
--- what stands in front of the digits
+-- what stands in front of the digits; a reply that is excused has no line
 abbrev pub head_of : Event → List ℕ
 head_of (Sent message) = codes "o "
 head_of (Replied reply) = codes "r "
+head_of (Excused reply) = []
 head_of (Entered port extent frame) = codes "f " ++ decimal port ++ 32 ∷ []
 head_of (Left gem extent number frame) = codes "g " ++ decimal number ++ 32 ∷ [] ++ gem_of gem ++ 32 ∷ []
+head_of (LeftOneOf gem extent among) = codes "a " ++ gem_of gem ++ 32 ∷ []
 head_of (Strayed gem extent frame) = codes "s " ++ gem_of gem ++ 32 ∷ []
 head_of (Dropped number) = codes "d " ++ decimal number
 head_of (Lost number) = codes "l " ++ decimal number
@@ -51,10 +53,11 @@ bytes_of (Sent message) = message
 bytes_of (Replied reply) = reply
 bytes_of (Entered port extent frame) = frame
 bytes_of (Left gem extent number frame) = frame
+bytes_of (LeftOneOf gem extent among) = among.frame
 bytes_of (Strayed gem extent frame) = frame
 bytes_of _ = []
 
--- what stands behind the digits of a frame: two full stops where it had more bytes
+-- what stands behind the digits of a frame: two full stops where it had more bytes, and the numbers of the frames of which it is one
 abbrev pub behind : Extent → List ℕ
 behind Whole = []
 behind Front = codes ".."
@@ -62,6 +65,7 @@ behind Front = codes ".."
 abbrev pub tail_of : Event → List ℕ
 tail_of (Entered port extent frame) = behind extent
 tail_of (Left gem extent number frame) = behind extent
+tail_of (LeftOneOf gem extent among) = behind extent ++ flat_map (λ n. 32 ∷ decimal n) among.numbers
 tail_of (Strayed gem extent frame) = behind extent
 tail_of _ = []
 

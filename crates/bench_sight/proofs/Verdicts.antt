@@ -8,7 +8,7 @@ use Rattle.frame_meaning.specs.declared.verdict.Verdict.TheVariants.{Forward, Dr
 use Rattle.bench_history.specs.declared.extent.Extent.{Extent}
 use Rattle.bench_history.specs.declared.gem.SeenGem.{SeenGem}
 use Rattle.bench_history.specs.declared.event.Event.{Event}
-use Rattle.bench_history.specs.declared.event.Event.TheVariants.{Sent, Replied, Entered, Left, Strayed, Dropped, Lost, Waited, Ended, Nothing}
+use Rattle.bench_history.specs.declared.event.Event.TheVariants.{Sent, Replied, Excused, Entered, Left, LeftOneOf, Strayed, Dropped, Lost, Waited, Ended, Nothing}
 use Rattle.bench_sight.specs.Sight.{IsSeenAs, agree, is_gem}
 
 module _ (padded : Bool) (extent : Extent) where
@@ -17,8 +17,10 @@ module _ (padded : Bool) (extent : Extent) where
   no_left (Left seen seen_extent number bytes) gem frame none seen_as = none seen seen_extent number bytes refl
   no_left (Sent message) gem frame none seen_as = seen_as
   no_left (Replied reply) gem frame none seen_as = seen_as
+  no_left (Excused reply) gem frame none seen_as = seen_as
   no_left (Entered port seen_extent bytes) gem frame none seen_as = seen_as
   no_left (Strayed seen seen_extent bytes) gem frame none seen_as = seen_as
+  no_left (LeftOneOf seen seen_extent among) gem frame none seen_as = seen_as
   no_left (Dropped number) gem frame none seen_as = seen_as
   no_left (Lost number) gem frame none seen_as = seen_as
   no_left (Waited replies) gem frame none seen_as = seen_as
@@ -31,9 +33,11 @@ module _ (padded : Bool) (extent : Extent) where
   no_drop (Lost number) reason none found seen_as = found number refl
   no_drop (Sent message) reason none found seen_as = seen_as
   no_drop (Replied reply) reason none found seen_as = seen_as
+  no_drop (Excused reply) reason none found seen_as = seen_as
   no_drop (Entered port seen_extent bytes) reason none found seen_as = seen_as
   no_drop (Left seen seen_extent number bytes) reason none found seen_as = seen_as
   no_drop (Strayed seen seen_extent bytes) reason none found seen_as = seen_as
+  no_drop (LeftOneOf seen seen_extent among) reason none found seen_as = seen_as
   no_drop (Waited replies) reason none found seen_as = seen_as
   no_drop Ended reason none found seen_as = seen_as
   no_drop Nothing reason none found seen_as = seen_as

@@ -4,13 +4,14 @@ use crate::progress::Shown;
 use bench_judge::{JudgeFault, JudgeSettings, Judgement, judge_pieces, judge_watched};
 use command_words::JudgeWords;
 use commands_files::{History, read_history, read_whole, report_unread};
-use std::alloc::Global;
+use std::alloc::{AllocError, Global};
 use std::fs::File;
 use std::io::{ErrorKind, IsTerminal, Read, Write};
 use std::rt::Files;
 use std::thread::Threads;
+use text_deviations::Observed;
 use text_encode::without_mark;
-use text_judgements::{write_judgement, write_judgement_json};
+use text_judgements::{Told, write_judgement, write_judgement_json};
 use text_writing::{LookFault, Status, TextFault, report_look};
 
 /// Why a history isn't judged.
@@ -52,18 +53,40 @@ fn history_of<
     }
 }
 
+/// The text of a history in parts, each of whole lines.
+fn parts_of(alloc: Global, history: &History) -> Result<Vec<&[u8]>, AllocError> {
+    match history {
+        History::Whole(text) => {
+            let mut parts = Vec::new(alloc);
+            parts.push(without_mark(text))?;
+            Ok(parts)
+        }
+        History::InPieces(pieces) => pieces.parts(alloc),
+    }
+}
+
 /// Writes what a history shows, as text or as JSON.
 fn write_found<O: Write>(
     alloc: Global,
     words: &JudgeWords,
+    history: &History,
     found: &Judgement<'_>,
     out: &mut O,
 ) -> Result<(), TextFault> {
+    let told = Told {
+        allow_unfinished: words.allow_unfinished,
+        start: None,
+    };
     if words.json {
-        write_judgement_json(alloc, found, words.allow_unfinished, out)
-    } else {
-        write_judgement(alloc, found, words.allow_unfinished, out)
+        return write_judgement_json(alloc, found, &told, out);
     }
+    let parts = parts_of(alloc, history)?;
+    let observed = Observed {
+        parts: &parts,
+        start: &[],
+        repeats: false,
+    };
+    write_judgement(alloc, found, &told, &observed, out)
 }
 
 /// Judges a history, and shows on `err` meanwhile how far that is, where it is a terminal and the history long.
@@ -114,7 +137,7 @@ fn judge_text<O: Write, E: Write + IsTerminal>(
     err: &mut E,
 ) -> Result<Status, LookFault> {
     let found = judge_shown(alloc, words, history, err)?;
-    write_found(alloc, words, &found, out)?;
+    write_found(alloc, words, history, &found, out)?;
     Ok(status_of(&found, words.allow_unfinished))
 }
 

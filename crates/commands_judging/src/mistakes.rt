@@ -1,6 +1,8 @@
 //! What is wrong in a line of a history.
-use crate::above::{frame_ended_by, lines_above};
-use crate::parts::{in_bytes, in_end, in_gem, in_number, in_space, unexpected};
+use crate::above::{Named, frame_ended_by, lines_above, next_named};
+use crate::parts::{
+    in_bytes, in_end, in_gem, in_number, in_numbers, in_space, place_of_numbers, unexpected,
+};
 use commands_files::line_of;
 use script_lines::{LINE_LIMIT, read_port};
 use std::fmt;
@@ -19,10 +21,16 @@ pub(crate) enum HistoryMistake {
     },
     /// What stands behind the mark of a line that scripts and dialogues have too.
     Behind(Mistake),
-    /// No line above sent the frame of this number.
-    Unsent(u64),
-    /// The frame of this number has ended in this line.
-    Ended(u64, u64),
+    /// No line above sent this frame.
+    Unsent(Named),
+    /// This frame has ended in this line.
+    Ended(Named, u64),
+    /// This frame may have left, as this line says.
+    Doubtful(Named, u64),
+    /// No line above says that this frame, which stands alone, may have left.
+    Alone(Named),
+    /// One of the frames from this on has ended, or must have left.
+    UsedUp(Named),
     /// Fewer replies were seen.
     Unseen(u64),
     /// The history has ended in this line.
@@ -38,11 +46,37 @@ impl fmt::Display for HistoryMistake {
                 expected,
             } => write!(f, "column {column}: found {found}, expected {expected}"),
             HistoryMistake::Behind(mistake) => write!(f, "{mistake}"),
-            HistoryMistake::Unsent(frame) => {
-                write!(f, "column 3: no line above sent frame {frame}")
+            HistoryMistake::Unsent(Named { number, column }) => {
+                let (number, column) = (*number, *column);
+                write!(f, "column {column}: no line above sent frame {number}")
             }
-            HistoryMistake::Ended(frame, line) => {
-                write!(f, "column 3: frame {frame} has ended in line {line}")
+            HistoryMistake::Ended(Named { number, column }, line) => {
+                let (number, column) = (*number, *column);
+                write!(
+                    f,
+                    "column {column}: frame {number} has ended in line {line}"
+                )
+            }
+            HistoryMistake::Doubtful(Named { number, column }, line) => {
+                let (number, column) = (*number, *column);
+                write!(
+                    f,
+                    "column {column}: frame {number} may have left in line {line}"
+                )
+            }
+            HistoryMistake::Alone(Named { number, column }) => {
+                let (number, column) = (*number, *column);
+                write!(
+                    f,
+                    "column {column}: no line above says that frame {number} may have left, so 'g' names it"
+                )
+            }
+            HistoryMistake::UsedUp(Named { column, .. }) => {
+                let column = *column;
+                write!(
+                    f,
+                    "column {column}: one of these frames has ended or left by the lines above"
+                )
             }
             HistoryMistake::Unseen(count) => {
                 write!(f, "column 3: fewer than {count} replies were seen above")
@@ -55,7 +89,7 @@ impl fmt::Display for HistoryMistake {
 }
 
 /// The marks with which the lines of a history begin.
-const MARKS: &str = "'o', 'r', 'f', 'g', 'd', 'l', 's', 'w', 'e' or '#'";
+const MARKS: &str = "'o', 'r', 'f', 'g', 'd', 'l', 'a', 's', 'w', 'e' or '#'";
 
 /// The line without a carriage return at its end.
 fn content_of(line: &[u8]) -> &[u8] {
@@ -112,6 +146,14 @@ fn in_numbered(content: &[u8]) -> Option<HistoryMistake> {
     }
 }
 
+/// What is wrong with a line that names frames of which one left.
+fn in_one_of(content: &[u8]) -> Option<HistoryMistake> {
+    match place_of_numbers(content) {
+        Ok(place) => in_numbers(content, place),
+        Err(mistake) => Some(mistake),
+    }
+}
+
 /// What is wrong with a line by itself, or None where it may stand somewhere.
 fn in_line(line: &[u8]) -> Option<HistoryMistake> {
     let content = content_of(line);
@@ -120,6 +162,7 @@ fn in_line(line: &[u8]) -> Option<HistoryMistake> {
         [b'o' | b'r' | b'#', ..] => in_told(line),
         [b'f', ..] => in_sent(line, content),
         [b's', ..] => in_seen(content, 1),
+        [b'a', ..] => in_one_of(content),
         [b'g' | b'd' | b'l' | b'w', ..] => in_numbered(content),
         [b'e', ..] => in_end(content, 1),
         _ => Some(unexpected(content, 0, MARKS)),
@@ -134,6 +177,40 @@ fn in_line(line: &[u8]) -> Option<HistoryMistake> {
     bad
 }
 
+/// How many of the frames that a line names are looked for above it, each in all lines.
+const LOOKED_FOR: usize = 10;
+
+/// The first of the frames that a line names, of those that are looked for, which has ended, or is doubtful.
+fn ended_above(text: &[u8], line: u64, content: &[u8]) -> (Option<HistoryMistake>, bool) {
+    let mut least = 0;
+    let mut doubtful = false;
+    for _ in 0..LOOKED_FOR {
+        let Some(named) = next_named(content, least) else {
+            break;
+        };
+        let above = lines_above(text, line, Some(named.number));
+        if let Some(end) = above.ended {
+            return (Some(HistoryMistake::Ended(named, end)), doubtful);
+        }
+        doubtful = doubtful || above.doubtful.is_some();
+        least = named.number.saturating_add(1);
+    }
+    (None, doubtful)
+}
+
+/// Why a line that names frames of which one left, and is good by itself, may not stand behind those above it, which sent so many frames.
+fn in_named(text: &[u8], line: u64, content: &[u8], first: Named, sent: u64) -> HistoryMistake {
+    if let Some(unsent) = next_named(content, sent) {
+        return HistoryMistake::Unsent(unsent);
+    }
+    let is_alone = next_named(content, first.number.saturating_add(1)).is_none();
+    match ended_above(text, line, content) {
+        (Some(mistake), _) => mistake,
+        (None, false) if is_alone => HistoryMistake::Alone(first),
+        (None, _) => HistoryMistake::UsedUp(first),
+    }
+}
+
 /// Why a line that is good by itself may not stand behind those above it.
 fn in_place(text: &[u8], line: u64, content: &[u8]) -> HistoryMistake {
     let frame = frame_ended_by(content);
@@ -141,13 +218,20 @@ fn in_place(text: &[u8], line: u64, content: &[u8]) -> HistoryMistake {
     if let Some(end) = above.finished {
         return HistoryMistake::Finished(end);
     }
-    match (frame, above.ended) {
-        (Some(frame), Some(end)) => HistoryMistake::Ended(frame, end),
-        (Some(frame), None) => HistoryMistake::Unsent(frame),
-        (None, _) => match in_number(content) {
+    if let Some(first) = next_named(content, 0) {
+        return in_named(text, line, content, first, above.sent);
+    }
+    let Some(number) = frame else {
+        return match in_number(content) {
             Ok((count, _)) => HistoryMistake::Unseen(count),
             Err(mistake) => mistake,
-        },
+        };
+    };
+    let named = Named { number, column: 3 };
+    match (above.ended, above.doubtful) {
+        (Some(end), _) => HistoryMistake::Ended(named, end),
+        (None, Some(line)) => HistoryMistake::Doubtful(named, line),
+        (None, None) => HistoryMistake::Unsent(named),
     }
 }
 

@@ -91,20 +91,76 @@ pub(crate) fn in_end(content: &[u8], place: usize) -> Option<HistoryMistake> {
     }
 }
 
-/// What is wrong in hexadecimal digits from a place on, behind which `..` may stand.
-pub(crate) fn in_bytes(content: &[u8], place: usize) -> Option<HistoryMistake> {
+/// The place behind hexadecimal digits and `..`, if that stands behind them.
+fn in_digits(content: &[u8], place: usize) -> Result<usize, HistoryMistake> {
     let bytes = behind(content, place);
     let digits = bytes
         .iter()
         .position(|byte| !byte.is_ascii_hexdigit())
         .unwrap_or(bytes.len());
     let end = place.saturating_add(digits);
-    match behind(content, end) {
-        [] if digits % 2 == 0 => None,
-        [b'.', b'.', ..] if digits % 2 == 0 => in_end(content, end.saturating_add(2)),
-        [b'.', ..] if digits % 2 == 0 => {
-            Some(unexpected(content, end.saturating_add(1), "a second '.'"))
-        }
-        _ => Some(unexpected(content, end, "a hexadecimal digit")),
+    if digits % 2 != 0 {
+        return Err(unexpected(content, end, "a hexadecimal digit"));
     }
+    match behind(content, end) {
+        [b'.', b'.', ..] => Ok(end.saturating_add(2)),
+        [b'.', ..] => Err(unexpected(content, end.saturating_add(1), "a second '.'")),
+        _ => Ok(end),
+    }
+}
+
+/// What is wrong in hexadecimal digits from a place on, behind which `..` may stand.
+pub(crate) fn in_bytes(content: &[u8], place: usize) -> Option<HistoryMistake> {
+    match in_digits(content, place) {
+        Ok(end)
+            if content
+                .get(..end)
+                .is_some_and(|front| front.ends_with(b"..")) => { in_end(content, end) }
+        Ok(end) if end < content.len() => Some(unexpected(content, end, "a hexadecimal digit")),
+        Ok(_) => None,
+        Err(mistake) => Some(mistake),
+    }
+}
+
+/// The number at a place, one of a frame that isn't under another, and the place behind it.
+pub(crate) fn in_next_number(
+    content: &[u8],
+    place: usize,
+    least: u64,
+) -> Result<(u64, usize), HistoryMistake> {
+    let digits = digits_from(content, place);
+    if digits == 0 {
+        return Err(unexpected(content, place, "a decimal digit"));
+    }
+    match number_at(content, place, digits, MOST_DIGITS, u64::from(u32::MAX)) {
+        Some(number) if number >= least => Ok((number, place.saturating_add(digits))),
+        Some(_) => Err(unexpected(content, place, "a number over the one before it")),
+        None => Err(unexpected(content, place, "a number of at most 4294967295")),
+    }
+}
+
+/// The place of the first number behind a GEM port and the bytes of a frame.
+pub(crate) fn place_of_numbers(content: &[u8]) -> Result<usize, HistoryMistake> {
+    let gem = in_gem(content, in_space(content, 1)?)?;
+    let bytes = in_digits(content, in_space(content, gem)?)?;
+    in_space(content, bytes)
+}
+
+/// What is wrong in ascending numbers from a place on, which single spaces separate.
+pub(crate) fn in_numbers(content: &[u8], place: usize) -> Option<HistoryMistake> {
+    let (mut place, mut least) = (place, 0);
+    for _ in 0..content.len() {
+        match in_next_number(content, place, least) {
+            Ok((_, end)) if end >= content.len() => return None,
+            Ok((number, end)) => {
+                place = match in_space(content, end) {
+                    Ok(behind) => behind,
+                    Err(mistake) => return Some(mistake),
+                };
+                least = number.saturating_add(1);
+            }
+            Err(mistake) => return Some(mistake),
+        }
+    }
+    None
 }

@@ -6,7 +6,7 @@ use crate::room::put;
 use bench_judge::{JudgeFault, JudgeSettings, Judgement, judge};
 use onu_cell::{BAD_LINE, FLAGS, NO_MEMORY, SMALL};
 use std::alloc::Global;
-use text_judgements::write_judgement_json;
+use text_judgements::{Told, write_judgement_json};
 
 /// The flags that have a meaning are less.
 const FLAGS_END: u32 = 32;
@@ -81,7 +81,11 @@ pub fn judge_into(
     };
     let unfinished = has_flag(flags, UNFINISHED);
     let mut text = Vec::new(alloc);
-    if write_judgement_json(alloc, &found, unfinished, &mut text).is_err() {
+    let told = Told {
+        allow_unfinished: unfinished,
+        start: None,
+    };
+    if write_judgement_json(alloc, &found, &told, &mut text).is_err() {
         return NO_MEMORY;
     }
     let (number, deviation) = said_of(&found, unfinished);

@@ -29,12 +29,16 @@ const EACH_KIND: &str = "# a history\n\
     g 3 any ..\n\
     f 0 00\n\
     l 0000000004\n\
+    f 1 \n\
+    f 2 \n\
+    a 00012 0F.. 5 0000000006\n\
+    a any  6\n\
     s 00012 0F..\n\
     s any \n\
     e\n\
     # the end\n";
 
-const EACH_SHOWN: [Shown<'static>; 23] = [
+const EACH_SHOWN: [Shown<'static>; 27] = [
     Shown::Nothing,
     Shown::Sent(&[0x00, 0x01, 0x44, 0x0a, 0x01, 0x0c, 0x04, 0x01]),
     Shown::Replied(&[0x00, 0x01, 0x24, 0x0a, 0x01, 0x0c, 0x04, 0x01, 0xff]),
@@ -54,6 +58,15 @@ const EACH_SHOWN: [Shown<'static>; 23] = [
     Shown::Left(3, SeenGem::Any, Extent::Front, &[]),
     Shown::Entered(0, Extent::Whole, &[0x00]),
     Shown::Lost(4),
+    Shown::Entered(1, Extent::Whole, &[]),
+    Shown::Entered(2, Extent::Whole, &[]),
+    Shown::LeftOneOf(
+        SeenGem::Port(12),
+        Extent::Front,
+        &[0x0f],
+        [Some(5), Some(6), None],
+    ),
+    Shown::LeftOneOf(SeenGem::Any, Extent::Whole, &[], [Some(6), None, None]),
     Shown::Strayed(SeenGem::Port(12), Extent::Front, &[0x0f]),
     Shown::Strayed(SeenGem::Any, Extent::Whole, &[]),
     Shown::Ended,

@@ -5,10 +5,12 @@ use bench_judge::{
     Counts, Deviation, End, Evidence, Explanation, Judgement, Step, Wrong, WrongFrame,
 };
 use std::alloc::{AllocError, Global};
+use std::io::Write;
 use std::process::Abort;
 use std::test::Fail;
 use test_fixtures::same;
-use text_judgements::{write_judgement, write_judgement_json};
+use text_deviations::Observed;
+use text_judgements::{Told, write_judgement, write_judgement_json};
 use text_writing::TextFault;
 
 /// A frame with one tag as it was sent.
@@ -48,6 +50,25 @@ fn deviation<'a>(rt: &impl Abort, alloc: Global) -> Judgement<'a> {
     })
 }
 
+const TOLD: Told = Told {
+    allow_unfinished: false,
+    start: None,
+};
+
+/// Writes a judgement of a history of which nothing else is known.
+fn write_alone<W: Write>(
+    alloc: Global,
+    found: &Judgement<'_>,
+    writer: &mut W,
+) -> Result<(), TextFault> {
+    let observed = Observed {
+        parts: &[],
+        start: &[],
+        repeats: false,
+    };
+    write_judgement(alloc, found, &TOLD, &observed, writer)
+}
+
 const NO_VERSION: &str = "deviation at line 30\n\
     frame 7, sent into port 65535 at line 20\n\
     seen g any abcdef..\n\
@@ -61,10 +82,10 @@ const NO_VERSION_JSON: &str = "{\"format\":2,\"explained\":false,\"line\":30,\
 fn where_no_version_is_left_the_bounds_say_so(rt: HostRuntime) {
     let found = deviation(&rt, rt.alloc());
     let mut text = Vec::new(rt.alloc());
-    same!(rt; write_judgement(rt.alloc(), &found, false, &mut text), Ok(()));
+    same!(rt; write_alone(rt.alloc(), &found, &mut text), Ok(()));
     same!(rt; text.as_slice(), NO_VERSION.as_bytes());
     let mut json = Vec::new(rt.alloc());
-    same!(rt; write_judgement_json(rt.alloc(), &found, false, &mut json), Ok(()));
+    same!(rt; write_judgement_json(rt.alloc(), &found, &TOLD, &mut json), Ok(()));
     same!(rt; json.as_slice(), NO_VERSION_JSON.as_bytes());
 }
 
@@ -93,6 +114,7 @@ fn explanation(alloc: Global) -> Result<Judgement<'static>, AllocError> {
             lost: 4,
             open: 2,
             strays: 5,
+            doubtful: 9,
             cut: 6,
         },
         steps,
@@ -102,7 +124,7 @@ fn explanation(alloc: Global) -> Result<Judgement<'static>, AllocError> {
 }
 
 const EXPLAINED: &str = "messages 8 accepted 6 replies 7\n\
-    frames 10 forwarded 3 dropped 1 open 2 strays 5 lost 4 cut 6\n\
+    frames 10 forwarded 3 dropped 1 open 2 strays 5 doubtful 9 lost 4 cut 6\n\
     port 257 version 4 from frame 0 line 12\n\
     port 65535 version 6 from frame 3 line 17\n\
     explained\n";
@@ -112,7 +134,7 @@ fn write_front(rt: &impl Abort, alloc: Global, found: &Judgement<'_>, front: &[u
     let mut bytes = [0; 200];
     let room = front.len().min(200);
     let mut writer = &mut bytes[..room];
-    let outcome = write_judgement(alloc, found, false, &mut writer);
+    let outcome = write_alone(alloc, found, &mut writer);
     same!(rt; outcome, Err(TextFault::Write), "{room} bytes");
     same!(rt; &bytes[..room], front);
 }
@@ -123,7 +145,7 @@ fn an_explained_history_has_counts_and_steps_and_a_full_writer_their_front(
 ) -> Result<(), Fail> {
     let found = explanation(rt.alloc())?;
     let mut text = Vec::new(rt.alloc());
-    same!(rt; write_judgement(rt.alloc(), &found, false, &mut text), Ok(()));
+    same!(rt; write_alone(rt.alloc(), &found, &mut text), Ok(()));
     same!(rt; text.as_slice(), EXPLAINED.as_bytes());
     for room in 0..EXPLAINED.len() {
         write_front(&rt, rt.alloc(), &found, &EXPLAINED.as_bytes()[..room]);

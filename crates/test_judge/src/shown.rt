@@ -7,8 +7,11 @@ use script_lines::MOST_SPELLED;
 pub(crate) enum Shown<'a> {
     Sent(&'a [u8]),
     Replied(&'a [u8]),
+    Excused(&'a [u8]),
     Entered(u16, Extent, &'a [u8]),
     Left(u32, SeenGem, Extent, &'a [u8]),
+    /// With the first three frames of those of which it is one.
+    LeftOneOf(SeenGem, Extent, &'a [u8], [Option<u32>; 3]),
     Strayed(SeenGem, Extent, &'a [u8]),
     Dropped(u32),
     Lost(u32),
@@ -22,6 +25,7 @@ pub(crate) fn show<'b>(event: &Event<'_>, buffer: &'b mut [u8; MOST_SPELLED]) ->
     match event {
         Event::Sent { message } => Shown::Sent(message.read(buffer)),
         Event::Replied { reply } => Shown::Replied(reply.read(buffer)),
+        Event::Excused { reply } => Shown::Excused(reply.read(buffer)),
         Event::Entered {
             port,
             extent,
@@ -33,6 +37,15 @@ pub(crate) fn show<'b>(event: &Event<'_>, buffer: &'b mut [u8; MOST_SPELLED]) ->
             number,
             frame,
         } => Shown::Left(*number, *gem, *extent, frame.read(buffer)),
+        Event::LeftOneOf { gem, extent, among } => {
+            let mut numbers = among.numbers();
+            let first = [
+                numbers.take_least(),
+                numbers.take_least(),
+                numbers.take_least(),
+            ];
+            Shown::LeftOneOf(*gem, *extent, among.frame().read(buffer), first)
+        }
         Event::Strayed { gem, extent, frame } => {
             Shown::Strayed(*gem, *extent, frame.read(buffer))
         }

@@ -49,6 +49,13 @@ const STRAY: &[u8] = b"\
     f 257 02000000000102000000000208004500\n\
     s any 02000000000102000000000208004500..\n";
 
+/// One of two frames leaves, both of which no version forwards.
+const ONE_OF: &[u8] = b"\
+    w\n\
+    f 257 02000000000102000000000208004500\n\
+    f 258 02000000000102000000000208004500\n\
+    a 1024 02000000000102000000000208004500 0 1\n";
+
 /// Whether a judgement is that of the first history.
 fn is_explained(judgement: &Judgement<'_>) -> bool {
     let Judgement::Explained(explanation) = judgement else {
@@ -72,6 +79,10 @@ fn deviation(judgement: &Judgement<'_>) -> (usize, &'static str) {
         Wrong::Unasked { .. } => "unasked",
         Wrong::Reply(_) => "reply",
         Wrong::Stray { .. } => "stray",
+        Wrong::OneOf(wrong) => match wrong.candidates.as_slice() {
+            [first, second] if first.number == 0 && second.sent_line == 3 => "one of",
+            _ => "",
+        },
         Wrong::Frame(frame) => match frame.runs.as_slice() {
             [first, second] if first.from == 1 && second.to == 3 => match &second.answer {
                 Answer::Left(_) => "frame",
@@ -107,6 +118,7 @@ pub(crate) fn make_calls<R: Print>(rt: &R, memory: &Memory) {
         ("judge of a wrong reply", WRONG_REPLY, 2, "reply"),
         ("judge of a reply to nothing", UNASKED, 2, "unasked"),
         ("judge of a stray", STRAY, 3, "stray"),
+        ("judge of one of two frames", ONE_OF, 4, "one of"),
     ] {
         report(rt, memory, call, call_judge(memory, history, line, kind));
     }

@@ -16,6 +16,6 @@ pub use rules::write_rules;
 pub use rules_json::write_rules_json;
 pub use steps::{Incoming, write_explanation};
 pub use steps_json::write_explanation_json;
-pub use traced::Traced;
+pub use traced::{PortEntries, Traced};
 pub use verdict::VerdictWords;
 pub use words::{MismatchWords, OriginWords};

@@ -14,7 +14,7 @@ pub struct Traced<'a> {
 
 /// The table in force at a port, with what set its entries.
 #[derive(Clone, Copy)]
-pub(crate) struct PortEntries<'a> {
+pub struct PortEntries<'a> {
     pub(crate) table: &'a RuleTable,
     /// The number of its extended VLAN tagging operation configuration data.
     pub(crate) instance: u16,
@@ -23,7 +23,7 @@ pub(crate) struct PortEntries<'a> {
 
 impl<'a> PortEntries<'a> {
     /// Those of the table in force, if one is.
-    pub(crate) fn at(traced: &Traced<'a>, port: u16) -> Option<PortEntries<'a>> {
+    pub fn at(traced: &Traced<'a>, port: u16) -> Option<PortEntries<'a>> {
         let instance = match table_in_force(traced.mib, port) {
             TableInForce::NoTable => return None,
             TableInForce::OfPort(instance) | TableInForce::OfMapper { instance, .. } => instance,
@@ -36,13 +36,13 @@ impl<'a> PortEntries<'a> {
         })
     }
 
-    /// The number of the entry at a place.
-    pub(crate) fn number(&self, place: usize) -> Option<usize> {
+    /// The number of the entry at a place, in the order in which entries are tried, counted from 0.
+    pub fn number(&self, place: usize) -> Option<usize> {
         number_of(self.table, place)
     }
 
     /// The line of the trace that set the entry at a place.
-    pub(crate) fn line(&self, place: usize) -> Option<u64> {
+    pub fn line(&self, place: usize) -> Option<u64> {
         let entry = self.table.entry(place)?;
         setting_line(self.accepted, self.instance, entry.key())
     }

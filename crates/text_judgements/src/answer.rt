@@ -3,10 +3,8 @@ use crate::digits::{DigitWords, first_bytes, last_bytes};
 use bench_history::{Digits, Extent, SeenGem};
 use bench_judge::{Answer, End, Leaving, Run};
 use std::fmt;
+use text_deviations::ADDRESSES;
 use text_entities::HexWords;
-
-/// How many bytes the two addresses at the head of a frame have (IEEE 802.3, clause 3.1.1).
-const ADDRESSES: usize = 12;
 
 /// The bytes of a frame as it leaves, as hexadecimal digits of lower case. Those of its addresses and of its rest are those of the
 /// frame that was sent.

@@ -27,6 +27,7 @@ impl fmt::Display for CountWords<'_> {
             "frames {frames} forwarded {forwarded} dropped {dropped} open {unended}"
         )?;
         write_other(f, "strays", self.0.strays)?;
+        write_other(f, "doubtful", self.0.doubtful)?;
         write_other(f, "lost", self.0.lost)?;
         write_other(f, "cut", self.0.cut)
     }
@@ -41,7 +42,7 @@ fn write_other<W: fmt::Write>(f: &mut fmt::Formatter<W>, name: &str, count: usiz
     }
 }
 
-/// The members of how much a history has of what. No line of a history says yet that a frame is doubtful.
+/// The members of how much a history has of what.
 #[derive(Clone, Copy)]
 pub(crate) struct CountMembers<'j>(pub(crate) &'j Counts);
 
@@ -49,7 +50,8 @@ impl fmt::Display for CountMembers<'_> {
     fn fmt<W: fmt::Write>(&self, f: &mut fmt::Formatter<W>) -> fmt::Result {
         let (messages, accepted, replies) = (self.0.messages, self.0.accepted, self.0.replies);
         let (forwarded, dropped, unended) = (self.0.forwarded, self.0.dropped, self.0.open);
-        let (strays, lost, cut) = (self.0.strays, self.0.lost, self.0.cut);
+        let (strays, doubtful) = (self.0.strays, self.0.doubtful);
+        let (lost, cut) = (self.0.lost, self.0.cut);
         write!(
             f,
             "\"messages\":{messages},\"accepted\":{accepted},\"replies\":{replies},"
@@ -60,7 +62,7 @@ impl fmt::Display for CountMembers<'_> {
         )?;
         write!(
             f,
-            "\"strays\":{strays},\"doubtful\":0,\"lost\":{lost},\"cut\":{cut}}}"
+            "\"strays\":{strays},\"doubtful\":{doubtful},\"lost\":{lost},\"cut\":{cut}}}"
         )
     }
 }

@@ -1,9 +1,10 @@
 //! What becomes of a frame, and what is seen of it, as JSON.
 use crate::answer::LeavingDigits;
 use crate::digits::DigitWords;
-use crate::judgement_json::FORMAT;
+use crate::judgement_json::Around;
 use bench_history::{Digits, Extent, SeenGem};
-use bench_judge::{Answer, End, Run, WrongFrame};
+use bench_judge::{Answer, Candidate, End, Run, WrongFrame, WrongOneOf};
+use json::Writer;
 use std::alloc::{AllocError, Global};
 use std::fmt;
 use std::io::Write;
@@ -15,10 +16,10 @@ pub(crate) fn stray_object(
     alloc: Global,
     line: usize,
     seen: LeftValue<'_, '_>,
+    around: Around<'_>,
 ) -> Result<String, AllocError> {
-    format!(in alloc;
-        "{{\"format\":{FORMAT},\"explained\":false,\"line\":{line},\"stray\":{seen}}}\n"
-    )
+    let (front, behind) = (around.front, around.behind);
+    format!(in alloc; "{front}\"line\":{line},\"stray\":{seen}{behind}\n")
 }
 
 /// Writes a frame that ended as by none of the versions that are left to it.
@@ -26,18 +27,67 @@ pub(crate) fn write_frame<W: Write>(
     alloc: Global,
     line: usize,
     wrong: &WrongFrame<'_>,
+    around: Around<'_>,
     writer: &mut W,
 ) -> Result<(), TextFault> {
     let mut text = JsonText::new(alloc);
     let frame = FrameMembers(wrong);
-    let front = format!(in alloc;
-        "{{\"format\":{FORMAT},\"explained\":false,\"line\":{line},\"frame\":{{{frame},\"versions\":"
-    )?;
+    let (front, behind) = (around.front, around.behind);
+    let front = format!(in alloc; "{front}\"line\":{line},\"frame\":{{{frame},\"versions\":")?;
     text.begin(writer, &front)?;
     for run in &wrong.runs {
-        write_run(alloc, &mut text, run, wrong, writer)?;
+        let mut object = text.object()?;
+        put_run(alloc, &mut object, run, &wrong.sent, wrong.extent)?;
+        text.write(writer, object)?;
     }
-    text.end(writer, "}}")
+    let behind = format!(in alloc; "}}{behind}")?;
+    text.end(writer, &behind)
+}
+
+/// Writes a frame that left as none of those that it may be does, and each of these.
+pub(crate) fn write_one_of<W: Write>(
+    alloc: Global,
+    line: usize,
+    wrong: &WrongOneOf<'_>,
+    around: Around<'_>,
+    writer: &mut W,
+) -> Result<(), TextFault> {
+    let mut text = JsonText::new(alloc);
+    let (gem, extent, frame) = (wrong.gem, wrong.extent, &wrong.frame);
+    let seen = LeftValue { gem, extent, frame };
+    let (front, behind) = (around.front, around.behind);
+    let front = format!(in alloc;
+        "{front}\"line\":{line},\"one_of\":{{\"seen\":{seen},\"frames\":"
+    )?;
+    text.begin(writer, &front)?;
+    for candidate in &wrong.candidates {
+        let mut object = text.object()?;
+        put_candidate(alloc, &mut object, candidate)?;
+        text.write(writer, object)?;
+    }
+    let behind = format!(in alloc; "}}{behind}")?;
+    text.end(writer, &behind)
+}
+
+/// Puts the members of a frame that one that left may be.
+fn put_candidate(
+    alloc: Global,
+    object: &mut Writer,
+    candidate: &Candidate<'_>,
+) -> Result<(), AllocError> {
+    put_number(object, "number", candidate.number as u64)?;
+    put_number(object, "port", u64::from(candidate.port))?;
+    put_number(object, "sent_line", candidate.sent_line as u64)?;
+    put_number(object, "at_least", candidate.at_least as u64)?;
+    put_number(object, "at_most", candidate.at_most as u64)?;
+    object.key("versions")?;
+    object.begin_array()?;
+    for run in &candidate.runs {
+        object.begin_object()?;
+        put_run(alloc, object, run, &candidate.sent, candidate.extent)?;
+        object.end_object()?;
+    }
+    object.end_array()
 }
 
 /// The members of a frame up to its versions.
@@ -113,27 +163,23 @@ impl fmt::Display for SeenValue<'_, '_> {
     }
 }
 
-/// Writes the object of a run of versions.
-fn write_run<W: Write>(
+/// Puts the members of a run of versions of a frame, as it was sent.
+fn put_run(
     alloc: Global,
-    text: &mut JsonText,
+    object: &mut Writer,
     run: &Run,
-    wrong: &WrongFrame<'_>,
-    writer: &mut W,
-) -> Result<(), TextFault> {
-    let mut object = text.object()?;
-    put_number(&mut object, "from", run.from as u64)?;
-    put_number(&mut object, "to", run.to as u64)?;
+    sent: &Digits<'_>,
+    extent: Extent,
+) -> Result<(), AllocError> {
+    put_number(object, "from", run.from as u64)?;
+    put_number(object, "to", run.to as u64)?;
     match &run.answer {
         Answer::Left(leaving) => {
-            put_number(&mut object, "gem", u64::from(leaving.gem))?;
-            let sent = wrong.sent.as_digits();
+            put_number(object, "gem", u64::from(leaving.gem))?;
+            let sent = sent.as_digits();
             let digits = LeavingDigits { leaving, sent };
-            put_words(alloc, &mut object, digits_key(wrong.extent), &digits)?;
+            put_words(alloc, object, digits_key(extent), &digits)
         }
-        Answer::Dropped(reason) => {
-            put_number(&mut object, "reason", u64::from(reason.code()))?;
-        }
+        Answer::Dropped(reason) => put_number(object, "reason", u64::from(reason.code())),
     }
-    text.write(writer, object)
 }

@@ -1,35 +1,58 @@
 //! What a history shows, as JSON.
 use crate::counts::CountMembers;
 use crate::digits::DigitWords;
-use crate::frame_json::{LeftValue, stray_object, write_frame};
+use crate::frame_json::{LeftValue, stray_object, write_frame, write_one_of};
+use crate::told::Told;
 use bench_judge::{Deviation, Evidence, Explanation, Judgement, Step, Wrong, WrongReply};
 use json::Writer;
 use std::alloc::{AllocError, Global};
 use std::io::Write;
-use text_entities::{HexWords, JsonText, put_flag, put_number, put_words};
+use text_entities::{HexWords, JsonText, put_number, put_words};
 use text_writing::{TextFault, write_whole};
 
 /// The number of the format of these objects. In the first `explained` was true of each history without a deviation, and `gem` a number.
-pub(crate) const FORMAT: u64 = 2;
+const FORMAT: u64 = 2;
+
+/// What stands before and behind the members of a deviation.
+#[derive(Clone, Copy)]
+pub(crate) struct Around<'f> {
+    pub(crate) front: &'f str,
+    pub(crate) behind: &'f str,
+}
 
 /// Writes what a history shows as one object of JSON (RFC 8259), whose member `explained` says whether it is a pass: a right unit may have
-/// behaved so, the history has an end line, unless none is asked for, and something of it was judged.
+/// behaved so, the history has an end line, unless none is asked for, and something of it was judged. Where a script was carried out first,
+/// `start` has the number of its accepted requests.
 ///
 /// Of one that a right unit explains: `finished`, `evidence`, `messages`, `accepted`, `replies`, `frames` by their ends, and `versions`, an
 /// object for each frame whose least version is greater than that of all ended frames before it at its port. Of another: `line`, the first
-/// that no right unit explains, and `reply`, `frame` or `stray`, what was seen by it, what the model replies, and what becomes of the frame
-/// by each version that is left to it. The objects of an array stand on lines of their own.
+/// that no right unit explains, and `reply`, `frame`, `one_of` or `stray`, what was seen by it, what the model replies, and what becomes of
+/// the frame by each version that is left to it. The objects of an array stand on lines of their own.
 pub fn write_judgement_json<W: Write>(
     alloc: Global,
     judgement: &Judgement<'_>,
-    allow_unfinished: bool,
+    told: &Told,
     writer: &mut W,
 ) -> Result<(), TextFault> {
     match judgement {
-        Judgement::Explained(explanation) => {
-            write_explanation(alloc, explanation, allow_unfinished, writer)
+        Judgement::Explained(explanation) => write_explanation(alloc, explanation, told, writer),
+        Judgement::Deviates(deviation) => {
+            let front = front_of(alloc, told)?;
+            let front = format!(in alloc; "{front}\"explained\":false,")?;
+            let around = Around {
+                front: &front,
+                behind: "}",
+            };
+            write_deviation(alloc, deviation, around, writer)
         }
-        Judgement::Deviates(deviation) => write_deviation(alloc, deviation, writer),
+    }
+}
+
+/// The first members of each object: the format, and how many requests were accepted before the history.
+fn front_of(alloc: Global, told: &Told) -> Result<String, AllocError> {
+    match told.start {
+        Some(start) => format!(in alloc; "{{\"format\":{FORMAT},\"start\":{start},"),
+        None => format!(in alloc; "{{\"format\":{FORMAT},"),
     }
 }
 
@@ -37,16 +60,17 @@ pub fn write_judgement_json<W: Write>(
 fn write_explanation<W: Write>(
     alloc: Global,
     explanation: &Explanation,
-    allow_unfinished: bool,
+    told: &Told,
     writer: &mut W,
 ) -> Result<(), TextFault> {
     let mut text = JsonText::new(alloc);
-    let passes = explanation.passes(allow_unfinished);
+    let front = front_of(alloc, told)?;
+    let passes = explanation.passes(told.allow_unfinished);
     let finished = explanation.finished;
     let evidence = matches!(explanation.evidence, Evidence::Judged);
     let counts = CountMembers(&explanation.counts);
     let front = format!(in alloc;
-        "{{\"format\":{FORMAT},\"explained\":{passes},\"finished\":{finished},\"evidence\":{evidence},{counts},\"versions\":"
+        "{front}\"explained\":{passes},\"finished\":{finished},\"evidence\":{evidence},{counts},\"versions\":"
     )?;
     text.begin(writer, &front)?;
     for step in &explanation.steps {
@@ -65,54 +89,53 @@ fn write_step<W: Write>(text: &mut JsonText, step: &Step, writer: &mut W) -> Res
     text.write(writer, object)
 }
 
-/// Writes the first line that no right unit explains.
+/// Writes a line that no right unit explains.
 fn write_deviation<W: Write>(
     alloc: Global,
     deviation: &Deviation<'_>,
+    around: Around<'_>,
     writer: &mut W,
 ) -> Result<(), TextFault> {
     let line = deviation.line;
     match &deviation.wrong {
         Wrong::Unasked { reply } => {
-            let object = reply_object(alloc, line, None, reply.as_digits())?;
-            write_whole(writer, &object)?;
-            Ok(())
+            write_reply(alloc, line, None, reply.as_digits(), around, writer)
         }
         Wrong::Reply(wrong) => {
-            let object = reply_object(alloc, line, Some(wrong), wrong.reply.as_digits())?;
-            write_whole(writer, &object)?;
-            Ok(())
+            let seen = wrong.reply.as_digits();
+            write_reply(alloc, line, Some(wrong), seen, around, writer)
         }
-        Wrong::Frame(wrong) => write_frame(alloc, line, wrong, writer),
+        Wrong::Frame(wrong) => write_frame(alloc, line, wrong, around, writer),
+        Wrong::OneOf(wrong) => write_one_of(alloc, line, wrong, around, writer),
         Wrong::Stray { gem, extent, frame } => {
             let (gem, extent) = (*gem, *extent);
-            let text = stray_object(alloc, line, LeftValue { gem, extent, frame })?;
+            let text = stray_object(alloc, line, LeftValue { gem, extent, frame }, around)?;
             write_whole(writer, text.as_bytes())?;
             Ok(())
         }
     }
 }
 
-/// The object of a reply by its line and its digits, which is other than the model's or, without one, which no request waits for.
-fn reply_object(
+/// Writes the object of a reply by its line and its digits, which is other than the model's or, without one, which no request waits for.
+fn write_reply<W: Write>(
     alloc: Global,
     line: usize,
     wrong: Option<&WrongReply<'_>>,
     seen: &[u8],
-) -> Result<Vec<u8>, AllocError> {
+    around: Around<'_>,
+    writer: &mut W,
+) -> Result<(), TextFault> {
     let mut object = Writer::new(Vec::new(alloc));
-    object.begin_object()?;
-    put_number(&mut object, "format", FORMAT)?;
-    put_flag(&mut object, "explained", false)?;
-    put_number(&mut object, "line", line as u64)?;
-    object.key("reply")?;
     object.begin_object()?;
     put_reply(alloc, &mut object, wrong, seen)?;
     object.end_object()?;
-    object.end_object()?;
-    let mut text = object.into_inner();
-    text.push(b'\n')?;
-    Ok(text)
+    let (front, behind) = (around.front, around.behind);
+    let front = format!(in alloc; "{front}\"line\":{line},\"reply\":")?;
+    write_whole(writer, front.as_bytes())?;
+    write_whole(writer, &object.into_inner())?;
+    let behind = format!(in alloc; "{behind}\n")?;
+    write_whole(writer, behind.as_bytes())?;
+    Ok(())
 }
 
 /// Puts the members of a reply.

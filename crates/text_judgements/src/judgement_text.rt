@@ -2,35 +2,53 @@
 use crate::answer::{EndWords, RunWords, SeenWords};
 use crate::counts::{CountWords, frames_of};
 use crate::digits::DigitWords;
-use bench_history::Digits;
+use crate::told::Told;
+use bench_history::{Digits, Extent};
 use bench_judge::{
-    Deviation, Evidence, Explanation, Judgement, Run, Step, Wrong, WrongFrame, WrongReply,
+    Candidate, Deviation, Evidence, Explanation, Judgement, Run, Step, Wrong, WrongFrame,
+    WrongOneOf, WrongReply,
 };
 use std::alloc::{AllocError, Global};
 use std::io::Write;
+use text_deviations::{Lines, Observed, write_beside};
 use text_entities::HexWords;
 use text_writing::{TextFault, write_whole};
 
 /// Writes what a history shows.
 ///
-/// Of one that a right unit explains: how many messages, replies and frames it has, a line for each frame whose least version is greater
-/// than that of all ended frames before it at its port, and `explained`. In place of `explained` stands why it isn't a pass: it has no end
-/// line, unless that is allowed, or nothing of it was judged. Of another: the first line that no right unit explains, what was seen by it,
-/// and what the model replies, or what becomes of the frame by each version that is left to it.
+/// The first line is `start N` where a script was carried out first. Of a history that a right unit explains: how many messages, replies and
+/// frames it has, a line for each frame whose least version is greater than that of all ended frames before it at its port, and `explained`.
+/// In place of `explained` stands why it isn't a pass: it has no end line, unless that is allowed, or nothing of it was judged. Of another:
+/// the first line that no right unit explains, what was seen by it, and what the model replies, or what becomes of the frame by each version
+/// that is left to it; and last what differs, what decided it, and where the event was seen.
 ///
 /// A line is made in memory before it is written, and none is kept.
 pub fn write_judgement<W: Write>(
     alloc: Global,
     judgement: &Judgement<'_>,
-    allow_unfinished: bool,
+    told: &Told,
+    observed: &Observed<'_>,
     writer: &mut W,
 ) -> Result<(), TextFault> {
+    write_start(alloc, told, writer)?;
     match judgement {
         Judgement::Explained(explanation) => {
-            write_explanation(alloc, explanation, allow_unfinished, writer)
+            write_explanation(alloc, explanation, told.allow_unfinished, writer)
         }
-        Judgement::Deviates(deviation) => write_deviation(alloc, deviation, writer),
+        Judgement::Deviates(deviation) => {
+            let history = Lines::of(alloc, observed)?;
+            write_deviation(alloc, deviation, &history, writer)
+        }
     }
+}
+
+/// Writes how many requests were accepted before the history.
+fn write_start<W: Write>(alloc: Global, told: &Told, writer: &mut W) -> Result<(), TextFault> {
+    if let Some(start) = told.start {
+        let text = format!(in alloc; "start {start}\n")?;
+        write_whole(writer, text.as_bytes())?;
+    }
+    Ok(())
 }
 
 /// Writes what a history shows that a right unit explains.
@@ -89,33 +107,37 @@ fn write_step<W: Write>(alloc: Global, step: &Step, writer: &mut W) -> Result<()
     Ok(())
 }
 
-/// Writes the first line that no right unit explains.
+/// Writes a line that no right unit explains.
 fn write_deviation<W: Write>(
     alloc: Global,
     deviation: &Deviation<'_>,
+    history: &Lines<'_>,
     writer: &mut W,
 ) -> Result<(), TextFault> {
     let line = deviation.line;
     let front = format!(in alloc; "deviation at line {line}\n")?;
     write_whole(writer, front.as_bytes())?;
     match &deviation.wrong {
-        Wrong::Unasked { reply } => {
-            let text = unasked(alloc, reply)?;
+        Wrong::Frame(wrong) => write_frame(alloc, wrong, writer)?,
+        Wrong::OneOf(wrong) => write_one_of(alloc, wrong, writer)?,
+        wrong => {
+            let text = lines_of(alloc, wrong)?;
             write_whole(writer, text.as_bytes())?;
-            Ok(())
         }
-        Wrong::Reply(wrong) => {
-            let text = wrong_reply(alloc, wrong)?;
-            write_whole(writer, text.as_bytes())?;
-            Ok(())
-        }
-        Wrong::Frame(wrong) => write_frame(alloc, wrong, writer),
+    }
+    write_beside(alloc, deviation, history, writer)
+}
+
+/// The lines of what is wrong where it has no versions.
+fn lines_of(alloc: Global, wrong: &Wrong<'_>) -> Result<String, AllocError> {
+    match wrong {
+        Wrong::Unasked { reply } => unasked(alloc, reply),
+        Wrong::Reply(wrong) => wrong_reply(alloc, wrong),
         Wrong::Stray { gem, extent, frame } => {
             let (gem, extent) = (*gem, *extent);
-            let text = stray(alloc, SeenWords { gem, extent, frame })?;
-            write_whole(writer, text.as_bytes())?;
-            Ok(())
+            stray(alloc, SeenWords { gem, extent, frame })
         }
+        Wrong::Frame(_) | Wrong::OneOf(_) => Ok(String::new(alloc)),
     }
 }
 
@@ -163,10 +185,7 @@ fn write_frame<W: Write>(
         write_whole(writer, text.as_bytes())?;
         return Ok(());
     }
-    for run in &wrong.runs {
-        write_run(alloc, run, wrong, writer)?;
-    }
-    Ok(())
+    write_runs(alloc, &wrong.runs, &wrong.sent, wrong.extent, writer)
 }
 
 /// The lines of which frame it is, and of how it was seen to end.
@@ -184,19 +203,65 @@ fn no_version(alloc: Global, wrong: &WrongFrame<'_>) -> Result<String, AllocErro
     )
 }
 
-/// Writes the line of a run of versions.
-fn write_run<W: Write>(
+/// Writes a line for each run of versions of a frame, as it was sent.
+fn write_runs<W: Write>(
     alloc: Global,
-    run: &Run,
-    wrong: &WrongFrame<'_>,
+    runs: &[Run],
+    sent: &Digits<'_>,
+    extent: Extent,
     writer: &mut W,
 ) -> Result<(), TextFault> {
-    let words = RunWords {
-        run,
-        sent: wrong.sent.as_digits(),
-        extent: wrong.extent,
-    };
-    let text = format!(in alloc; "{words}\n")?;
-    write_whole(writer, text.as_bytes())?;
+    let sent = sent.as_digits();
+    for run in runs {
+        let words = RunWords { run, sent, extent };
+        let text = format!(in alloc; "{words}\n")?;
+        write_whole(writer, text.as_bytes())?;
+    }
     Ok(())
+}
+
+/// Writes the lines of a frame that left as none of those that it may be does.
+fn write_one_of<W: Write>(
+    alloc: Global,
+    wrong: &WrongOneOf<'_>,
+    writer: &mut W,
+) -> Result<(), TextFault> {
+    let front = one_of_front(alloc, wrong)?;
+    write_whole(writer, front.as_bytes())?;
+    for candidate in &wrong.candidates {
+        write_candidate(alloc, candidate, writer)?;
+    }
+    Ok(())
+}
+
+/// The lines of which frames it may be, and of how it was seen to leave.
+fn one_of_front(alloc: Global, wrong: &WrongOneOf<'_>) -> Result<String, AllocError> {
+    let mut text = String::new(alloc);
+    text.push_str("one of the frames")?;
+    for candidate in &wrong.candidates {
+        let number = candidate.number;
+        write!(text, " {number}")?;
+    }
+    let (gem, extent, frame) = (wrong.gem, wrong.extent, &wrong.frame);
+    let seen = SeenWords { gem, extent, frame };
+    writeln!(text, "\nseen a {seen}")?;
+    Ok(text)
+}
+
+/// Writes the lines of a frame that it may be: which one, and what its versions mean for it.
+fn write_candidate<W: Write>(
+    alloc: Global,
+    candidate: &Candidate<'_>,
+    writer: &mut W,
+) -> Result<(), TextFault> {
+    let (number, port, line) = (candidate.number, candidate.port, candidate.sent_line);
+    let front = format!(in alloc; "frame {number}, sent into port {port} at line {line}\n")?;
+    write_whole(writer, front.as_bytes())?;
+    write_runs(
+        alloc,
+        &candidate.runs,
+        &candidate.sent,
+        candidate.extent,
+        writer,
+    )
 }

@@ -9,6 +9,8 @@ mod digits;
 mod frame_json;
 mod judgement_json;
 mod judgement_text;
+mod told;
 
 pub use judgement_json::write_judgement_json;
 pub use judgement_text::write_judgement;
+pub use told::Told;

@@ -14,4 +14,5 @@ invariant-loop-event l = record {
   strays : l.counts.strays ≡ count_by is_stray (take l.event-index l.events);
   cut : l.counts.cut ≡ count_by is_cut (take l.event-index l.events);
   accepted : l.counts.accepted ≡ l.accepted;
+  doubtful : l.counts.doubtful ≡ l.doubtful;
 }

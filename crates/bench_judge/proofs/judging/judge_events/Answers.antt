@@ -1,4 +1,4 @@
-use Rattle.std.proofs.Common.{rules, ◌<◌, length}
+use Rattle.std.proofs.Common.{rules, ◌<◌, arith, length, refl}
 use Rattle.bench_judge.specs.declared.judgement.Wrong.TheVariants.{Frame}
 use Rattle.bench_judge.proofs.Found.{all_explained, count_all, frame_deviates, frames_all, known_all, frames_sent, event_deviates}
 use Rattle.bench_judge.proofs.judging.judge_events.Goals as goal
@@ -10,8 +10,8 @@ returns-in_default g c =
 
 pub returns-then-walk-events : goal.returns-then-walk-events
 returns-then-walk-events g c =
-    event_deviates c.args.settings.now c.args.events.now c.in_ok-walk.walk c.in_ok-walk.ensures c.wrong_event.result c.in_ok-versions.field-0 c.in-Some.versions c.in-Some.is
-    c.in_ok-versions.ensures c.if-walk-events.true c.wrong_event.ensures
+    event_deviates c.args.settings.now c.args.events.now c.in_ok-walk.walk c.in_ok-walk.ensures c.in_ok-wrong_event.field-0 c.in_ok-versions.field-0 c.in-Some.versions c.in-Some.is
+    c.in_ok-versions.ensures c.if-walk-events.true c.in_ok-wrong_event.ensures
 
 pub steps-requires : goal.steps-requires
 steps-requires g c =
@@ -23,13 +23,30 @@ returns g c =
     all_explained c.args.settings.now c.args.events.now c.in_ok-walk.walk c.in_ok-walk.ensures c.counts-counts.result c.in_ok-steps.field-0 c.in_ok-versions.field-0 c.in-Some.versions
     c.if-walk-events.false c.in-Some.is c.in_ok-versions.ensures c.counts-counts.ensures
     c.is_finished.result c.is_finished.ensures c.evidence.result
-    (c.evidence.ensures c.args.events.now
-    (frames_all c.args.settings.now c.args.events.now c.in_ok-walk.walk c.in_ok-walk.ensures c.deref-4.result.now c.deref-4.ensures.value c.if-walk-events.false)
-    (count_all c.args.settings.now c.args.events.now c.in_ok-walk.walk c.in_ok-walk.ensures c.deref-4.result.now c.deref-4.ensures.value c.if-walk-events.false)
-    c.counts-counts.ensures.replies)
+    c.evidence.ensures
     c.in_ok-steps.ensures.none
     c.deref-2.result.now c.deref-3.result.now c.deref-2.ensures.value c.deref-3.ensures.value c.in_ok-steps.ensures.steps
 
 pub counts-counts-requires-clause-known : goal.counts-counts-requires-clause-known
 counts-counts-requires-clause-known g c =
     known_all c.args.settings.now c.args.events.now c.in_ok-walk.walk c.in_ok-walk.ensures c.deref.result.now c.deref.ensures.value c.if-walk-events.false
+
+pub doubtful-requires : goal.doubtful-requires
+doubtful-requires g c =
+    let all = count_all c.args.settings.now c.args.events.now c.in_ok-walk.walk c.in_ok-walk.ensures c.in_ok-walk.walk.frames.items refl c.if-walk-events.false in
+    omega (arith, all, c.len-3.ensures, c.in_ok-walk.walk.frames.ok.0)
+
+pub evidence-requires-clause-known : goal.evidence-requires-clause-known
+evidence-requires-clause-known g c =
+    known_all c.args.settings.now c.args.events.now c.in_ok-walk.walk c.in_ok-walk.ensures c.deref-4.result.now c.deref-4.ensures.value c.if-walk-events.false
+
+pub evidence-requires-clause-frames : goal.evidence-requires-clause-frames
+evidence-requires-clause-frames g c =
+    frames_all c.args.settings.now c.args.events.now c.in_ok-walk.walk c.in_ok-walk.ensures c.deref-4.result.now c.deref-4.ensures.value c.if-walk-events.false
+
+pub evidence-requires-clause-count : goal.evidence-requires-clause-count
+evidence-requires-clause-count g c =
+    count_all c.args.settings.now c.args.events.now c.in_ok-walk.walk c.in_ok-walk.ensures c.deref-4.result.now c.deref-4.ensures.value c.if-walk-events.false
+
+pub evidence-requires-clause-replies : goal.evidence-requires-clause-replies
+evidence-requires-clause-replies g c = c.counts-counts.ensures.replies

@@ -1,8 +1,8 @@
 use Rattle.std.proofs.Common.{sym, subst}
-use Rattle.bench_judge.specs.Walk.{AreInOrder}
-use Rattle.bench_judge.proofs.InOrder.{history_in_order}
+use Rattle.bench_judge.specs.Walk.{AreSound}
+use Rattle.bench_judge.proofs.InOrder.{history_is_sound}
 use Rattle.bench_judge.proofs.judging.judge_watched.Goals as goal
 
 pub judge_events-requires : goal.judge_events-requires
 judge_events-requires g c =
-    subst AreInOrder (sym c.deref.ensures.value) (history_in_order c.args.history.now c.in-Ok.events.items c.in-Ok.ensures.events)
+    subst AreSound (sym c.deref.ensures.value) (history_is_sound c.args.history.now c.in-Ok.events.items c.in-Ok.ensures.events)

@@ -1,7 +1,6 @@
 use Rattle.std.proofs.Common.{◌≡◌, ◌∙◌, ◌<◌, Some, ap, sym, refl, length, slice_get}
 use Rattle.std.proofs.lemmas.Bool.{ltb-true}
 use Rattle.std.proofs.lemmas.Option.{slice_get_read}
-use Rattle.bench_history.specs.declared.event.Event.TheVariants.{Entered}
 use Rattle.bench_judge.proofs.SeenBy.{seen_decides}
 use Rattle.bench_judge.proofs.seeing.is_seen.Goals as goal
 

@@ -1,16 +1,18 @@
-use Rattle.std.proofs.Common.{◌≡◌, ◌<◌, ◌≤◌, ◌∙◌, ℕ, Bool, Some, length, take, refl, subst, arith}
+use Rattle.std.proofs.Common.{◌≡◌, ◌<◌, ◌≤◌, ◌∙◌, ℕ, Some, length, refl, subst, sym, arith}
 use Rattle.std.specs.List.{slice_get}
 use Rattle.std.proofs.lemmas.Bool.{false≢true}
 use Rattle.std.proofs.lemmas.Option.{slice_get_read}
 use Rattle.bench_judge.specs.Scene.{IsScene}
 use Rattle.bench_judge.specs.Walk.{IsWalk}
 use Rattle.bench_judge.specs.declared.settings.JudgeSettings.{JudgeSettings}
+use Rattle.bench_judge.proofs.Doubted.{latest_on}
 use Rattle.bench_judge.proofs.walk.walk_through.Goals as goal
 
 pub loop-place-init : goal.loop-place-init
 loop-place-init c = record {
   settings = c.in_ok-scene.ensures.settings;
   scene = c.in_ok-scene.ensures.scene c.args.events.now;
+  latest = tt;
 }
 
 pub loop-place-preserved : goal.loop-place-preserved
@@ -21,14 +23,16 @@ loop-place-preserved c =
     let is = c.loop-place.invariant.scene in
     let less : place < length events = omega arith in
     let at : slice_get events place ≡ Some event = slice_get_read events (length events) place event refl less c.index-events-place.is in
-    let admitted = (c.if-not-admits.ensures events place is).0 refl in
+    let admitted = (c.in_ok-is_admitted.ensures.is place is).0 c.if-not-branch.false in
+    let now = c.in_ok-add.ensures.scene events at (c.requires place event at) admitted is in
     record {
       settings = c.add.ensures.settings ∙ c.loop-place.invariant.settings;
-      scene = c.in_ok-add.ensures.scene events at (c.requires place event at) admitted is;
+      scene = now;
+      latest = latest_on events place c.loop-place.scene c.add.new.self c.is_admitted.new.latest is now c.is_admitted.ensures.latest;
     }
 
-pub returns-then-not-admits : goal.returns-then-not-admits
-returns-then-not-admits c =
+pub returns-then-not-branch : goal.returns-then-not-branch
+returns-then-not-branch c =
     let events = c.args.events.now in
     let place : ℕ = c.loop-place.place in
     let event = c.index-events-place.result in
@@ -36,9 +40,9 @@ returns-then-not-admits c =
     let less : place < length events = omega arith in
     let within : place ≤ length events = omega arith in
     let at : slice_get events place ≡ Some event = slice_get_read events (length events) place event refl less c.index-events-place.is in
-    let decides = c.if-not-admits.ensures events place is in
+    let decides = c.in_ok-is_admitted.ensures.is place is in
     subst (λ (s : JudgeSettings). IsWalk s events c.into_walk.result) c.loop-place.invariant.settings
-    (c.into_walk.ensures events c.requires within is (λ _. record { seen = event; is = at; refused = λ admitted. false≢true (decides.1 admitted) }))
+    (c.into_walk.ensures events c.requires within is (λ _. record { seen = event; is = at; refused = λ admitted. false≢true (sym c.if-not-branch.true ∙ decides.1 admitted) }))
 
 pub returns : goal.returns
 returns c =

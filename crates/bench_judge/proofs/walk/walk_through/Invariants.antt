@@ -1,4 +1,5 @@
 use Rattle.std.proofs.Common.{◌≡◌}
+use Rattle.bench_judge.specs.Doubt.{IsLatest}
 use Rattle.bench_judge.specs.Scene.{IsScene}
 use Rattle.bench_judge.proofs.walk.walk_through.Given as goal
 
@@ -7,4 +8,5 @@ abbrev pub invariant-loop-place : goal.invariant-loop-place
 invariant-loop-place l = record {
   settings : l.scene.settings ≡ l.settings;
   scene : IsScene l.events l.place l.scene;
+  latest : IsLatest l.scene.asking.requests.items l.latest;
 }

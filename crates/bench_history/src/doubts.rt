@@ -1,0 +1,245 @@
+//! Frames of which it can't be seen which one left.
+ghost use Rattle.std.specs.Prelude.{◌≡◌, ◌<◌, ◌≤◌, ◌==◌, ◌&&◌, ◌||◌, ◌++◌, ◌^◌, ◌∷◌, [], ℕ, IfOk, List, drop, false, length, map, max, nat_lt, slice_index_or, take, true};
+ghost use Rattle.std.specs.List.{count_by, list_all, list_any};
+ghost use Rattle.bench_history.specs.History.{are_among, doubts_in, have_left, is_among};
+ghost use Rattle.bench_history.specs.Doubts.{IsDoubted, last_or, raised, reach_of, reach_on, settles};
+ghost use Rattle.bench_history.specs.declared.doubts.Doubt.{Doubt};
+ghost use Rattle.bench_history.specs.declared.event.Event.{Event};
+
+use crate::among::Among;
+use crate::event::Event;
+use std::alloc::{AllocError, Global};
+
+/// Frames of which an event says that one left.
+#[derive(Drop)]
+pub(crate) struct Doubt {
+    /// Their numbers, in ascending order.
+    pub(crate) frames: Vec<u32>,
+    /// The greatest number among these and the frames of all doubts before this one.
+    pub(crate) reach: u32,
+    /// How many events that name only frames among these are missing until there are as many as these.
+    pub(crate) missing: usize,
+}
+
+/// What is kept of the events that say so.
+#[derive(Drop)]
+pub(crate) struct Doubts {
+    alloc: Global,
+    /// The frames of each, in order.
+    pub(crate) doubts: Vec<Doubt>,
+    /// Whether a frame is named by any, by its number; of one behind the last it is false.
+    pub(crate) doubtful: Vec<bool>,
+    /// Whether a frame is used up, likewise.
+    pub(crate) used_up: Vec<bool>,
+}
+
+/// Whether a frame is one of some.
+fn is_among(frames: &[u32], number: u32) -> bool
+    ensures { result ≡ is_among frames.now number }
+{
+    frames.iter().any(|frame| *frame == number)
+}
+
+/// Whether frames are all among some.
+fn are_among(frames: &[u32], some: &[u32]) -> bool
+    ensures { result ≡ are_among frames.now some.now }
+{
+    some.iter().all(|number| is_among(frames, *number))
+}
+
+/// Makes room for the flag of a place.
+fn cover(flags: &mut Vec<bool>, place: usize) -> Result<(), AllocError>
+    requires { place < 2 ^ 32 }
+    ensures room { IfOk result (λ _. place < length flags.new.items) }
+    ensures same { IfOk result (λ _. (n : ℕ)
+        → slice_index_or flags.new.items n false ≡ slice_index_or flags.old.items n false) }
+{
+    if flags.len() <= place {
+        flags.resize(place + 1, false)?;
+    }
+    Ok(())
+}
+
+/// Sets the flag of a frame.
+fn set_flag(flags: &mut Vec<bool>, number: u32) -> Result<(), AllocError>
+    ensures { IfOk result (λ _. (n : ℕ) → slice_index_or flags.new.items n false
+        ≡ (number == n || slice_index_or flags.old.items n false)) }
+{
+    let place = number as usize;
+    cover(flags, place)?;
+    flags[place] = true;
+    Ok(())
+}
+
+/// Sets the flags of frames.
+fn mark(flags: &mut Vec<bool>, frames: &[u32]) -> Result<(), AllocError>
+    ensures { IfOk result (λ _. (n : ℕ) → slice_index_or flags.new.items n false
+        ≡ (is_among frames.now n || slice_index_or flags.old.items n false)) }
+{
+    for number in frames {
+        set_flag(flags, *number)?;
+    }
+    Ok(())
+}
+
+/// Sets the flags of the frames of a doubt that misses no event.
+fn settle_one(flags: &mut Vec<bool>, doubt: &Doubt) -> Result<(), AllocError>
+    ensures { IfOk result (λ _. (n : ℕ) → slice_index_or flags.new.items n false
+        ≡ (settles n doubt.now || slice_index_or flags.old.items n false)) }
+{
+    if doubt.missing == 0 {
+        return mark(flags, &doubt.frames);
+    }
+    Ok(())
+}
+
+/// The same of doubts.
+fn settle(flags: &mut Vec<bool>, doubts: &[Doubt]) -> Result<(), AllocError>
+    ensures { IfOk result (λ _. (n : ℕ) → slice_index_or flags.new.items n false
+        ≡ (list_any (settles n) doubts.now
+        || slice_index_or flags.old.items n false)) }
+{
+    for doubt in doubts {
+        settle_one(flags, doubt)?;
+    }
+    Ok(())
+}
+
+/// A doubt, behind one more event that says so of some frames.
+fn raise(doubt: &mut Doubt, frames: &[u32])
+    ensures { doubt.new ≡ raised frames.now doubt.old }
+{
+    if are_among(&doubt.frames, frames) {
+        doubt.missing = doubt.missing.saturating_sub(1);
+    }
+}
+
+/// The same of doubts.
+fn raise_each(doubts: &mut [Doubt], frames: &[u32])
+    ensures { doubts.new ≡ map (raised frames.now) doubts.old }
+{
+    for i in 0..doubts.len() {
+        raise(&mut doubts[i], frames);
+    }
+}
+
+/// The same of doubts from one on.
+fn raise_from(doubts: &mut Vec<Doubt>, near: usize, frames: &[u32])
+    requires { near ≤ length doubts.old.items }
+    ensures { doubts.new.items
+        ≡ take near doubts.old.items ++ map (raised frames.now) (drop near doubts.old.items) }
+{
+    raise_each(&mut doubts[near..], frames);
+}
+
+/// How many doubts are about frames that are all among some.
+fn count_among(doubts: &[Doubt], frames: &[u32]) -> usize
+    ensures { result ≡ count_by (λ (doubt : Doubt). are_among frames.now doubt.frames.items) doubts.now }
+{
+    let mut count = 0;
+    for doubt in doubts {
+        if are_among(frames, &doubt.frames) {
+            count += 1;
+        }
+    }
+    count
+}
+
+/// Where the doubts begin that may share a frame with some from a number on: those before it have none from there on.
+fn first_near(doubts: &[Doubt], least: u32) -> usize
+    ensures within { result ≤ length doubts.now }
+    ensures before { reach_on 0 doubts.now ≡ true
+        → list_all (λ (doubt : Doubt). nat_lt doubt.reach least) (take result doubts.now) ≡ true }
+{
+    doubts.partition_point(|doubt| doubt.reach < least)
+}
+
+/// How far doubts reach together with frames, in ascending order.
+fn reach_with(doubts: &[Doubt], frames: &[u32]) -> u32
+    ensures { result ≡ max (reach_of doubts.now) (last_or 0 frames.now) }
+{
+    let far = match doubts.last() {
+        Some(doubt) => doubt.reach,
+        None => 0,
+    };
+    match frames.last() {
+        Some(last) => far.max(*last),
+        None => far,
+    }
+}
+
+/// The numbers of the frames of which one left.
+fn collected(alloc: Global, among: &Among<'_>) -> Result<Vec<u32>, AllocError>
+    ensures { IfOk result (λ frames. frames.items ≡ among.now.numbers) }
+{
+    let mut frames = Vec::new(alloc);
+    let mut numbers = among.numbers();
+    while let Some(number) = numbers.take_least() {
+        frames.push(number)?;
+    }
+    Ok(frames)
+}
+
+impl Doubts {
+    /// What no event leaves.
+    pub(crate) fn new(alloc: Global) -> Self
+        ensures { IsDoubted [] result }
+    {
+        Doubts {
+            alloc,
+            doubts: Vec::new(alloc),
+            doubtful: Vec::new(alloc),
+            used_up: Vec::new(alloc),
+        }
+    }
+
+    /// Whether the frame of a number is doubtful.
+    pub(crate) fn is_doubtful(&self, number: u32) -> bool
+        ensures { (named : List (List ℕ)) → IsDoubted named self.now
+            → result ≡ list_any (λ frames. is_among frames number) named }
+    {
+        matches!(self.doubtful.get(number as usize), Some(true))
+    }
+
+    /// Whether it is used up.
+    pub(crate) fn is_used_up(&self, number: u32) -> bool
+        ensures { (named : List (List ℕ)) → IsDoubted named self.now
+            → result ≡ list_any (λ frames. is_among frames number && have_left frames named) named }
+    {
+        matches!(self.used_up.get(number as usize), Some(true))
+    }
+
+    /// Adds an event that says that one of several frames left.
+    fn add(&mut self, among: &Among<'_>) -> Result<(), AllocError>
+        ensures { (named : List (List ℕ)) → IsDoubted named self.old
+            → IfOk result (λ _. IsDoubted (named ++ among.now.numbers ∷ []) self.new) }
+    {
+        let frames = collected(self.alloc, among)?;
+        let near = first_near(&self.doubts, among.least());
+        let count = count_among(self.doubts.split_at(near).1, &frames);
+        raise_from(&mut self.doubts, near, &frames);
+        settle(&mut self.used_up, self.doubts.split_at(near).1)?;
+        mark(&mut self.doubtful, &frames)?;
+        let missing = frames.len().saturating_sub(count + 1);
+        let reach = reach_with(&self.doubts, &frames);
+        let doubt = Doubt {
+            frames,
+            reach,
+            missing,
+        };
+        settle_one(&mut self.used_up, &doubt)?;
+        self.doubts.push(doubt)?;
+        Ok(())
+    }
+
+    /// Adds an event.
+    pub(crate) fn follow(&mut self, event: &Event<'_>) -> Result<(), AllocError>
+        ensures { (events : List Event) → IsDoubted (doubts_in events) self.old
+            → IfOk result (λ _. IsDoubted (doubts_in (events ++ event.now ∷ [])) self.new) }
+    {
+        match event {
+            Event::LeftOneOf { among, .. } => self.add(among),
+            _ => Ok(()),
+        }
+    }
+}

@@ -1,0 +1,46 @@
+//! Which events a right unit may have shown by themselves.
+ghost use Rattle.std.specs.Prelude.{ℕ, Decides, IfOk, take};
+ghost use Rattle.bench_judge.specs.Admitted.{IsAdmitted};
+ghost use Rattle.bench_judge.specs.Doubt.{IsLatest};
+ghost use Rattle.bench_judge.specs.Scene.{IsScene};
+
+use crate::doubt::{Doubtful, Latest, is_one_of};
+use crate::frame::Case;
+use crate::scene::Scene;
+use bench_history::Event;
+use std::alloc::{AllocError, Global};
+
+/// Whether an event by itself is one that a right unit may have shown behind those of a scene.
+pub(crate) fn is_admitted(
+    alloc: Global,
+    scene: &Scene,
+    events: &[Event<'_>],
+    event: &Event<'_>,
+    latest: &mut Option<Latest>,
+) -> Result<bool, AllocError>
+    requires { IsLatest scene.now.asking.requests.items latest.old }
+    ensures latest { IsLatest scene.now.asking.requests.items latest.new }
+    ensures is { IfOk result (λ is. (place : ℕ) → IsScene events.now place scene.now
+        → Decides is (IsAdmitted scene.now.settings (take place events.now) event.now)) }
+{
+    match event {
+        Event::Replied { reply } => Ok(scene.is_right(reply)),
+        Event::Strayed { .. } => Ok(scene.settings.strays),
+        Event::LeftOneOf { gem, extent, among } => {
+            let case = Case {
+                events,
+                requests: &scene.asking.requests,
+                frames: &scene.frames,
+                padded: scene.settings.padded,
+                unordered: scene.settings.unordered,
+            };
+            let doubtful = Doubtful {
+                gem: *gem,
+                extent: *extent,
+                among,
+            };
+            is_one_of(alloc, latest, &case, &doubtful)
+        }
+        _ => Ok(true),
+    }
+}

@@ -1,0 +1,5 @@
+mod Examples
+pub mod Actions
+pub mod Decided
+pub mod Lengths
+pub mod Own
