@@ -675,6 +675,13 @@ class TextTest(unittest.TestCase):
         self.assertEqual(judge(history, allow_strays=True).details["frames"]["strays"], 1)
         self.assertTrue(judge(history, allow_strays=True).explained)
 
+    def test_frames_of_which_one_left(self) -> None:
+        found = judge(self.history("a 1024 %s 0 1" % UNTAGGED, "e"))
+        self.assertEqual((found.explained, found.details["frames"]["doubtful"], found.details["frames"]["open"]), (True, 2, 2))
+        found = judge(self.history("a 1025 %s 0 1" % UNTAGGED, "e"))
+        self.assertEqual((found.line, found.details["one_of"]["seen"]), (12, {"gem": 1025, "frame": UNTAGGED}))
+        self.assertEqual([frame["number"] for frame in found.details["one_of"]["frames"]], [0, 1])
+
     def test_a_frame_that_is_padded(self) -> None:
         history = self.history("g 0 1024 " + UNTAGGED.ljust(120, "0"), "e")
         self.assertEqual(judge(history, modelled=True, unordered=True, allow_strays=True, allow_unfinished=True).line, 12)

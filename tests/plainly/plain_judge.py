@@ -3,18 +3,38 @@ a history by itself, tries each version at each frame, and takes the frames of a
 becomes of a frame by each version, it asks of a model that it is given. It is asked by the options of `judge`."""
 import re
 
+from model import LAYOUTS
+
 HEX = rb"((?:[0-9A-Fa-f]{2})*)"
 FRAME = HEX + rb"(\.\.)?"
 GEM = rb"(any|[0-9]{1,5})"
 NUMBER = rb"([0-9]{1,10})"
 LINES = {kind: re.compile(pattern) for kind, pattern in (
     ("o", rb"o " + HEX), ("r", rb"r " + HEX), ("f", rb"f ([0-9]{1,5}) " + FRAME), ("g", rb"g " + NUMBER + b" " + GEM + b" " + FRAME),
-    ("s", rb"s " + GEM + b" " + FRAME), ("d", rb"d " + NUMBER), ("l", rb"l " + NUMBER), ("w", rb"w(?: " + NUMBER + b")?"), ("e", rb"e"))}
-MOST = {"f": [65535], "g": [4294967295, 65535], "s": [65535], "d": [4294967295], "l": [4294967295], "w": [4294967295], "e": []}
+    ("a", rb"a " + GEM + b" " + FRAME + b" ([0-9]{1,10}(?: [0-9]{1,10})*)"), ("s", rb"s " + GEM + b" " + FRAME), ("d", rb"d " + NUMBER),
+    ("l", rb"l " + NUMBER), ("w", rb"w(?: " + NUMBER + b")?"), ("e", rb"e"))}
+MOST_OF_NUMBER = 4294967295
+MOST = {"f": [65535], "g": [MOST_OF_NUMBER, 65535], "a": [65535], "s": [65535], "d": [MOST_OF_NUMBER], "l": [MOST_OF_NUMBER],
+        "w": [MOST_OF_NUMBER], "e": []}
 MODELLED_ACTIONS = (4, 6, 8, 9, 26)
 MODELLED_CLASSES = (130, 171, 266, 268)
 # What is known of a frame is enough where it has as many bytes; and a wire makes a frame as long.
 ENOUGH, LONG = 24, 68
+
+
+def own_places(action, entity, asked, reply):
+    """The places of a reply where a real unit may have bytes of its own: values of read-only attributes, and a table."""
+    if action == 26:
+        return range(8, 40) if entity == 171 and asked[8:10] == b"\x04\x00" else ()
+    if action != 9:
+        return ()
+    places, at = set(), 11
+    for place, (width, access) in enumerate(LAYOUTS[entity]):
+        if int.from_bytes(reply[9:11], "big") >> 15 - place & 1:
+            width = 4 if access == "T" else width
+            places.update(range(at, at + width) if access in "RT" else ())
+            at += width
+    return {place for place in places if place < 36}
 
 
 class BadLine(Exception):
@@ -54,16 +74,38 @@ def event_of(line):
         return None
     if kind in "or":
         return kind, bytes.fromhex(found[1].decode())
-    *numbers, data, end = found.groups() if kind in "fgs" else (*found.groups(), None, None)
+    groups, named = list(found.groups()), []
+    if kind == "a":
+        named = [int(digits) for digits in groups.pop().split(b" ")]
+        if named[-1] > MOST_OF_NUMBER or any(one >= other for one, other in zip(named, named[1:])):
+            return None
+    *numbers, data, end = groups if kind in "fgas" else (*groups, None, None)
     numbers = ["any" if digits == b"any" else digits and int(digits) for digits in numbers]
     if any(isinstance(value, int) and value > most for value, most in zip(numbers, MOST[kind])):
         return None
-    return (kind, *numbers) if data is None else (kind, *numbers, Bytes(bytes.fromhex(data.decode()), end is not None))
+    seen = () if data is None else (Bytes(bytes.fromhex(data.decode()), end is not None),)
+    return (kind, *numbers, *seen, named) if kind == "a" else (kind, *numbers, *seen)
+
+
+def is_doubtful(number, doubts):
+    """Whether one of the lines `a`, of which each names some frames, names the frame of a number."""
+    return any(number in named for named in doubts)
+
+
+def is_used_up(number, doubts):
+    """Whether a line `a` names the frame, and at least as many of these lines as it names frames name no other frames than it."""
+    return any(number in named and len(named) <= sum(1 for other in doubts if set(other) <= set(named)) for named in doubts)
+
+
+def may_be_left(named, frames, ended, doubts):
+    """Whether one of the frames that a line `a` names may have left behind the lines above, which sent so many frames."""
+    may = all(number < frames and number not in ended and not is_used_up(number, doubts) for number in named)
+    return may and (len(named) > 1 or is_doubtful(named[0], doubts))
 
 
 def read_history(text):
     """The events of a history, one for each line."""
-    events, frames, replies, ended, is_over = [], 0, 0, set(), False
+    events, frames, replies, ended, doubts, is_over = [], 0, 0, set(), [], False
     for number, line in enumerate(lines_of(text), 1):
         event = event_of(line)
         if event is None or is_over and event[0]:
@@ -72,9 +114,13 @@ def read_history(text):
         frames += event[0] == "f"
         replies += event[0] == "r"
         if event[0] in ("g", "d", "l"):
-            if event[1] >= frames or event[1] in ended:
+            if event[1] >= frames or event[1] in ended or is_doubtful(event[1], doubts):
                 raise BadLine(number)
             ended.add(event[1])
+        if event[0] == "a":
+            if not may_be_left(event[3], frames, ended, doubts):
+                raise BadLine(number)
+            doubts.append(event[3])
         if event[0] == "w" and event[1] is not None and event[1] > replies:
             raise BadLine(number)
         events.append(event)
@@ -103,9 +149,13 @@ class Frame:
     def __init__(self, number, place, port, data):
         self.number, self.sent, self.port, self.data, self.place = number, place, port, data, None
 
+    def is_known(self):
+        """Of a frame of which too little is known nothing is said."""
+        return not self.data.is_front or len(self.data.data) >= ENOUGH
+
     def is_judged(self):
-        """Of a frame of which too little is known nothing is said: it is as one that hasn't ended."""
-        return self.place is not None and (not self.data.is_front or len(self.data.data) >= ENOUGH)
+        """One that isn't known is as one that hasn't ended."""
+        return self.place is not None and self.is_known()
 
 
 class Shown:
@@ -126,8 +176,11 @@ class Shown:
         self.asked = [(place, data, *answer) for (place, data), answer in zip(sent, answers) if answer is not None]
         self.waiting = [asked for asked in self.asked if asked[3]]
         self.ended = [frame for frame in self.frames if frame.is_judged()]
+        self.doubts = [event[3] for event in events if event[0] == "a"]
+        for frame in self.frames:
+            frame.least = self.least_at(frame.sent)
         for frame in self.ended:
-            frame.least, frame.most = self.least_at(frame.sent), self.accepted_before(frame.place)
+            frame.most = self.accepted_before(frame.place)
             frame.fitting = [version for version in range(frame.least, frame.most + 1) if self.is_seen(frame, version)]
 
     def accepted_before(self, place):
@@ -149,12 +202,25 @@ class Shown:
         """What would leave of a frame: of its front, the front."""
         return Bytes(fate[1], frame.data.is_front)
 
+    def leaves_so(self, frame, version, gem, seen):
+        """Whether a frame leaves by a version as one was seen to."""
+        fate = self.fates[frame.number][version]
+        return isinstance(fate, tuple) and gem in ("any", fate[0]) and may_be(self.left_by(frame, fate), seen, "--padded" in self.options)
+
     def is_seen(self, frame, version):
         """Whether a frame ended as by a version."""
-        event, fate = self.events[frame.place], self.fates[frame.number][version]
-        if event[0] != "g" or not isinstance(fate, tuple):
-            return event[0] != "g" and not isinstance(fate, tuple)
-        return event[2] in ("any", fate[0]) and may_be(self.left_by(frame, fate), event[3], "--padded" in self.options)
+        event = self.events[frame.place]
+        if event[0] != "g":
+            return not isinstance(self.fates[frame.number][version], tuple)
+        return self.leaves_so(frame, version, event[2], event[3])
+
+    def may_be_one(self, place):
+        """Whether one of the frames that a line `a` names may have left so, each by itself: too little is known of it, or some version of its
+        window lets it. The window ends with this line."""
+        _, gem, seen, named = self.events[place]
+        versions = range(self.accepted_before(place) + 1)
+        return any(not frame.is_known() or any(self.leaves_so(frame, version, gem, seen) for version in versions[frame.least:])
+                   for frame in (self.frames[number] for number in named))
 
     def request_before(self, place):
         """The request that a reply at a place answers, if one waits."""
@@ -168,8 +234,8 @@ class Shown:
         _, asked, reply, _, _ = request
         action, entity = asked[2] & 31, int.from_bytes(asked[4:6], "big")
         whole = not self.modelled or action == 15 or action in MODELLED_ACTIONS and entity in MODELLED_CLASSES
-        compared = 40 if whole else 8
-        return seen[:compared] == reply[:compared]
+        own = own_places(action, entity, asked, reply) if self.modelled and whole else ()
+        return all(seen[at] == reply[at] or at in own for at in range(40 if whole else 8))
 
     def least_versions(self, front):
         """The least version of each frame that ended before a place, or None where one has none."""
@@ -211,11 +277,11 @@ class Shown:
         return found
 
     def counts(self):
-        """What became of all frames; and the lines of strays, and the frames of which only a front is known."""
+        """What became of all frames; the lines of strays; and the frames that are doubtful, or of which only a front is known."""
         ends = [self.events[frame.place][0] for frame in self.ended]
         return {"forwarded": ends.count("g"), "dropped": ends.count("d"), "open": len(self.frames) - len(ends),
-                "strays": self.count_before("s", len(self.events)), "doubtful": 0, "lost": ends.count("l"),
-                "cut": sum(1 for frame in self.frames if frame.data.is_front)}
+                "strays": self.count_before("s", len(self.events)), "doubtful": len({number for named in self.doubts for number in named}),
+                "lost": ends.count("l"), "cut": sum(1 for frame in self.frames if frame.data.is_front)}
 
     def explained(self, chosen):
         events, steps, last = self.events, [], {}
@@ -225,8 +291,9 @@ class Shown:
             last[port] = version
         messages, replies = (self.count_before(kind, len(events)) for kind in "or")
         is_finished = ("e",) in events
-        # Replies alone are no evidence of what became of frames.
-        has_evidence = bool(self.ended) if self.frames else replies > 0
+        # Replies alone are no evidence of what became of frames, and neither is a line that a frame explains of which too little is known.
+        has_judged = bool(self.ended) or any(all(self.frames[number].is_known() for number in named) for named in self.doubts)
+        has_evidence = has_judged if self.frames else replies > 0
         return {"format": 2, "explained": has_evidence and (is_finished or "--allow-unfinished" in self.options), "finished": is_finished,
                 "evidence": has_evidence, "messages": messages, "accepted": self.accepted_before(len(events)), "replies": replies,
                 "frames": self.counts(), "versions": [] if self.unordered else steps}
@@ -236,11 +303,21 @@ class Shown:
         return {"reply": {"request_line": request and request[0] + 1, "seen": self.events[place][1].hex(),
                           "model": request and request[2].hex()}}
 
+    def of_frame(self, frame, least, most):
+        """What is said of a frame and of the versions from one to another."""
+        bounds = {"at_least": least, "at_most": most, "versions": self.runs(frame, least, most)}
+        return {"number": frame.number, "port": frame.port, "sent_line": frame.sent + 1}, bounds
+
     def wrong_frame(self, frame):
-        event, (least, most) = self.events[frame.place], self.bounds(frame)
+        event = self.events[frame.place]
         seen = {"d": "dropped", "l": "lost"}[event[0]] if event[0] != "g" else {"gem": event[2], **event[3].in_json()}
-        return {"frame": {"number": frame.number, "port": frame.port, "sent_line": frame.sent + 1, "seen": seen, "at_least": least,
-                          "at_most": most, "versions": self.runs(frame, least, most)}}
+        sent, bounds = self.of_frame(frame, *self.bounds(frame))
+        return {"frame": {**sent, "seen": seen, **bounds}}
+
+    def wrong_one(self, place):
+        _, gem, seen, named = self.events[place]
+        frames = [self.of_frame(self.frames[number], self.frames[number].least, self.accepted_before(place)) for number in named]
+        return {"one_of": {"seen": {"gem": gem, **seen.in_json()}, "frames": [{**sent, **bounds} for sent, bounds in frames]}}
 
     def wrong_at(self, place):
         """What no right unit does at a place, or None where the events up to there are explained as those before them are."""
@@ -249,6 +326,8 @@ class Shown:
             return self.wrong_reply(place)
         if event[0] == "s" and "--allow-strays" not in self.options:
             return {"stray": {"gem": event[1], **event[2].in_json()}}
+        if event[0] == "a" and not self.may_be_one(place):
+            return self.wrong_one(place)
         if event[0] in ("g", "d", "l") and self.least_versions(place + 1) is None:
             return self.wrong_frame(self.frames[event[1]])
         return None
@@ -282,16 +361,34 @@ def end_of(found):
     return f"d {found['reason']}" if "reason" in found else f"g {left_in_words(found)}"
 
 
-def lines_of_frame(frame):
-    seen = frame["seen"]
-    yield f"frame {frame['number']}, sent into port {frame['port']} at line {frame['sent_line']}"
-    yield {"dropped": "seen d", "lost": "not seen to leave"}[seen] if isinstance(seen, str) else f"seen g {left_in_words(seen)}"
+def line_of_sent(frame):
+    """Which frame it is."""
+    return f"frame {frame['number']}, sent into port {frame['port']} at line {frame['sent_line']}"
+
+
+def lines_of_versions(frame):
     for run in frame["versions"]:
         first, last = run["from"], run["to"]
         yield (f"version {first} " if first == last else f"versions {first} to {last} ") + end_of(run)
+
+
+def lines_of_frame(frame):
+    seen = frame["seen"]
+    yield line_of_sent(frame)
+    yield {"dropped": "seen d", "lost": "not seen to leave"}[seen] if isinstance(seen, str) else f"seen g {left_in_words(seen)}"
+    yield from lines_of_versions(frame)
     if not frame["versions"]:
         least, most = frame["at_least"], frame["at_most"]
         yield f"no version is left: at least {least} by frames before it or by what was waited for, at most {most}"
+
+
+def lines_of_one(one_of):
+    """The frames of which one was seen to leave, and what each of their versions does to them."""
+    yield "one of the frames " + " ".join(str(frame["number"]) for frame in one_of["frames"])
+    yield f"seen a {left_in_words(one_of['seen'])}"
+    for frame in one_of["frames"]:
+        yield line_of_sent(frame)
+        yield from lines_of_versions(frame)
 
 
 def sent_in(found):
@@ -312,10 +409,10 @@ def lines_of_end(found, options):
 
 
 def in_words(found, options=()):
-    """The lines that `judge` writes of what is found, by the options of `judge`."""
+    """The lines that `judge` writes of what is found, by the options of `judge`, but for those of what differs."""
     if "line" not in found:
         frames = found["frames"]
-        more = "".join(f" {key} {frames[key]}" for key in ("strays", "lost", "cut") if frames[key])
+        more = "".join(f" {key} {frames[key]}" for key in ("strays", "doubtful", "lost", "cut") if frames[key])
         yield f"messages {found['messages']} accepted {found['accepted']} replies {found['replies']}"
         yield f"frames {sent_in(found)} forwarded {frames['forwarded']} dropped {frames['dropped']} open {frames['open']}{more}"
         for step in found["versions"]:
@@ -326,6 +423,9 @@ def in_words(found, options=()):
     if "stray" in found:
         yield "a frame left that no open frame can be"
         yield f"seen s {left_in_words(found['stray'])}"
+        return
+    if "one_of" in found:
+        yield from lines_of_one(found["one_of"])
         return
     if "frame" in found:
         yield from lines_of_frame(found["frame"])
