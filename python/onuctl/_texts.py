@@ -61,10 +61,10 @@ def judge(
 ) -> Finding:
     """Judges a history (docs/FORMATS.md, "Histories"): whether a right unit may have behaved so.
 
-    ``modelled`` compares the contents of replies only where their requests are on classes that the model has; ``unordered`` judges each
-    frame by itself; ``allow_strays`` lets frames leave that were never sent, or have left before; ``padded`` lets a frame of fewer than 68
-    bytes be seen with zeros behind it, up to 68; and ``allow_unfinished`` lets a history without an end line be explained. Raises
-    :class:`BadLine`.
+    ``modelled`` compares the contents of replies only where their requests are on classes that the model has, and there no values of
+    read-only attributes and no table; ``unordered`` judges each frame by itself; ``allow_strays`` lets frames leave that were never sent, or
+    have left before; ``padded`` lets a frame of fewer than 68 bytes be seen with zeros behind it, up to 68; and ``allow_unfinished`` lets a
+    history without an end line be explained. Raises :class:`BadLine`.
     """
     given = text_of("history", history)
     settings = (modelled, unordered, allow_strays, padded, allow_unfinished)
