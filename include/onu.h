@@ -54,7 +54,8 @@ extern "C" {
 /** A flag that has no meaning is set. Nothing was read or written. */
 #define ONU_FLAGS (-22)
 
-/** A flag of onu_judge(): contents of replies are compared only where their requests are on classes that the model has. */
+/** A flag of onu_judge(): contents of replies are compared only where their requests are on classes that the model has, and there no values of
+ * read-only attributes and no table. */
 #define ONU_MODELLED 1u
 /** A flag of onu_judge(): each frame is judged by itself, since several lanes serve a port. */
 #define ONU_UNORDERED 2u
