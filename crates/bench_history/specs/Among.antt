@@ -1,15 +1,20 @@
 -- A frame that left, and is one of several.
-use Rattle.std.specs.Prelude.{◌≡◌, ◌⊎◌, ℕ, ◌+◌, List, [], ◌∷◌, Option, Some, None, if◌then◌else◌, Bool, true, false, ◌&&◌, ◌==◌, nat_le}
+use Rattle.std.specs.Prelude.{◌≡◌, ◌⊎◌, ℕ, ◌+◌, ◌-◌, List, [], ◌∷◌, Option, Some, None, if◌then◌else◌, Bool, true, false, ◌&&◌, ◌==◌, nat_le}
 use Rattle.std.specs.List.{slice_split}
 use Rattle.std.specs.Option.{option_and_then, option_map, unwrap_or}
 use Rattle.bench_history.specs.Words.{number_of, numbered, seen_bytes}
 use Rattle.bench_history.specs.declared.extent.Extent.{Extent}
-use Rattle.bench_history.specs.declared.extent.Extent.TheVariants.{Whole}
+use Rattle.bench_history.specs.declared.extent.Extent.TheVariants.{Whole, Front}
 
 -- the bytes of a frame as it left, and the numbers of the frames of which it is one
 pub record OneOf : Type 0 where
   pub frame : List ℕ
   pub numbers : List ℕ
+
+-- how many digits a word of so many characters has: two dots stand behind those of a front
+abbrev pub digits_in : Extent → ℕ → ℕ
+digits_in Whole n = n
+digits_in Front n = n - 2
 
 -- the words of a text, which single spaces separate
 abbrev pub words_of : List ℕ → List (List ℕ)

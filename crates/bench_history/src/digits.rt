@@ -1,5 +1,6 @@
 //! Bytes by their digits.
-ghost use Rattle.std.specs.Prelude.{◌≡◌, ◌≤◌, ◌==◌, Ok, length};
+ghost use Rattle.std.specs.Prelude.{◌≡◌, ◌≤◌, ◌==◌, Ok, length, true};
+ghost use Rattle.std.specs.Result.{is_ok};
 ghost use Rattle.hex.specs.Hex.{decode_of};
 ghost use Rattle.script_lines.specs.Line.{line_limit, spelled_bytes};
 
@@ -38,6 +39,15 @@ impl<'a> Digits<'a> {
             return None;
         }
         Some(Digits { digits: characters })
+    }
+
+    /// The bytes of digits that are known to spell some.
+    pub(crate) fn decoded(digits: &'a [u8]) -> Self
+        requires spelled { is_ok (decode_of digits.now) ≡ true }
+        requires short { length digits.now ≤ line_limit }
+        ensures { decode_of digits.now ≡ Ok result }
+    {
+        Digits { digits }
     }
 
     /// How many bytes there are.

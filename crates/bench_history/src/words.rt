@@ -71,16 +71,6 @@ pub(crate) fn read_seen(digits: &[u8]) -> Option<(Extent, Digits<'_>)>
     Some((Extent::Whole, Digits::of(digits)?))
 }
 
-/// The same of a frame that was seen, in front of the first space.
-pub(crate) fn split_seen(text: &[u8]) -> Option<((Extent, Digits<'_>), &[u8])>
-    requires { length text.now ≤ line_limit }
-    ensures { option_map (λ (cut : _). (cut.0, cut.1.now)) result ≡ numbered seen_bytes text.now }
-{
-    let space = space_in(text)?;
-    let seen = read_seen(text.split_at(space).0)?;
-    Some((seen, text.split_at(space + 1).1))
-}
-
 /// The first word of a text, and what stands behind its space; None where it is the last.
 pub(crate) fn split_word(text: &[u8]) -> (&[u8], Option<&[u8]>)
     ensures words { MatchOption result.1
