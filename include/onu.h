@@ -8,14 +8,14 @@
  *
  * @par Answers
  * Every call but onu_version() answers by a number: 0 or more where it did what was asked, and less where it didn't. -1 to -4 are the
- * faults of a message; the others are named here. A call that answers one of these leaves the unit as it was. onu_judge() tells what it
- * found by 0, 1 or 2, and onu_encode() and onu_decode() a bad input by 0 or 1, with words on it in the room.
+ * faults of a message; the others are named here. A call that answers one of these leaves the unit as it was. onu_judge() and
+ * onu_judge_all() tell what they found by 0, 1 or 2, and onu_encode() and onu_decode() a bad input by 0 or 1, with words on it in the room.
  *
  * @par What is proved
  * What each call leaves in a cell; the replies of onu_message() and the verdicts of onu_forward(); the answers of onu_replay(), with
- * its number, size and line; the number of onu_judge() and the line that it names; the bad line that onu_mib(), onu_lint() and
- * onu_rules() name; and that no byte behind a text changes. Tested only are what the texts of the other calls say, whether onu_encode()
- * and onu_decode() answer 0 or 1, the answers to null pointers, and onu_version(). docs/PROOFS.md has the whole.
+ * its number, size and line; the number of onu_judge() and of onu_judge_all(), and the line that they name; the bad line that onu_mib(),
+ * onu_lint() and onu_rules() name; and that no byte behind a text changes. Tested only are what the texts of the other calls say, whether
+ * onu_encode() and onu_decode() answer 0 or 1, the answers to null pointers, and onu_version(). docs/PROOFS.md has the whole.
  *
  * @par Threads
  * A cell is used by one thread at a time: two calls with one cell must not run at once, and what orders them must be a lock, a join or the
@@ -53,6 +53,8 @@ extern "C" {
 #define ONU_BAD_LINE (-21)
 /** A flag that has no meaning is set. Nothing was read or written. */
 #define ONU_FLAGS (-22)
+/** A line of the script before a history is bad; `*line` is its number. */
+#define ONU_BAD_START (-23)
 
 /** A flag of onu_judge(): contents of replies are compared only where their requests are on classes that the model has, and there no values of
  * read-only attributes and no table. */
@@ -65,6 +67,9 @@ extern "C" {
 #define ONU_PADDED 8u
 /** A flag of onu_judge(): a history without an end line may be explained. */
 #define ONU_ALLOW_UNFINISHED 16u
+/** A flag of onu_judge(): a message with the bytes of the one before it isn't carried out, and may be answered from memory or not at
+ * all. */
+#define ONU_REPEATS 32u
 
 /**
  * @brief A cell in which a unit stands, or none.
@@ -175,7 +180,7 @@ int32_t onu_replay(const uint8_t *script, size_t n, uint8_t *room, size_t size, 
  *
  * @param[in]  history  the history. It may be null where `n` is 0.
  * @param[in]  n        how many bytes it has.
- * @param[in]  flags    any of #ONU_MODELLED, #ONU_UNORDERED, #ONU_ALLOW_STRAYS, #ONU_PADDED and #ONU_ALLOW_UNFINISHED, or 0.
+ * @param[in]  flags    any of #ONU_MODELLED, #ONU_UNORDERED, #ONU_ALLOW_STRAYS, #ONU_PADDED, #ONU_ALLOW_UNFINISHED and #ONU_REPEATS, or 0.
  * @param[out] room     room for the text: JSON in UTF-8, no zero byte at its end. It may be null where `size` is 0.
  * @param[in]  size     how many bytes the room has.
  * @param[out] written  how many bytes the text has, also with #ONU_SMALL; 0 where there is none.
@@ -186,6 +191,29 @@ int32_t onu_replay(const uint8_t *script, size_t n, uint8_t *room, size_t size, 
  *         #ONU_FLAGS or #ONU_NULL, and neither `*written` nor `*line` is written.
  */
 int32_t onu_judge(const uint8_t *history, size_t n, uint32_t flags, uint8_t *room, size_t size, size_t *written, uint64_t *line);
+
+/**
+ * @brief Judges a history behind a script, and finds each of its deviations, as `onuctl judge --start START --all --most MOST --json` does
+ *        (docs/FORMATS.md). The number and the line are proved; the text is tested.
+ *
+ * The requests of the script were carried out before the history began. Its frames are passed over.
+ *
+ * @param[in]  start       the script. It may be null where `start_size` is 0: then there is none.
+ * @param[in]  start_size  how many bytes it has.
+ * @param[in]  history     the history. It may be null where `n` is 0.
+ * @param[in]  n           how many bytes it has.
+ * @param[in]  flags       as of onu_judge().
+ * @param[in]  most        how many deviations are listed at most. With 0 the text has the first alone, as that of onu_judge(). Each takes as
+ *                         long as a judgement.
+ * @param[out] room        room for the text: JSON in UTF-8, no zero byte at its end. It may be null where `size` is 0.
+ * @param[in]  size        how many bytes the room has.
+ * @param[out] written     how many bytes the text has, also with #ONU_SMALL; 0 where there is none.
+ * @param[out] line        the number, from 1, of the first line that no right unit explains, also with #ONU_SMALL, or of the first bad
+ *                         line of the script or of the history; else 0.
+ * @return as onu_judge(), or #ONU_BAD_START. Where the script and the history have a bad line, that of the script is named.
+ */
+int32_t onu_judge_all(const uint8_t *start, size_t start_size, const uint8_t *history, size_t n, uint32_t flags, uint64_t most, uint8_t *room, size_t size,
+                      size_t *written, uint64_t *line);
 
 /**
  * @brief Makes a script of a text in words, as `onuctl encode` does (docs/FORMATS.md). Each line of the text is one of the script. The texts

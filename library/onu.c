@@ -18,6 +18,8 @@ int32_t onu_proved_forward(onu *cell, uint16_t port, const uint8_t *frame, size_
 int32_t onu_proved_explain(onu *cell, uint16_t port, const uint8_t *frame, size_t n, uint8_t *room, size_t size, size_t *written);
 int32_t onu_proved_replay(const uint8_t *script, size_t n, uint8_t *room, size_t size, size_t *written, uint64_t *line);
 int32_t onu_proved_judge(const uint8_t *history, size_t n, uint32_t flags, uint8_t *room, size_t size, size_t *written, uint64_t *line);
+int32_t onu_proved_judge_all(const uint8_t *start, size_t start_size, const uint8_t *history, size_t n, uint32_t flags, uint64_t most, uint8_t *room,
+                             size_t size, size_t *written, uint64_t *line);
 int32_t onu_proved_encode(const uint8_t *words, size_t n, uint16_t identifier, uint8_t *room, size_t size, size_t *written);
 int32_t onu_proved_decode(const uint8_t *script, size_t n, uint8_t *room, size_t size, size_t *written);
 int32_t onu_proved_mib(const uint8_t *trace, size_t n, uint8_t *room, size_t size, size_t *written, uint64_t *line);
@@ -68,6 +70,14 @@ PUBLIC int32_t onu_judge(const uint8_t *history, size_t n, uint32_t flags, uint8
     if (is_missing(history, n) || is_missing(room, size) || written == NULL || line == NULL)
         return ONU_NULL;
     return onu_proved_judge(n == 0 ? &no_bytes : history, n, flags, size == 0 ? &no_bytes : room, size, written, line);
+}
+
+PUBLIC int32_t onu_judge_all(const uint8_t *start, size_t start_size, const uint8_t *history, size_t n, uint32_t flags, uint64_t most, uint8_t *room,
+                             size_t size, size_t *written, uint64_t *line) {
+    if (is_missing(start, start_size) || is_missing(history, n) || is_missing(room, size) || written == NULL || line == NULL)
+        return ONU_NULL;
+    return onu_proved_judge_all(start_size == 0 ? &no_bytes : start, start_size, n == 0 ? &no_bytes : history, n, flags, most,
+                                size == 0 ? &no_bytes : room, size, written, line);
 }
 
 PUBLIC int32_t onu_encode(const uint8_t *words, size_t n, uint16_t identifier, uint8_t *room, size_t size, size_t *written) {

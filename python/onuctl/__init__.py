@@ -21,12 +21,13 @@ The package needs nothing but Python 3.8 and the shared library, which ``./build
 from . import steps
 from ._library import version
 from ._scripts import Mistake, Mistakes, decode, encode, lint, mib, rules
-from ._texts import BadLine, Finding, judge, replay
+from ._texts import BadLine, BadStart, Finding, judge, replay
 from ._unit import Dropped, Forwarded, MessageFault, Reason, Unit
 
 __version__ = version().split(",")[0].split(" ")[1]
 __all__ = [
     "BadLine",
+    "BadStart",
     "Dropped",
     "Finding",
     "Forwarded",

@@ -1,7 +1,7 @@
-"""What calls are given: bytes, texts and ports."""
+"""What calls are given: bytes, texts and numbers."""
 
 import operator
-from typing import Union
+from typing import Optional, Union
 
 Bytes = Union[bytes, bytearray, memoryview]
 
@@ -22,6 +22,19 @@ def text_of(name: str, given: Union[Bytes, str]) -> bytes:
     if isinstance(given, (bytes, bytearray, memoryview)):
         return bytes(given)
     raise TypeError("%s must be str, bytes, bytearray or memoryview, not %s" % (name, type(given).__name__))
+
+
+def most_of(given: Optional[int]) -> int:
+    """How many deviations are listed at most, 0 where the first alone is asked for."""
+    if given is None:
+        return 0
+    try:
+        most = operator.index(given)
+    except TypeError:
+        raise TypeError("most must be an int, not %s" % type(given).__name__) from None
+    if most < 1:
+        raise ValueError("at least one deviation is listed, not %d" % most)
+    return min(most, 0xFFFFFFFFFFFFFFFF)
 
 
 def port_of(given: int) -> int:

@@ -10,6 +10,7 @@ CLOSED = -16
 SMALL = -19
 NO_MEMORY = -20
 BAD_LINE = -21
+BAD_START = -23
 
 
 class Cell(ctypes.Structure):
@@ -64,7 +65,7 @@ message = _call(_locked, "onu_message", _cell, *_bytes, ctypes.c_void_p)
 forward = _call(_locked, "onu_forward", _cell, ctypes.c_uint16, *_bytes, ctypes.c_void_p)
 explain = _call(_locked, "onu_explain", _cell, ctypes.c_uint16, *_bytes, *_room, _size)
 replay = _call(_free, "onu_replay", *_bytes, *_room, _size, _line)
-judge = _call(_free, "onu_judge", *_bytes, ctypes.c_uint32, *_room, _size, _line)
+judge_all = _call(_free, "onu_judge_all", *_bytes, *_bytes, ctypes.c_uint32, ctypes.c_uint64, *_room, _size, _line)
 encode = _call(_free, "onu_encode", *_bytes, ctypes.c_uint16, *_room, _size)
 decode = _call(_free, "onu_decode", *_bytes, *_room, _size)
 mib = _call(_free, "onu_mib", *_bytes, *_room, _size, _line)

@@ -1,11 +1,11 @@
 """Whole texts: a script and its answers, a history and its judgement."""
 
 import json
-from typing import Any, Dict, NamedTuple, Optional, Union
+from typing import Any, Dict, List, NamedTuple, Optional, Union
 
 from . import _library
-from ._given import Bytes, text_of
-from ._library import BAD_LINE, NO_MEMORY, Line, in_room
+from ._given import Bytes, most_of, text_of
+from ._library import BAD_LINE, BAD_START, NO_MEMORY, Line, in_room
 
 
 class BadLine(Exception):
@@ -20,6 +20,13 @@ class BadLine(Exception):
         return "line %d is bad" % self.line
 
 
+class BadStart(BadLine):
+    """A line of the script that was carried out before a history is bad. ``line`` is its number, from 1."""
+
+    def __str__(self) -> str:
+        return "start line %d is bad" % self.line
+
+
 class Finding(NamedTuple):
     """What a history shows: whether a right unit may have behaved so, which is said of a history with an end line, of which something was
     judged; if not, the first line that no right unit explains, or None where each line is explained; and all of it, as
@@ -28,6 +35,15 @@ class Finding(NamedTuple):
     explained: bool
     line: Optional[int]
     details: Dict[str, Any]
+
+    @property
+    def deviations(self) -> List[Dict[str, Any]]:
+        """The lines that no right unit explains: as many as were asked for, each an object with ``line`` and what is wrong there; or the first
+        alone. ``details["more"]`` says whether there are others, where they were asked for."""
+        if self.line is None:
+            return []
+        listed: List[Dict[str, Any]] = self.details.get("deviations", [self.details])
+        return listed
 
     def __str__(self) -> str:
         if self.explained:
@@ -53,26 +69,37 @@ def replay(script: Union[Bytes, str]) -> bytes:
 def judge(
     history: Union[Bytes, str],
     *,
+    start: Union[Bytes, str, None] = None,
     modelled: bool = False,
     unordered: bool = False,
     allow_strays: bool = False,
     padded: bool = False,
     allow_unfinished: bool = False,
+    repeats: bool = False,
+    most: Optional[int] = None,
 ) -> Finding:
     """Judges a history (docs/FORMATS.md, "Histories"): whether a right unit may have behaved so.
 
+    ``start`` is a script that the unit carried out before the history began. ``most`` lists that many deviations at most, from 1, in
+    :attr:`Finding.deviations`; each takes as long as a judgement. Without it the first alone is looked for.
+
     ``modelled`` compares the contents of replies only where their requests are on classes that the model has, and there no values of
     read-only attributes and no table; ``unordered`` judges each frame by itself; ``allow_strays`` lets frames leave that were never sent, or
-    have left before; ``padded`` lets a frame of fewer than 68 bytes be seen with zeros behind it, up to 68; and ``allow_unfinished`` lets a
-    history without an end line be explained. Raises :class:`BadLine`.
+    have left before; ``padded`` lets a frame of fewer than 68 bytes be seen with zeros behind it, up to 68; ``allow_unfinished`` lets a
+    history without an end line be explained; and ``repeats`` lets a unit answer a message with the bytes of the one before it from memory, or
+    not at all. Raises :class:`BadLine`, and :class:`BadStart` for a line of ``start``.
     """
-    given = text_of("history", history)
-    settings = (modelled, unordered, allow_strays, padded, allow_unfinished)
+    given, limit = text_of("history", history), most_of(most)
+    script = b"" if start is None else text_of("start", start)
+    settings = (modelled, unordered, allow_strays, padded, allow_unfinished, repeats)
     flags = sum(1 << bit for bit, is_set in enumerate(settings) if is_set)
     line = Line()
-    number, text = in_room(lambda *room: _library.judge(given, len(given), flags, *room, line), 4096)
+    texts = (script, len(script), given, len(given))
+    number, text = in_room(lambda *room: _library.judge_all(*texts, flags, limit, *room, line), 4096)
     if number == NO_MEMORY:
         raise MemoryError("no memory for a judgement")
+    if number == BAD_START:
+        raise BadStart(line.value)
     if number == BAD_LINE:
         raise BadLine(line.value)
     # With 1 and 2 no line deviates.

@@ -1,11 +1,11 @@
 -- Frames of which one left, by frames as they are kept.
-use Rattle.std.proofs.Common.{◌≡◌, ◌<◌, ◌≤◌, ◌+◌, ℕ, Bool, true, List, [], ◌∷◌, ◌++◌, length, take, drop, Option, Some, None, Result, Ok, Err, IfOk, Decides, slice_get, inl, inr, refl, ap, sym, subst, ◌∙◌, arith, take-take}
+use Rattle.std.proofs.Common.{◌≡◌, ◌<◌, ◌≤◌, ◌+◌, ℕ, Bool, true, List, [], ◌∷◌, ◌++◌, length, take, Option, Some, None, Result, Ok, Err, IfOk, Decides, slice_get, inl, inr, refl, ap, sym, subst, ◌∙◌, arith, take-take}
 use Rattle.std.specs.declared.alloc.AllocError.{AllocError}
 use Rattle.std.proofs.lemmas.List.{take-append-le}
 use Rattle.std.proofs.lemmas.Bool.{true≢false}
 use Rattle.omci_msg.specs.declared.request.Request.{Request}
 use Rattle.mib_state.specs.Entities.{Entities}
-use Rattle.mib_state.specs.After.{accepted_from, after}
+use Rattle.mib_state.specs.After.{after}
 use Rattle.frame_meaning.specs.Meaning.{meaning}
 use Rattle.bench_history.specs.Among.{OneOf}
 use Rattle.bench_history.specs.History.{frames_in}
@@ -15,18 +15,20 @@ use Rattle.bench_history.specs.declared.extent.Extent.{Extent}
 use Rattle.bench_history.specs.declared.gem.SeenGem.{SeenGem}
 use Rattle.bench_sight.specs.Sight.{IsSeenAs, is_enough}
 use Rattle.bench_judge.specs.Admitted.{IsAdmitted}
-use Rattle.bench_judge.specs.Asked.{accepted_of, asked, version}
-use Rattle.bench_judge.specs.Windows.{least_behind, most_behind}
+use Rattle.bench_answers.specs.Asked.{requests_of, version}
+use Rattle.bench_answers.specs.Windows.{least_behind, most_behind}
 use Rattle.bench_judge.specs.Doubt.{IsLatest, IsOneOf, IsSent, IsSomeOf, LeavesBy, LeavesSo, MayBe, MayBeAt}
+use Rattle.bench_judge.specs.Terms.{Terms, ground_in}
 use Rattle.bench_judge.specs.Scene.{AreFramesOf, IsFrameOf, IsScene}
 use Rattle.bench_judge.specs.declared.doubt.Latest.{Latest}
 use Rattle.bench_judge.specs.declared.frame.Frame.{Frame}
 use Rattle.bench_judge.specs.declared.scene.Scene.{Scene}
 use Rattle.bench_judge.proofs.Choices.{entered_as, same_seen}
 use Rattle.bench_judge.proofs.Counted.{frames_front, frames_with}
-use Rattle.bench_judge.proofs.Fronts.{accepted_front}
+use Rattle.bench_answers.proofs.Fronts.{requests_front}
 use Rattle.bench_judge.proofs.Places.{element_at, front_get, get_in_front}
 use Rattle.bench_judge.proofs.Whole.{sent_once}
+use Rattle.bench_answers.specs.Ground.{Ground}
 
 pub leaves_decides : (padded : Bool) (events : List Event) (frame : Frame) (seen : Event) (e : Entities) (port : ℕ) (extent : Extent) (bytes : List ℕ) (result : Bool)
     → slice_get events frame.sent ≡ Some (Entered port extent bytes)
@@ -66,21 +68,23 @@ latest_grows front more (Some latest) is =
 latest_grows front more None is = tt
 
 -- and so does the next event
-pub latest_on : (events : List Event) (place : ℕ) (old new : Scene) (latest : Option Latest) → IsScene events place old → IsScene events (place + 1) new
-    → IsLatest old.asking.requests.items latest → IsLatest new.asking.requests.items latest
-latest_on events place old new latest was is kept =
-    let front : accepted_of (take place (take (place + 1) events)) ≡ old.asking.requests.items = ap accepted_of (take-take place (place + 1) events (omega arith)) ∙ sym was.asking.requests in
-    let more : List Request = accepted_from (after (asked (take place (take (place + 1) events)))) (asked (drop place (take (place + 1) events))) in
-    let all : new.asking.requests.items ≡ old.asking.requests.items ++ more = is.asking.requests ∙ accepted_front place (take (place + 1) events) ∙ ap (λ qs. qs ++ more) front in
-    subst (λ qs. IsLatest qs latest) (sym all) (latest_grows old.asking.requests.items more latest kept)
+pub latest_on : (terms : Terms) (events : List Event) (place : ℕ) (old new : Scene) (latest : Option Latest) → IsScene terms events place old → IsScene terms events (place + 1) new
+    → IsLatest old.answers.asking.requests.items latest → IsLatest new.answers.asking.requests.items latest
+latest_on terms events place old new latest was is kept =
+    let grounds : Ground = ground_in terms in
+    let front : requests_of grounds (take place (take (place + 1) events)) ≡ old.answers.asking.requests.items =
+    ap (requests_of grounds) (take-take place (place + 1) events (omega arith)) ∙ sym was.answers.asking.requests in
+    let parts = requests_front grounds place (take (place + 1) events) in
+    let all : new.answers.asking.requests.items ≡ old.answers.asking.requests.items ++ parts.0 = is.answers.asking.requests ∙ parts.1 ∙ ap (λ qs. qs ++ parts.0) front in
+    subst (λ qs. IsLatest qs latest) (sym all) (latest_grows old.answers.asking.requests.items parts.0 latest kept)
 
 -- ---- frames that were sent
 
-module _ (padded : Bool) (events : List Event) (place : ℕ) (requests : List Request) (frames : List Frame)
-    (are : AreFramesOf events place frames) (same : requests ≡ accepted_of (take place events)) where
+module _ (grounds : Ground) (padded : Bool) (events : List Event) (place : ℕ) (requests : List Request) (frames : List Frame)
+    (are : AreFramesOf grounds events place frames) (same : requests ≡ requests_of grounds (take place events)) where
   abbrev sent_of : (n : ℕ) (frame : Frame) → slice_get frames n ≡ Some frame → IsSent (take place events) n
   sent_of n frame at =
-      let kept : IsFrameOf events place n frame = are.each n frame at in
+      let kept : IsFrameOf grounds events place n frame = are.each n frame at in
       record {
         place = frame.sent;
         port = frame.port;
@@ -90,10 +94,10 @@ module _ (padded : Bool) (events : List Event) (place : ℕ) (requests : List Re
         number = sym kept.number ∙ ap frames_in (sym (take-take frame.sent place events (omega (arith, kept.within))));
       }
 
-  may_be : (n : ℕ) (seen : Event) (v : ℕ) → v ≤ length requests → MayBeAt padded events frames n seen v (after (take v requests)) → MayBe padded (take place events) n seen
+  may_be : (n : ℕ) (seen : Event) (v : ℕ) → v ≤ length requests → MayBeAt padded events frames n seen v (after (take v requests)) → MayBe grounds padded (take place events) n seen
   may_be n seen v le may =
       let frame = may.frame in
-      let kept : IsFrameOf events place n frame = are.each n frame may.at in
+      let kept : IsFrameOf grounds events place n frame = are.each n frame may.at in
       record {
         sent = sent_of n frame may.at;
         by = elim may.by [
@@ -101,14 +105,14 @@ module _ (padded : Bool) (events : List Event) (place : ℕ) (requests : List Re
           | inr leaves ↦
               let so : LeavesSo padded events frame seen (after (take v requests)) = leaves.1 in
               let sent = entered_as so.port frame.port so.extent kept.extent so.bytes kept.bytes (sym so.entered ∙ kept.entered) in
-              let fronts : least_behind (take frame.sent (take place events)) ≡ least_behind (take frame.sent events) = ap least_behind (take-take frame.sent place events (omega (arith, kept.within))) in
-              let count : length requests ≡ most_behind (take place events) = ap (λ (qs : List Request). length qs) same in
+              let fronts : least_behind grounds (take frame.sent (take place events)) ≡ least_behind grounds (take frame.sent events) = ap (least_behind grounds) (take-take frame.sent place events (omega (arith, kept.within))) in
+              let count : length requests ≡ most_behind grounds (take place events) = ap (λ (qs : List Request). length qs) same in
               inr (
                 v,
                 record {
                   least = omega (arith, leaves.0, kept.least, fronts);
                   most = omega (arith, le, count);
-                  shows = same_seen padded (version (take place events) v) so.port frame.port so.extent kept.extent so.bytes kept.bytes seen seen sent.0 sent.1 sent.2 refl
+                  shows = same_seen padded (version grounds (take place events) v) so.port frame.port so.extent kept.extent so.bytes kept.bytes seen seen sent.0 sent.1 sent.2 refl
                       (subst (λ qs. IsSeenAs padded (meaning (after (take v qs)) so.port so.bytes) so.extent seen) same so.shows);
                 },
               )
@@ -122,19 +126,19 @@ module _ (padded : Bool) (events : List Event) (place : ℕ) (requests : List Re
       let within : n < length frames =
       omega (arith, number, are.count, frames_with events sent.place (Entered sent.port sent.extent sent.bytes) there.1, frames_front events (sent.place + 1) place (omega (arith, there.0))) in
       let here = element_at frames n within in
-      let kept : IsFrameOf events place n here.0 = are.each n here.0 here.1 in (
+      let kept : IsFrameOf grounds events place n here.0 = are.each n here.0 here.1 in (
         here.0,
         here.1,
         sent_once events here.0.sent sent.place here.0.port sent.port kept.extent sent.extent kept.bytes sent.bytes kept.entered there.1 (kept.number ∙ number),
       )
 
-  may_be_at : (n : ℕ) (seen : Event) → MayBe padded (take place events) n seen
+  may_be_at : (n : ℕ) (seen : Event) → MayBe grounds padded (take place events) n seen
       → (v : ℕ) × (v ≤ length requests) × MayBeAt padded events frames n seen v (after (take v requests))
   may_be_at n seen may =
       let sent = may.sent in
       let k = kept_at n sent in
       let frame : Frame = k.0 in
-      let kept : IsFrameOf events place n frame = are.each n frame k.1 in
+      let kept : IsFrameOf grounds events place n frame = are.each n frame k.1 in
       let there = get_in_front place events sent.place (Entered sent.port sent.extent sent.bytes) sent.entered in
       let one = entered_as frame.port sent.port kept.extent sent.extent kept.bytes sent.bytes (sym kept.entered ∙ ap (slice_get events) k.2 ∙ there.1) in
       elim may.by [
@@ -149,10 +153,10 @@ module _ (padded : Bool) (events : List Event) (place : ℕ) (requests : List Re
         )
         | inr by ↦
             let v : ℕ = by.0 in
-            let leaves : LeavesBy padded (take place events) n sent seen v = by.1 in
-            let count : length requests ≡ most_behind (take place events) = ap (λ (qs : List Request). length qs) same in
-            let fronts : least_behind (take sent.place (take place events)) ≡ least_behind (take sent.place events) = ap least_behind (take-take sent.place place events (omega (arith, there.0))) in
-            let least : frame.least ≡ least_behind (take sent.place events) = kept.least ∙ ap (λ p. least_behind (take p events)) k.2 in (
+            let leaves : LeavesBy grounds padded (take place events) n sent seen v = by.1 in
+            let count : length requests ≡ most_behind grounds (take place events) = ap (λ (qs : List Request). length qs) same in
+            let fronts : least_behind grounds (take sent.place (take place events)) ≡ least_behind grounds (take sent.place events) = ap (least_behind grounds) (take-take sent.place place events (omega (arith, there.0))) in
+            let least : frame.least ≡ least_behind grounds (take sent.place events) = kept.least ∙ ap (λ p. least_behind grounds (take p events)) k.2 in (
               v,
               omega (arith, leaves.most, count),
               record {
@@ -166,7 +170,7 @@ module _ (padded : Bool) (events : List Event) (place : ℕ) (requests : List Re
                     bytes = kept.bytes;
                     entered = kept.entered;
                     shows = subst (λ qs. IsSeenAs padded (meaning (after (take v qs)) frame.port kept.bytes) kept.extent seen) (sym same)
-                        (same_seen padded (version (take place events) v) sent.port frame.port sent.extent kept.extent sent.bytes kept.bytes seen seen (sym one.0) (sym one.1) (sym one.2) refl leaves.shows);
+                        (same_seen padded (version grounds (take place events) v) sent.port frame.port sent.extent kept.extent sent.bytes kept.bytes seen seen (sym one.0) (sym one.1) (sym one.2) refl leaves.shows);
                   },
                 );
               },
@@ -175,7 +179,7 @@ module _ (padded : Bool) (events : List Event) (place : ℕ) (requests : List Re
 
   -- what is found of kept frames holds of the events
   pub one_of_decides : (gem : SeenGem) (extent : Extent) (among : OneOf) (result : Bool)
-      → Decides result (IsSomeOf padded events requests frames gem extent among) → Decides result (IsOneOf padded (take place events) gem extent among)
+      → Decides result (IsSomeOf padded events requests frames gem extent among) → Decides result (IsOneOf grounds padded (take place events) gem extent among)
   one_of_decides gem extent among result decides = (
     λ yes. let some = decides.0 yes in
         let one = some.2 in
@@ -186,24 +190,29 @@ module _ (padded : Bool) (events : List Event) (place : ℕ) (requests : List Re
 
 -- ---- whether an event is admitted
 
-admitted_by : (events : List Event) (scene : Scene) (event : Event) (gem : SeenGem) (extent : Extent) (among : OneOf) (found : Result Bool AllocError)
+admitted_by : (terms : Terms) (events : List Event) (scene : Scene) (event : Event) (gem : SeenGem) (extent : Extent) (among : OneOf) (found : Result Bool AllocError)
     → event ≡ LeftOneOf gem extent among
-    → IfOk found (λ is. Decides is (IsSomeOf scene.settings.padded events scene.asking.requests.items scene.frames.items gem extent among))
-    → IfOk found (λ is. (place : ℕ) → IsScene events place scene → Decides is (IsAdmitted scene.settings (take place events) event))
-admitted_by events scene event gem extent among (Ok is) same decides = λ place kept.
-    subst (λ (e : Event). Decides is (IsAdmitted scene.settings (take place events) e)) (sym same)
-    (one_of_decides scene.settings.padded events place scene.asking.requests.items scene.frames.items kept.frames kept.asking.requests gem extent among is decides)
-admitted_by events scene event gem extent among (Err fault) same decides = tt
+    → IfOk found (λ is. Decides is (IsSomeOf terms.settings.padded events scene.answers.asking.requests.items scene.frames.items gem extent among))
+    → IfOk found (λ is. (place : ℕ) → IsScene terms events place scene → Decides is (IsAdmitted terms (take place events) event))
+admitted_by terms events scene event gem extent among (Ok is) same decides = λ place kept.
+    subst (λ (e : Event). Decides is (IsAdmitted terms (take place events) e)) (sym same)
+    (one_of_decides (ground_in terms) terms.settings.padded events place scene.answers.asking.requests.items scene.frames.items kept.frames kept.answers.asking.requests gem extent among is decides)
+admitted_by terms events scene event gem extent among (Err fault) same decides = tt
 
-pub admitted_if : (events : List Event) (scene : Scene) (event : Event) (gem : SeenGem) (extent : Extent) (among : OneOf) (found : Result Bool AllocError)
+pub admitted_if : (terms : Terms) (events : List Event) (scene : Scene) (event : Event) (gem : SeenGem) (extent : Extent) (among : OneOf) (found : Result Bool AllocError)
     → (padded : Bool) (given : List Event) (requests : List Request) (frames : List Frame)
-    → padded ≡ scene.settings.padded → given ≡ events → requests ≡ scene.asking.requests.items → frames ≡ scene.frames.items
+    → padded ≡ terms.settings.padded → given ≡ events → requests ≡ scene.answers.asking.requests.items → frames ≡ scene.frames.items
     → event ≡ LeftOneOf gem extent among → IfOk found (λ is. Decides is (IsSomeOf padded given requests frames gem extent among))
-    → IfOk found (λ is. (place : ℕ) → IsScene events place scene → Decides is (IsAdmitted scene.settings (take place events) event))
-admitted_if events scene event gem extent among found padded given requests frames pads same_events same_requests same_frames same decides =
+    → IfOk found (λ is. (place : ℕ) → IsScene terms events place scene → Decides is (IsAdmitted terms (take place events) event))
+admitted_if terms events scene event gem extent among found padded given requests frames pads same_events same_requests same_frames same decides =
     let of_scene : Bool → List Event → List Request → List Frame → Type 0 = λ p es qs fs. IfOk found (λ is. Decides is (IsSomeOf p es qs fs gem extent among)) in
-    admitted_by events scene event gem extent among found same
-    (subst (λ (p : Bool). of_scene p events scene.asking.requests.items scene.frames.items) pads
-    (subst (λ (es : List Event). of_scene padded es scene.asking.requests.items scene.frames.items) same_events
+    admitted_by terms events scene event gem extent among found same
+    (subst (λ (p : Bool). of_scene p events scene.answers.asking.requests.items scene.frames.items) pads
+    (subst (λ (es : List Event). of_scene padded es scene.answers.asking.requests.items scene.frames.items) same_events
     (subst (λ (qs : List Request). of_scene padded given qs scene.frames.items) same_requests
     (subst (λ (fs : List Frame). of_scene padded given requests fs) same_frames decides))))
+
+-- the requests of a scene
+pub scene_requests : (terms : Terms) (events : List Event) (place : ℕ) (scene : Scene) (requests : List Request) → IsScene terms events place scene
+    → requests ≡ requests_of (ground_in terms) (take place events) → requests ≡ scene.answers.asking.requests.items
+scene_requests terms events place scene requests is same = same ∙ sym is.answers.asking.requests

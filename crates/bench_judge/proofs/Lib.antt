@@ -1,4 +1,3 @@
-mod Examples
 pub mod Alone
 pub mod Candidates
 pub mod Afters
@@ -6,7 +5,7 @@ pub mod Answering
 pub mod Choices
 pub mod Counted
 pub mod Cuts
-pub mod Deviations
+pub mod Deviating
 pub mod Doubted
 pub mod Doubtful
 pub mod Endings
@@ -16,24 +15,24 @@ pub mod InOrder
 pub mod Joined
 pub mod Least
 pub mod Leaves
+pub mod Listed
 pub mod Lists
-pub mod Messages
 pub mod Nearest
 pub mod Numbered
 pub mod OneOn
 pub mod Places
 pub mod Queues
 pub mod Raised
-pub mod Requests
 pub mod Risen
 pub mod Rises
 pub mod SeenBy
 pub mod Settling
 pub mod Sightings
 pub mod Swept
+pub mod TakenBack
+pub mod Tried
 pub mod Turns
 pub mod Versions
-pub mod Waits
 pub mod WasJudged
 pub mod Whole
 pub mod Wrongs

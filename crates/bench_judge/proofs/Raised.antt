@@ -10,6 +10,7 @@ use Rattle.bench_judge.specs.Explained.{IsChoice}
 use Rattle.bench_judge.specs.Frames.{AreWithin, Fits, IsSeenBy, MayHave}
 use Rattle.bench_judge.specs.Cut.{IsSwept, by_number}
 use Rattle.bench_judge.specs.declared.frame.Frame.{Frame}
+use Rattle.bench_answers.specs.Ground.{Ground}
 
 pub set_same : {A : Type 0} (xs : List A) (n : ℕ) (x : A) → n < length xs → slice_get (set xs n x) n ≡ Some x
 set_same [] n x lt = absurd (omega (arith, lt))
@@ -160,8 +161,8 @@ module _ (padded unordered : Bool) (events : List Event) (requests : List Reques
     raised_within within m y at_m = let a = of_raised m y at_m in omega (arith, a.like.most, within m a.y a.at)
 
 -- no events have a choice
-pub no_events : (padded unordered : Bool) (v : ℕ → ℕ) → IsChoice padded unordered [] v
-no_events padded unordered v =
+pub no_events : (grounds : Ground) (padded unordered : Bool) (v : ℕ → ℕ) → IsChoice grounds padded unordered [] v
+no_events grounds padded unordered v =
     record {
       each = λ f is. absurd (cc is.entered);
       ordered = λ order f g is_f is_g port lt. absurd (cc is_f.entered);

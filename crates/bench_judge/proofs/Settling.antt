@@ -1,6 +1,6 @@
 -- How a sweep goes on.
-use Rattle.std.proofs.Common.{◌≡◌, ◌≢◌, ◌==◌, ◌<◌, ◌≤◌, ℕ, suc, ◌||◌, Bool, true, false, List, [], ◌∷◌, ◌++◌, ◌+◌, Option, Some, None, length, set, get_or, inl, inr, refl, sym, ap, ◌∙◌, subst, arith, eq-eqb, get_or-set_same, get_or-set_other, length-set}
-use Rattle.std.specs.Prelude.{is_some, slice_get, slice_index, take}
+use Rattle.std.proofs.Common.{◌≡◌, ◌≢◌, ◌==◌, ◌<◌, ◌≤◌, ℕ, suc, ◌||◌, ◌&&◌, Bool, true, false, List, [], ◌∷◌, ◌++◌, ◌+◌, Option, Some, None, length, set, get_or, inl, inr, refl, sym, ap, ◌∙◌, subst, arith, eq-eqb, get_or-set_same, get_or-set_other, length-set}
+use Rattle.std.specs.Prelude.{MatchBool, is_some, slice_get, slice_index, take}
 use Rattle.std.proofs.lemmas.Bool.{cases_eq, ne_eqb}
 use Rattle.std.proofs.lemmas.List.{take_more}
 use Rattle.std.proofs.lemmas.Option.{slice_get_within}
@@ -458,3 +458,10 @@ pub after_more : (requests : List Request) (n : ℕ) (q : Request) (old new : En
 after_more requests n q old new inside is was now =
     now ∙ ap (λ (e : Entities). left q.action e q) was ∙ sym (after_append nothing (take n requests) (q ∷ []))
     ∙ ap (λ (request : Request). after (take n requests ++ request ∷ [])) is ∙ sym (ap after (take_more requests n q inside))
+
+-- ---- queues that are tried one after the other
+
+-- one more is settled where all before it are
+pub both_settled : (all is_settled : Bool) (was now none : Type 0) → MatchBool all was none → (was → MatchBool is_settled now none) → MatchBool (all && is_settled) now none
+both_settled true is_settled was now none is more = more is
+both_settled false is_settled was now none is more = is

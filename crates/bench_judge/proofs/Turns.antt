@@ -15,6 +15,7 @@ use Rattle.bench_judge.specs.Walk.{AreSound}
 use Rattle.bench_judge.proofs.Fronts.{ended_in_front, ended_of_front, version_in_front, version_of_front}
 use Rattle.bench_judge.proofs.Lists.{in_front}
 use Rattle.bench_judge.proofs.Whole.{one_number, sent_once}
+use Rattle.bench_answers.specs.Ground.{Ground}
 
 -- the event that sends the frame of a number
 pub record SendsAt (events : List Event) (n : ℕ) : Type 0 where
@@ -101,17 +102,17 @@ ends_here events place n event at is_end is_open =
     })
 
 -- where the event at a place ends no frame, versions for those that end before are versions for all
-carried : {padded : Bool} (unordered : Bool) (events : List Event) (place : ℕ) → ((f : EndedFrame) → IsEnded (take (place + 1) events) f → f.ended < place)
-    → HasChoice padded unordered (take place events) → HasChoice padded unordered (take (place + 1) events)
-carried unordered events place before choice =
+carried : (grounds : Ground) {padded : Bool} (unordered : Bool) (events : List Event) (place : ℕ) → ((f : EndedFrame) → IsEnded (take (place + 1) events) f → f.ended < place)
+    → HasChoice grounds padded unordered (take place events) → HasChoice grounds padded unordered (take (place + 1) events)
+carried grounds unordered events place before choice =
     let shorter : (f : EndedFrame) → IsEnded (take (place + 1) events) f → IsEnded (take place events) f =
     λ f is. ended_in_front place events f (before f is) (ended_of_front (place + 1) events f is).1 in (
       choice.0,
       record {
         each = λ f is.
             let lt = before f is in
-            version_in_front (place + 1) (choice.0 f.number) events f is.later (omega (arith, lt))
-            (version_of_front place (choice.0 f.number) events f is.later lt (choice.1.each f (shorter f is)));
+            version_in_front grounds (place + 1) (choice.0 f.number) events f is.later (omega (arith, lt))
+            (version_of_front grounds place (choice.0 f.number) events f is.later lt (choice.1.each f (shorter f is)));
         ordered = λ order f g is_f is_g port lt. choice.1.ordered order f g (shorter f is_f) (shorter g is_g) port lt;
       },
     )
@@ -158,8 +159,8 @@ none_known events place n event at is_end s short f is here =
         ap (λ e. is_enough e a) extent ∙ ap (is_enough y) bytes
 
 -- the first event that leaves no choice ends a frame
-pub turn_ends : {padded : Bool} (unordered : Bool) (events : List Event) (place : ℕ) → AreSound events → place < length events → IsTurn padded unordered events place → EndsAt events place
-turn_ends {padded} unordered events place sound within turn =
+pub turn_ends : (grounds : Ground) {padded : Bool} (unordered : Bool) (events : List Event) (place : ℕ) → AreSound events → place < length events → IsTurn grounds padded unordered events place → EndsAt events place
+turn_ends grounds {padded} unordered events place sound within turn =
     elim (slice_get events place) as (λ o. slice_get events place ≡ o → EndsAt events place) [
       | None ↦ λ none. absurd (past events place within none)
       | Some event ↦ λ at. by_event event at (sound place event at)
@@ -172,7 +173,7 @@ turn_ends {padded} unordered events place sound within turn =
 
     carries : (event : Event) → slice_get events place ≡ Some event → ((n : ℕ) → is_end_of n event ≡ false) → EndsAt events place
     carries event at none =
-        absurd (turn.behind (carried unordered events place
+        absurd (turn.behind (carried grounds unordered events place
         (no_end events place (λ f is here. true≢false (sym (seen_here events place event f at is here) ∙ none f.number))) turn.before))
 
     ends : (n : ℕ) (event : Event) → slice_get events place ≡ Some event → is_end_of n event ≡ true → is_open n (take place events) ≡ true
@@ -180,7 +181,7 @@ turn_ends {padded} unordered events place sound within turn =
     ends n event at is_end open_yet =
         elim (ends_here events place n event at is_end open_yet) [
           | ends_there here ↦ here
-          | unknown s short ↦ absurd (turn.behind (carried unordered events place (no_end events place (none_known events place n event at is_end s short)) turn.before))
+          | unknown s short ↦ absurd (turn.behind (carried grounds unordered events place (no_end events place (none_known events place n event at is_end s short)) turn.before))
         ]
 
     by_event : (event : Event) → slice_get events place ≡ Some event → is_sound (take place events) event ≡ true → EndsAt events place

@@ -14,6 +14,7 @@ use Rattle.bench_judge.specs.Evidence.{HasJudged, HasJudgedDoubt, HasJudgedEnd, 
 use Rattle.bench_judge.specs.Frames.{AreFrames, IsKeptIn, IsKeptOf}
 use Rattle.bench_judge.specs.declared.frame.Frame.{Frame}
 use Rattle.bench_judge.proofs.Counted.{known_same}
+use Rattle.bench_answers.specs.Ground.{Ground}
 
 -- a frame that has ended
 record HasEnded (frames : List Frame) : Type 0 where
@@ -47,15 +48,15 @@ none_ended (other ∷ frames) zero frame none at ended =
 none_ended (other ∷ frames) (suc n) frame none at ended =
     none_ended frames n frame (no_first (is_some other.ended) (list_any (λ f. is_some f.ended) frames) none).1 at ended
 
-pub judged_one : (events : List Event) (frames : List Frame) → list_any (λ f. is_some f.ended) frames ≡ true → AreFrames events frames → HasJudgedEnd events
-judged_one events frames any are =
+pub judged_one : (grounds : Ground) (events : List Event) (frames : List Frame) → list_any (λ f. is_some f.ended) frames ≡ true → AreFrames grounds events frames → HasJudgedEnd events
+judged_one grounds events frames any are =
     let one = some_ended frames any in
-    let o : IsKeptOf events one.n one.frame = are.only one.n one.frame one.at one.ended in
+    let o : IsKeptOf grounds events one.n one.frame = are.only one.n one.frame one.at one.ended in
     (o.f, o.is)
 
-pub judged_none : (events : List Event) (frames : List Frame) → list_any (λ f. is_some f.ended) frames ≡ false → AreFrames events frames → HasJudgedEnd events → ⊥
-judged_none events frames none are judged =
-    let o : IsKeptIn events frames judged.0 = are.each judged.0 judged.1 in
+pub judged_none : (grounds : Ground) (events : List Event) (frames : List Frame) → list_any (λ f. is_some f.ended) frames ≡ false → AreFrames grounds events frames → HasJudgedEnd events → ⊥
+judged_none grounds events frames none are judged =
+    let o : IsKeptIn grounds events frames judged.0 = are.each judged.0 judged.1 in
     none_ended frames judged.0.number o.frame none o.at (ap is_some o.kept.ended)
 
 -- ---- frames of which one left
@@ -105,13 +106,13 @@ no_doubt_at_all events place whole none judged =
 
 -- ---- a frame was judged
 
-pub judged_by_end : (events : List Event) (frames : List Frame) → list_any (λ f. is_some f.ended) frames ≡ true → AreFrames events frames
+pub judged_by_end : (grounds : Ground) (events : List Event) (frames : List Frame) → list_any (λ f. is_some f.ended) frames ≡ true → AreFrames grounds events frames
     → Decides true (HasJudged events)
-judged_by_end events frames any are = (λ yes. inl (judged_one events frames any are), λ judged. refl)
+judged_by_end grounds events frames any are = (λ yes. inl (judged_one grounds events frames any are), λ judged. refl)
 
-pub judged_by_doubt : (events : List Event) (frames : List Frame) (result : Bool) → list_any (λ f. is_some f.ended) frames ≡ false → AreFrames events frames
+pub judged_by_doubt : (grounds : Ground) (events : List Event) (frames : List Frame) (result : Bool) → list_any (λ f. is_some f.ended) frames ≡ false → AreFrames grounds events frames
     → Decides result (HasJudgedDoubt events) → Decides result (HasJudged events)
-judged_by_doubt events frames result none are decides = (
+judged_by_doubt grounds events frames result none are decides = (
   λ yes. inr (decides.0 yes),
-  λ judged. elim judged [ inl end ↦ absurd (judged_none events frames none are end) | inr doubt ↦ decides.1 doubt ],
+  λ judged. elim judged [ inl end ↦ absurd (judged_none grounds events frames none are end) | inr doubt ↦ decides.1 doubt ],
 )

@@ -1,5 +1,5 @@
 -- What is kept of the events before a place, said of the front of them.
-use Rattle.std.proofs.Common.{◌≡◌, ◌<◌, ◌≤◌, ◌+◌, ℕ, Bool, true, false, ltb, eqb, not, cond, zero, suc, List, [], ◌∷◌, length, take, Option, Some, None, is_some, inl, inr, refl, ap, sym, subst, ◌∙◌, arith}
+use Rattle.std.proofs.Common.{◌≡◌, ◌<◌, ◌≤◌, ◌+◌, ℕ, true, false, ltb, eqb, not, cond, zero, suc, List, [], ◌∷◌, length, take, Option, Some, None, is_some, inl, inr, refl, ap, sym, subst, ◌∙◌, arith}
 use Rattle.std.specs.List.{slice_get}
 use Rattle.std.proofs.lemmas.Bool.{and_parts, both_ways, cases_order, eqb-true, not-true}
 use Rattle.std.proofs.lemmas.List.{take-take}
@@ -7,7 +7,7 @@ use Rattle.std.proofs.lemmas.List.Folds.{list_any_at}
 use Rattle.std.proofs.lemmas.List.Sums.{sum_by-cons}
 use Rattle.std.proofs.lemmas.Option.{get_or_from_slice_get, slice_get_within}
 use Rattle.omci_msg.specs.declared.request.Request.{Request}
-use Rattle.bench_history.specs.History.{frames_in, has_ended, is_end_of, is_frame, is_open, is_sound, replies_in}
+use Rattle.bench_history.specs.History.{frames_in, has_ended, is_end_of, is_frame, is_open, is_sound}
 use Rattle.bench_history.specs.declared.event.Event.{Event}
 use Rattle.bench_history.specs.declared.event.Event.TheVariants.{Sent, Replied, Excused, Entered, Left, LeftOneOf, Strayed, Dropped, Lost, Waited, Ended, Nothing}
 use Rattle.bench_history.specs.declared.extent.Extent.{Extent}
@@ -16,17 +16,16 @@ use Rattle.bench_judge.specs.Admitted.{AreAdmitted, IsAdmitted}
 use Rattle.bench_judge.specs.Counted.{AreKnown, is_enough_of, is_known, is_known_in}
 use Rattle.bench_judge.specs.Explained.{EndedFrame, IsEnded}
 use Rattle.bench_judge.specs.Frames.{AreFrames, AreWithin, IsKeptIn, IsKeptOf}
-use Rattle.bench_judge.specs.Asked.{accepted_of, wanted}
-use Rattle.bench_judge.specs.Walk.{AreSentBy, AreSound, IsAwaited}
-use Rattle.bench_judge.specs.Windows.{least_behind, most_behind}
-use Rattle.bench_judge.specs.Scene.{AreAdmittedUpTo, AreFramesOf, IsDue, IsEndOf, IsFrameOf}
-use Rattle.bench_judge.specs.declared.asking.Due.{Due}
+use Rattle.bench_answers.specs.Asked.{requests_of}
+use Rattle.bench_judge.specs.Walk.{AreSentBy, AreSound}
+use Rattle.bench_answers.specs.Windows.{least_behind, most_behind}
+use Rattle.bench_judge.specs.Scene.{AreAdmittedUpTo, AreFramesOf, IsEndOf, IsFrameOf}
 use Rattle.bench_judge.specs.declared.frame.Frame.{Frame}
-use Rattle.bench_judge.specs.declared.settings.JudgeSettings.{JudgeSettings}
-use Rattle.bench_judge.specs.declared.walk.Awaited.{Awaited}
+use Rattle.bench_judge.specs.Terms.{Terms}
 use Rattle.bench_judge.proofs.Counted.{frames_front, frames_with}
-use Rattle.bench_judge.proofs.Messages.{most_front}
+use Rattle.bench_answers.proofs.Fronts.{most_grows}
 use Rattle.bench_judge.proofs.Places.{element_at, front_get, get_in_front}
+use Rattle.bench_answers.specs.Ground.{Ground}
 
 -- ---- a frame is sent once, and ends once
 
@@ -118,21 +117,21 @@ ends_once events n i j one other sound at there ends again =
 -- ---- the frames
 
 -- how a frame that has ended was kept at its end
-kept_end : (events : List Event) (place : ℕ) (f : EndedFrame) (frame : Frame) (e : Option ℕ) → AreSound events
+kept_end : (grounds : Ground) (events : List Event) (place : ℕ) (f : EndedFrame) (frame : Frame) (e : Option ℕ) → AreSound events
     → f.ended < place → slice_get events f.ended ≡ Some f.seen → is_end_of f.number f.seen ≡ true → frame.is_enough ≡ true
-    → IsEndOf events place f.number frame e → (e ≡ Some f.ended) × (frame.most ≡ most_behind (take f.ended events))
-kept_end events place f frame (Some end) sound less at ends enough is =
+    → IsEndOf grounds events place f.number frame e → (e ≡ Some f.ended) × (frame.most ≡ most_behind grounds (take f.ended events))
+kept_end grounds events place f frame (Some end) sound less at ends enough is =
     let same : end ≡ f.ended = ends_once events f.number end f.ended is.seen f.seen sound is.at at is.is_end ends in
-    (ap (λ (k : ℕ). Some k) same, is.most ∙ ap (λ (k : ℕ). most_behind (take k events)) same)
-kept_end events place f frame None sound less at ends enough is =
+    (ap (λ (k : ℕ). Some k) same, is.most ∙ ap (λ (k : ℕ). most_behind grounds (take k events)) same)
+kept_end grounds events place f frame None sound less at ends enough is =
     elim is.0 [
       | inl short ↦ absurd (both_ways frame.is_enough short enough)
       | inr open_yet ↦ absurd (both_ways (has_ended f.number (take place events)) open_yet (has_ended_at events f.number place f.ended f.seen at ends less))
     ]
 
-frame_of_ended : (events : List Event) (place : ℕ) (frames : List Frame) → AreSound events → AreFramesOf events place frames
-    → (f : EndedFrame) → IsEnded (take place events) f → IsKeptIn (take place events) frames f
-frame_of_ended events place frames sound are f is =
+frame_of_ended : (grounds : Ground) (events : List Event) (place : ℕ) (frames : List Frame) → AreSound events → AreFramesOf grounds events place frames
+    → (f : EndedFrame) → IsEnded (take place events) f → IsKeptIn grounds (take place events) frames f
+frame_of_ended grounds events place frames sound are f is =
     let sent = get_in_front place events f.sent (Entered f.port f.extent f.bytes) is.entered in
     let seen = get_in_front place events f.ended f.seen is.seen in
     let fronts : take f.sent (take place events) ≡ take f.sent events = take-take f.sent place events (omega (arith, sent.0)) in
@@ -142,11 +141,11 @@ frame_of_ended events place frames sound are f is =
     omega (arith, number, are.count, frames_with events f.sent (Entered f.port f.extent f.bytes) sent.1, frames_front events (f.sent + 1) place (omega (arith, sent.0))) in
     let here = element_at frames f.number within in
     let frame : Frame = here.0 in
-    let kept : IsFrameOf events place f.number frame = are.each f.number frame here.1 in
+    let kept : IsFrameOf grounds events place f.number frame = are.each f.number frame here.1 in
     let same : frame.sent ≡ f.sent = sent_once events frame.sent f.sent frame.port f.port kept.extent f.extent kept.bytes f.bytes kept.entered sent.1 (kept.number ∙ number) in
     let one = same_sent events frame.sent f.sent frame.port f.port kept.extent f.extent kept.bytes f.bytes same kept.entered sent.1 in
     let enough : frame.is_enough ≡ true = kept.enough ∙ ap (λ e. is_enough e kept.bytes) one.1 ∙ ap (is_enough f.extent) one.2 ∙ is.enough in
-    let end = kept_end events place f frame frame.ended sound seen.0 seen.1 is.is_end enough kept.end in
+    let end = kept_end grounds events place f frame frame.ended sound seen.0 seen.1 is.is_end enough kept.end in
     record {
       frame = frame;
       at = here.1;
@@ -154,15 +153,15 @@ frame_of_ended events place frames sound are f is =
         sent = same;
         ended = end.0;
         port = one.0;
-        least = kept.least ∙ ap (λ (k : ℕ). least_behind (take k events)) same ∙ ap (λ (xs : List Event). least_behind xs) (sym fronts);
-        most = end.1 ∙ ap (λ (xs : List Event). most_behind xs) (sym ends);
+        least = kept.least ∙ ap (λ (k : ℕ). least_behind grounds (take k events)) same ∙ ap (λ (xs : List Event). least_behind grounds xs) (sym fronts);
+        most = end.1 ∙ ap (λ (xs : List Event). most_behind grounds xs) (sym ends);
       };
     }
 
 -- what is kept as ended has ended
-ended_of_frame : (events : List Event) (place n : ℕ) (frame : Frame) (e : Option ℕ) → frame.ended ≡ e → is_some e ≡ true
-    → IsFrameOf events place n frame → IsEndOf events place n frame e → IsKeptOf (take place events) n frame
-ended_of_frame events place n frame (Some end) same some kept is =
+ended_of_frame : (grounds : Ground) (events : List Event) (place n : ℕ) (frame : Frame) (e : Option ℕ) → frame.ended ≡ e → is_some e ≡ true
+    → IsFrameOf grounds events place n frame → IsEndOf grounds events place n frame e → IsKeptOf grounds (take place events) n frame
+ended_of_frame grounds events place n frame (Some end) same some kept is =
     let fronts : take frame.sent (take place events) ≡ take frame.sent events = take-take frame.sent place events (omega (arith, kept.within)) in
     let ends : take end (take place events) ≡ take end events = take-take end place events (omega (arith, is.within)) in
     record {
@@ -180,33 +179,33 @@ ended_of_frame events place n frame (Some end) same some kept is =
         sent = refl;
         ended = same;
         port = refl;
-        least = kept.least ∙ ap (λ (xs : List Event). least_behind xs) (sym fronts);
-        most = is.most ∙ ap (λ (xs : List Event). most_behind xs) (sym ends);
+        least = kept.least ∙ ap (λ (xs : List Event). least_behind grounds xs) (sym fronts);
+        most = is.most ∙ ap (λ (xs : List Event). most_behind grounds xs) (sym ends);
       };
     }
-ended_of_frame events place n frame None same some kept is = cc some
+ended_of_frame grounds events place n frame None same some kept is = cc some
 
-pub whole_frames : (events : List Event) (place : ℕ) (frames : List Frame) → AreSound events → AreFramesOf events place frames
-    → AreFrames (take place events) frames
-whole_frames events place frames sound are = record {
-  each = frame_of_ended events place frames sound are;
+pub whole_frames : (grounds : Ground) (events : List Event) (place : ℕ) (frames : List Frame) → AreSound events → AreFramesOf grounds events place frames
+    → AreFrames grounds (take place events) frames
+whole_frames grounds events place frames sound are = record {
+  each = frame_of_ended grounds events place frames sound are;
   only = λ n frame at some.
-      let kept : IsFrameOf events place n frame = are.each n frame at in
-      ended_of_frame events place n frame frame.ended refl some kept kept.end;
+      let kept : IsFrameOf grounds events place n frame = are.each n frame at in
+      ended_of_frame grounds events place n frame frame.ended refl some kept kept.end;
 }
 
 -- ---- the greatest versions
 
-within_of : (events : List Event) (place n : ℕ) (frame : Frame) (e : Option ℕ) → IsEndOf events place n frame e
-    → frame.most ≤ most_behind (take place events)
-within_of events place n frame (Some end) is = omega (arith, is.most, most_front events end place (omega (arith, is.within)))
-within_of events place n frame None is = omega (arith, is.1)
+within_of : (grounds : Ground) (events : List Event) (place n : ℕ) (frame : Frame) (e : Option ℕ) → IsEndOf grounds events place n frame e
+    → frame.most ≤ most_behind grounds (take place events)
+within_of grounds events place n frame (Some end) is = omega (arith, is.most, most_grows grounds events end place (omega (arith, is.within)))
+within_of grounds events place n frame None is = omega (arith, is.1)
 
 -- no version is behind all requests
-pub whole_bounded : (events : List Event) (place : ℕ) (requests : List Request) (frames : List Frame) → requests ≡ accepted_of (take place events)
-    → AreFramesOf events place frames → AreWithin requests frames
-whole_bounded events place requests frames same are n frame at =
-    let within = within_of events place n frame frame.ended (are.each n frame at).end in
+pub whole_bounded : (grounds : Ground) (events : List Event) (place : ℕ) (requests : List Request) (frames : List Frame) → requests ≡ requests_of grounds (take place events)
+    → AreFramesOf grounds events place frames → AreWithin requests frames
+whole_bounded grounds events place requests frames same are n frame at =
+    let within = within_of grounds events place n frame frame.ended (are.each n frame at).end in
     omega (arith, within, ap (λ (qs : List Request). length qs) same)
 
 -- ---- of which frames enough is known
@@ -261,8 +260,8 @@ known_at (Ended ∷ rest) (suc i) port extent bytes at = known_at rest i port ex
 known_at (Nothing ∷ rest) zero port extent bytes at = cc at
 known_at (Nothing ∷ rest) (suc i) port extent bytes at = known_at rest i port extent bytes at
 
-pub whole_known : (events : List Event) (place : ℕ) (frames : List Frame) → AreFramesOf events place frames → AreKnown (take place events) frames
-whole_known events place frames are n = by (slice_get frames n) refl
+pub whole_known : (grounds : Ground) (events : List Event) (place : ℕ) (frames : List Frame) → AreFramesOf grounds events place frames → AreKnown (take place events) frames
+whole_known grounds events place frames are n = by (slice_get frames n) refl
   where
     past : (xs : List Frame) (k : ℕ) → slice_get xs k ≡ None → length xs ≤ k
     past [] k none = omega arith
@@ -271,43 +270,27 @@ whole_known events place frames are n = by (slice_get frames n) refl
 
     by : (o : Option Frame) → slice_get frames n ≡ o → is_known_in frames n ≡ is_known (take place events) n
     by (Some frame) at =
-        let kept : IsFrameOf events place n frame = are.each n frame at in
+        let kept : IsFrameOf grounds events place n frame = are.each n frame at in
         let here : slice_get (take place events) frame.sent ≡ Some (Entered frame.port kept.extent kept.bytes) = front_get place events frame.sent kept.within ∙ kept.entered in
         let number : frames_in (take frame.sent (take place events)) ≡ n = ap (λ (xs : List Event). frames_in xs) (take-take frame.sent place events (omega (arith, kept.within))) ∙ kept.number in
         ap is_enough_of at ∙ kept.enough ∙ sym (known_at (take place events) frame.sent frame.port kept.extent kept.bytes here) ∙ ap (is_known (take place events)) number
     by None none = ap is_enough_of none ∙ sym (known_past (take place events) n (omega (arith, past frames n none, are.count)))
 
-pub whole_sent : (events : List Event) (place : ℕ) (frames : List Frame) → AreFramesOf events place frames → AreSentBy (take place events) frames
-whole_sent events place frames are n frame at =
-    let kept : IsFrameOf events place n frame = are.each n frame at in
+pub whole_sent : (grounds : Ground) (events : List Event) (place : ℕ) (frames : List Frame) → AreFramesOf grounds events place frames → AreSentBy grounds (take place events) frames
+whole_sent grounds events place frames are n frame at =
+    let kept : IsFrameOf grounds events place n frame = are.each n frame at in
     let fronts : take frame.sent (take place events) ≡ take frame.sent events = take-take frame.sent place events (omega (arith, kept.within)) in
     record {
       extent = kept.extent;
       bytes = kept.bytes;
       entered = front_get place events frame.sent kept.within ∙ kept.entered;
       number = sym kept.number ∙ ap (λ (xs : List Event). frames_in xs) (sym fronts);
-      least = kept.least ∙ ap (λ (xs : List Event). least_behind xs) (sym fronts);
+      least = kept.least ∙ ap (λ (xs : List Event). least_behind grounds xs) (sym fronts);
     }
 
 -- ---- what is admitted
 
-pub whole_admitted : (settings : JudgeSettings) (events : List Event) (place : ℕ) → AreAdmittedUpTo settings events place → AreAdmitted settings (take place events)
-whole_admitted settings events place admitted i event at =
+pub whole_admitted : (terms : Terms) (events : List Event) (place : ℕ) → AreAdmittedUpTo terms events place → AreAdmitted terms (take place events)
+whole_admitted terms events place admitted i event at =
     let there = get_in_front place events i event at in
-    subst (λ (xs : List Event). IsAdmitted settings xs event) (sym (take-take i place events (omega (arith, there.0)))) (admitted i event there.0 there.1)
-
--- the request that the next reply answers
-pub whole_awaited : (modelled : Bool) (events : List Event) (place : ℕ) (due : Due) (awaited : Awaited)
-    → IsDue modelled events place (replies_in (take place events)) due → awaited.sent ≡ due.sent → awaited.reply ≡ due.expected.reply
-    → IsAwaited (take place events) awaited
-whole_awaited modelled events place due awaited is sent reply = record {
-  answers = is.answers;
-  next = is.at;
-  reply = reply ∙ is.expected.reply;
-  message = is.message;
-  sent = ap (slice_get (take place events)) sent ∙ front_get place events due.sent is.within ∙ is.sent;
-  request = is.request;
-  before = ap (λ (p : ℕ). length (wanted (take p (take place events)))) sent
-      ∙ ap (λ (xs : List Event). length (wanted xs)) (take-take due.sent place events (omega (arith, is.within)))
-      ∙ is.before;
-}
+    subst (λ (xs : List Event). IsAdmitted terms xs event) (sym (take-take i place events (omega (arith, there.0)))) (admitted i event there.0 there.1)

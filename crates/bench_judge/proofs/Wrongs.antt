@@ -1,5 +1,5 @@
 -- What is known of the first event that isn't admitted.
-use Rattle.std.proofs.Common.{◌≡◌, ℕ, ◌+◌, ◌<◌, Bool, true, not, nat_lt, List, [], ◌∷◌, length, map, take, get_or, Some, None, slice_get, inl, inr, refl, ap, sym, subst, ◌∙◌, arith, take-take, le_of_lt}
+use Rattle.std.proofs.Common.{◌≡◌, ℕ, ◌+◌, ◌<◌, Bool, true, not, nat_lt, List, [], ◌∷◌, length, map, take, get_or, Some, None, slice_get, inl, inr, refl, ap, sym, subst, ◌∙◌, arith}
 use Rattle.std.specs.Prelude.{Contains}
 use Rattle.std.specs.List.{list_all}
 use Rattle.std.proofs.lemmas.Bool.{and_parts, ltb-true}
@@ -9,15 +9,15 @@ use Rattle.bench_history.specs.declared.event.Event.TheVariants.{Sent, Replied, 
 use Rattle.bench_history.specs.declared.extent.Extent.{Extent}
 use Rattle.bench_history.specs.declared.gem.SeenGem.{SeenGem}
 use Rattle.bench_judge.specs.Admitted.{IsAdmitted}
-use Rattle.bench_judge.specs.Asked.{wanted}
-use Rattle.bench_history.specs.History.{frames_in, has_ended, is_open, replies_in}
-use Rattle.bench_judge.specs.Judged.{IsCandidate, IsWrongOneOf, IsWrongReply}
-use Rattle.bench_judge.specs.Walk.{AreSound, IsAwaited, IsNext, IsWalk}
+use Rattle.bench_answers.specs.Right.{IsAwaited, IsNext}
+use Rattle.bench_answers.specs.declared.awaited.Awaited.{Awaited}
+use Rattle.bench_history.specs.History.{frames_in, has_ended, is_open}
+use Rattle.bench_judge.specs.Judged.{IsCandidate, IsUnasked, IsWrongOneOf, IsWrongReply}
+use Rattle.bench_judge.specs.Walk.{AreSound, IsWalk}
 use Rattle.bench_judge.specs.declared.judgement.Candidate.{Candidate}
 use Rattle.bench_judge.specs.declared.judgement.WrongOneOf.{WrongOneOf}
 use Rattle.bench_judge.specs.declared.judgement.WrongReply.{WrongReply}
-use Rattle.bench_judge.specs.declared.settings.JudgeSettings.{JudgeSettings}
-use Rattle.bench_judge.specs.declared.walk.Awaited.{Awaited}
+use Rattle.bench_judge.specs.Terms.{Terms, ground_in}
 use Rattle.bench_judge.specs.declared.walk.Walk.{Walk}
 use Rattle.bench_judge.proofs.Lists.{in_front, read_is}
 use Rattle.bench_judge.proofs.Numbered.{first_or_rest}
@@ -32,7 +32,7 @@ all_at p (x ∷ xs) all n has =
     let both = and_parts (p x) (list_all p xs) all in
     elim (first_or_rest x xs n has) [ inl first ↦ ap p first ∙ both.0 | inr rest ↦ all_at p xs both.1 n rest ]
 
-module _ (settings : JudgeSettings) (events : List Event) (walk : Walk) (known : IsWalk settings events walk) (within : walk.walked < length events) where
+module _ (terms : Terms) (events : List Event) (walk : Walk) (known : IsWalk terms events walk) (within : walk.walked < length events) where
   -- the event behind what was walked
   pub event_there : (event : Event) → event ≡ get_or events walk.walked event → slice_get events walk.walked ≡ Some event
   event_there event read =
@@ -40,40 +40,42 @@ module _ (settings : JudgeSettings) (events : List Event) (walk : Walk) (known :
       w.is ∙ ap Some (sym (read_is events walk.walked event w.seen read w.is))
 
   -- it isn't admitted
-  pub refused_is : (event : Event) → slice_get events walk.walked ≡ Some event → IsAdmitted settings (take walk.walked events) event → ⊥
+  pub refused_is : (event : Event) → slice_get events walk.walked ≡ Some event → IsAdmitted terms (take walk.walked events) event → ⊥
   refused_is event at admitted =
       let w = known.refused within in
-      w.refused (subst (IsAdmitted settings (take walk.walked events)) (some_is event w.seen (sym at ∙ w.is)) admitted)
+      w.refused (subst (IsAdmitted terms (take walk.walked events)) (some_is event w.seen (sym at ∙ w.is)) admitted)
 
-  pub awaited_of : (awaited : Awaited) → walk.awaited ≡ Some awaited → IsAwaited (take walk.walked events) awaited
-  awaited_of awaited is = subst (IsNext (take walk.walked events)) is known.awaited
+  pub awaited_of : (awaited : Awaited) → walk.awaited ≡ Some awaited → IsAwaited (ground_in terms) (take walk.walked events) awaited
+  awaited_of awaited is = subst (IsNext (ground_in terms) (take walk.walked events)) is known.awaited
 
   pub sent_before : (awaited : Awaited) → walk.awaited ≡ Some awaited → awaited.sent < length events
   sent_before awaited is =
       let a = awaited_of awaited is in
-      let lt = (in_front walk.walked awaited.sent events (Sent a.message) a.sent).0 in
+      let lt = (in_front walk.walked awaited.sent events (Sent a.sent.message) a.sent.sent).0 in
       omega (arith, lt, within)
 
   pub wrong_is : (awaited : Awaited) (bytes : List ℕ) (r : WrongReply) → walk.awaited ≡ Some awaited → slice_get events walk.walked ≡ Some (Replied bytes)
-      → r ≡ record { request_line = awaited.sent + 1; reply = bytes; model = awaited.reply } → IsWrongReply settings.modelled events walk.walked r
+      → r ≡ record { request_line = awaited.sent + 1; reply = bytes; model = awaited.reply }
+      → IsWrongReply (ground_in terms) (take walk.walked events) (slice_get events walk.walked) r
   wrong_is awaited bytes r is there same =
       let a = awaited_of awaited is in
-      subst (IsWrongReply settings.modelled events walk.walked) (sym same) (record {
+      subst (IsWrongReply (ground_in terms) (take walk.walked events) (slice_get events walk.walked)) (sym same) (record {
         seen = there;
+        wrong = refused_is (Replied bytes) there;
         answers = a.answers;
-        next = a.next;
-        model = a.reply;
-        wrong = λ right. refused_is (Replied bytes) there (record { answers = a.answers; next = a.next; right = right });
         sent = awaited.sent;
         line = refl;
-        message = a.message;
-        is_sent = (in_front walk.walked awaited.sent events (Sent a.message) a.sent).1;
-        request = a.request;
-        before = ap (λ l. length (wanted l)) (sym (take-take awaited.sent walk.walked events (le_of_lt (in_front walk.walked awaited.sent events (Sent a.message) a.sent).0))) ∙ a.before;
+        next = a.sent;
+        model = a.reply;
       })
 
-  pub none_awaited : walk.awaited ≡ None → slice_get (wanted (take walk.walked events)) (replies_in (take walk.walked events)) ≡ None
-  none_awaited is = subst (IsNext (take walk.walked events)) is known.awaited
+  pub unasked_is : (bytes : List ℕ) → walk.awaited ≡ None → slice_get events walk.walked ≡ Some (Replied bytes)
+      → IsUnasked (ground_in terms) (take walk.walked events) (slice_get events walk.walked) bytes
+  unasked_is bytes is there = record {
+    seen = there;
+    wrong = refused_is (Replied bytes) there;
+    none = subst (IsNext (ground_in terms) (take walk.walked events)) is known.awaited;
+  }
 
   -- ---- one of several frames
 
@@ -88,8 +90,8 @@ module _ (settings : JudgeSettings) (events : List Event) (walk : Walk) (known :
 
   pub one_of_is : (w : WrongOneOf) (among : OneOf) → slice_get events walk.walked ≡ Some (LeftOneOf w.gem w.extent among) → w.frame ≡ among.frame
       → (numbers : List ℕ) → numbers ≡ among.numbers → map (λ (c : Candidate). c.number) w.candidates.items ≡ numbers
-      → ((k : ℕ) (c : Candidate) → slice_get w.candidates.items k ≡ Some c → IsCandidate (take walk.walked events) c)
-      → IsWrongOneOf settings.padded events walk.walked w
+      → ((k : ℕ) (c : Candidate) → slice_get w.candidates.items k ≡ Some c → IsCandidate (ground_in terms) (take walk.walked events) c)
+      → IsWrongOneOf (ground_in terms) terms.settings.padded events walk.walked w
   one_of_is w among at frame numbers same all each = record {
     among = among;
     seen = at;

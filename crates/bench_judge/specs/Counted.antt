@@ -6,7 +6,8 @@ use Rattle.bench_history.specs.declared.event.Event.{Event}
 use Rattle.bench_history.specs.declared.event.Event.TheVariants.{Sent, Entered, Left, Strayed, Dropped, Lost}
 use Rattle.bench_history.specs.declared.extent.Extent.TheVariants.{Front}
 use Rattle.bench_sight.specs.Sight.{is_enough}
-use Rattle.bench_judge.specs.Asked.{accepted_of}
+use Rattle.bench_answers.specs.Ground.{Ground}
+use Rattle.bench_answers.specs.Asked.{base, requests_of}
 use Rattle.bench_judge.specs.declared.frame.Frame.{Frame}
 use Rattle.bench_judge.specs.declared.judgement.Counts.{Counts}
 
@@ -47,10 +48,11 @@ is_lost known _ = false
 abbrev pub doubtful_in : List Event → ℕ
 doubtful_in events = count_by (λ n. is_doubtful n events) (range_with_len 0 (frames_in events))
 
--- how much events have of what; all other frames are open, those too of which too little is known
-pub record AreCounts (events : List Event) (counts : Counts) : Type 0 where
+-- how much events have of what; the requests before the first event aren't counted, and all other frames are open, those too of which too
+-- little is known
+pub record AreCounts (grounds : Ground) (events : List Event) (counts : Counts) : Type 0 where
   pub messages : counts.messages ≡ count_by is_message events
-  pub accepted : counts.accepted ≡ length (accepted_of events)
+  pub accepted : counts.accepted ≡ length (requests_of grounds events) - base grounds
   pub replies : counts.replies ≡ replies_in events
   pub forwarded : counts.forwarded ≡ count_by (is_left (is_known events)) events
   pub dropped : counts.dropped ≡ count_by (is_dropped (is_known events)) events

@@ -3,12 +3,13 @@ use Rattle.std.specs.Prelude.{◌≡◌, ◌≤◌, ◌+◌, ℕ, Bool, false, L
 use Rattle.std.specs.declared.alloc.Global.{Global}
 use Rattle.omci_msg.specs.declared.request.Request.{Request}
 use Rattle.bench_history.specs.declared.event.Event.{Event}
+use Rattle.bench_answers.specs.Ground.{Ground}
+use Rattle.bench_judge.specs.Terms.{Terms}
 use Rattle.bench_judge.specs.Explained.{IsChoice, IsLeastChoice}
 use Rattle.bench_judge.specs.Frames.{Fits, FitsLeast}
 use Rattle.bench_judge.specs.Sweep.{AreLeast, NoneFit}
 use Rattle.bench_judge.specs.Walk.{IsWalk}
 use Rattle.bench_judge.specs.declared.frame.Frame.{Frame}
-use Rattle.bench_judge.specs.declared.settings.JudgeSettings.{JudgeSettings}
 use Rattle.bench_judge.specs.declared.walk.Walk.{Walk}
 
 -- an end that comes before a place
@@ -35,8 +36,8 @@ IsSwept padded unordered events requests frames found =
     MatchOption found (NoneFit padded unordered events requests frames) (λ versions. AreLeast padded unordered events requests frames versions.items)
 
 -- events have a choice
-abbrev pub HasChoice : Bool → Bool → List Event → Type 0
-HasChoice padded unordered events = (versions : ℕ → ℕ) × IsChoice padded unordered events versions
+abbrev pub HasChoice : Ground → Bool → Bool → List Event → Type 0
+HasChoice grounds padded unordered events = (versions : ℕ → ℕ) × IsChoice grounds padded unordered events versions
 
 -- versions that fit, and the least of them where order counts
 abbrev pub Suits : Bool → Bool → List Event → List Request → List Frame → (ℕ → ℕ) → Type 0
@@ -48,22 +49,22 @@ IsFitted padded unordered events requests frames found =
     MatchOption found (NoneFit padded unordered events requests frames) (λ versions. Suits padded unordered events requests frames (by_number versions))
 
 -- a choice of events, and the least where order counts, or that they have none
-abbrev pub IsGoodChoice : Bool → Bool → List Event → (ℕ → ℕ) → Type 0
-IsGoodChoice padded unordered events versions =
-    IsChoice padded unordered events versions × (unordered ≡ false → IsLeastChoice padded unordered events versions)
+abbrev pub IsGoodChoice : Ground → Bool → Bool → List Event → (ℕ → ℕ) → Type 0
+IsGoodChoice grounds padded unordered events versions =
+    IsChoice grounds padded unordered events versions × (unordered ≡ false → IsLeastChoice grounds padded unordered events versions)
 
-abbrev pub IsChosen : Bool → Bool → List Event → Option (Vec ℕ Global) → Type 0
-IsChosen padded unordered events found =
-    MatchOption found (¬ (HasChoice padded unordered events)) (λ versions. IsGoodChoice padded unordered events (by_number versions))
+abbrev pub IsChosen : Ground → Bool → Bool → List Event → Option (Vec ℕ Global) → Type 0
+IsChosen grounds padded unordered events found =
+    MatchOption found (¬ (HasChoice grounds padded unordered events)) (λ versions. IsGoodChoice grounds padded unordered events (by_number versions))
 
--- a walk, by any settings
+-- a walk, on any terms
 abbrev pub IsSomeWalk : List Event → Walk → Type 0
-IsSomeWalk events walk = (settings : JudgeSettings) × IsWalk settings events walk
+IsSomeWalk events walk = (terms : Terms) × IsWalk terms events walk
 
 -- the events before a place have a choice, and with the one there they have none
-pub record IsTurn (padded unordered : Bool) (events : List Event) (place : ℕ) : Type 0 where
-  pub before : HasChoice padded unordered (take place events)
-  pub behind : ¬ (HasChoice padded unordered (take (place + 1) events))
+pub record IsTurn (grounds : Ground) (padded unordered : Bool) (events : List Event) (place : ℕ) : Type 0 where
+  pub before : HasChoice grounds padded unordered (take place events)
+  pub behind : ¬ (HasChoice grounds padded unordered (take (place + 1) events))
 
 -- ---- a frame whose versions begin later
 

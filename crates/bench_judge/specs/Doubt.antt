@@ -11,8 +11,9 @@ use Rattle.bench_history.specs.declared.event.Event.TheVariants.{Entered, Left}
 use Rattle.bench_history.specs.declared.extent.Extent.{Extent}
 use Rattle.bench_history.specs.declared.gem.SeenGem.{SeenGem}
 use Rattle.bench_sight.specs.Sight.{IsSeenAs, is_enough}
-use Rattle.bench_judge.specs.Asked.{version}
-use Rattle.bench_judge.specs.Windows.{least_behind, most_behind}
+use Rattle.bench_answers.specs.Ground.{Ground}
+use Rattle.bench_answers.specs.Asked.{version}
+use Rattle.bench_answers.specs.Windows.{least_behind, most_behind}
 use Rattle.bench_judge.specs.declared.doubt.Latest.{Latest}
 use Rattle.bench_judge.specs.declared.frame.Frame.{Frame}
 
@@ -26,20 +27,20 @@ pub record IsSent (events : List Event) (n : ℕ) : Type 0 where
   pub number : n ≡ frames_in (take place events)
 
 -- by a version of its window, which ends behind these events, a frame leaves as one was seen to
-pub record LeavesBy (padded : Bool) (events : List Event) (n : ℕ) (sent : IsSent events n) (seen : Event) (v : ℕ) : Type 0 where
-  pub least : least_behind (take sent.place events) ≤ v
-  pub most : v ≤ most_behind events
-  pub shows : IsSeenAs padded (meaning (version events v) sent.port sent.bytes) sent.extent seen
+pub record LeavesBy (grounds : Ground) (padded : Bool) (events : List Event) (n : ℕ) (sent : IsSent events n) (seen : Event) (v : ℕ) : Type 0 where
+  pub least : least_behind grounds (take sent.place events) ≤ v
+  pub most : v ≤ most_behind grounds events
+  pub shows : IsSeenAs padded (meaning (version grounds events v) sent.port sent.bytes) sent.extent seen
 
 -- a frame may be the one that was seen to leave behind these events: too little is known of it, or it leaves so by some version
-pub record MayBe (padded : Bool) (events : List Event) (n : ℕ) (seen : Event) : Type 0 where
+pub record MayBe (grounds : Ground) (padded : Bool) (events : List Event) (n : ℕ) (seen : Event) : Type 0 where
   pub sent : IsSent events n
-  pub by : (is_enough sent.extent sent.bytes ≡ false) ⊎ ((v : ℕ) × LeavesBy padded events n sent seen v)
+  pub by : (is_enough sent.extent sent.bytes ≡ false) ⊎ ((v : ℕ) × LeavesBy grounds padded events n sent seen v)
 
 -- one of the frames that a line names may be the one that it saw leave; each of them by itself, whatever other lines say of them
-abbrev pub IsOneOf : Bool → List Event → SeenGem → Extent → OneOf → Type 0
-IsOneOf padded events gem extent among =
-    (n : ℕ) × Contains among.numbers n × MayBe padded events n (Left gem extent n among.frame)
+abbrev pub IsOneOf : Ground → Bool → List Event → SeenGem → Extent → OneOf → Type 0
+IsOneOf grounds padded events gem extent among =
+    (n : ℕ) × Contains among.numbers n × MayBe grounds padded events n (Left gem extent n among.frame)
 
 -- ---- by frames as they are kept
 

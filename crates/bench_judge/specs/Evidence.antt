@@ -1,12 +1,14 @@
 -- What of a history was judged.
 use Rattle.std.specs.Prelude.{◌≡◌, ◌<◌, ◌⊎◌, ℕ, Bool, true, false, ◌&&◌, ◌||◌, List, Some, slice_get}
 use Rattle.std.specs.List.{list_all}
-use Rattle.bench_history.specs.History.{frames_in, replies_in}
+use Rattle.bench_history.specs.History.{frames_in}
 use Rattle.bench_history.specs.Among.{OneOf}
 use Rattle.bench_history.specs.declared.event.Event.{Event}
 use Rattle.bench_history.specs.declared.event.Event.TheVariants.{LeftOneOf}
 use Rattle.bench_history.specs.declared.extent.Extent.{Extent}
 use Rattle.bench_history.specs.declared.gem.SeenGem.{SeenGem}
+use Rattle.bench_answers.specs.Ground.{Ground}
+use Rattle.bench_answers.specs.Standing.{compared}
 use Rattle.bench_judge.specs.Counted.{is_known}
 use Rattle.bench_judge.specs.Explained.{EndedFrame, IsEnded}
 use Rattle.bench_judge.specs.declared.judgement.Evidence.{Evidence}
@@ -33,11 +35,11 @@ HasJudgedDoubt events = (i : ℕ) × (event : Event) × (slice_get events i ≡ 
 abbrev pub HasJudged : List Event → Type 0
 HasJudged events = HasJudgedEnd events ⊎ HasJudgedDoubt events
 
--- what of explained events was judged: a frame; or, where none was sent, a reply
-abbrev pub IsEvidence : List Event → Evidence → Type 0
-IsEvidence events Judged = HasJudged events ⊎ ((frames_in events ≡ 0) × (0 < replies_in events))
-IsEvidence events NoFrame = (0 < frames_in events) × ¬ (HasJudged events)
-IsEvidence events Nothing = (frames_in events ≡ 0) × (replies_in events ≡ 0)
+-- what of explained events was judged: a frame; or, where none was sent, a reply that was compared
+abbrev pub IsEvidence : Ground → List Event → Evidence → Type 0
+IsEvidence grounds events Judged = HasJudged events ⊎ ((frames_in events ≡ 0) × (0 < compared grounds events))
+IsEvidence grounds events NoFrame = (0 < frames_in events) × ¬ (HasJudged events)
+IsEvidence grounds events Nothing = (frames_in events ≡ 0) × (compared grounds events ≡ 0)
 
 abbrev is_judged : Evidence → Bool
 is_judged Judged = true

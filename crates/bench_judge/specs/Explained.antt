@@ -6,10 +6,11 @@ use Rattle.bench_history.specs.declared.event.Event.{Event}
 use Rattle.bench_history.specs.declared.event.Event.TheVariants.{Entered}
 use Rattle.bench_history.specs.declared.extent.Extent.{Extent}
 use Rattle.bench_sight.specs.Sight.{IsSeenAs, is_enough}
+use Rattle.bench_answers.specs.Ground.{Ground}
+use Rattle.bench_answers.specs.Asked.{version}
+use Rattle.bench_answers.specs.Windows.{least_behind, most_behind}
+use Rattle.bench_judge.specs.Terms.{Terms, ground_in}
 use Rattle.bench_judge.specs.Admitted.{AreAdmitted}
-use Rattle.bench_judge.specs.Asked.{version}
-use Rattle.bench_judge.specs.Windows.{least_behind, most_behind}
-use Rattle.bench_judge.specs.declared.settings.JudgeSettings.{JudgeSettings}
 
 -- a frame that has ended: which event sent it and which ended it, by their places, its number and port, what is known of it, and how it ended
 pub record EndedFrame : Type 0 where
@@ -31,26 +32,26 @@ pub record IsEnded (events : List Event) (f : EndedFrame) : Type 0 where
   pub enough : is_enough f.extent f.bytes ≡ true
 
 -- a frame may have left by a version: it is in the frame's window, and what was seen is what its entities mean
-pub record IsVersionOf (padded : Bool) (events : List Event) (f : EndedFrame) (v : ℕ) : Type 0 where
-  pub least : least_behind (take f.sent events) ≤ v
-  pub most : v ≤ most_behind (take f.ended events)
-  pub seen : IsSeenAs padded (meaning (version events v) f.port f.bytes) f.extent f.seen
+pub record IsVersionOf (grounds : Ground) (padded : Bool) (events : List Event) (f : EndedFrame) (v : ℕ) : Type 0 where
+  pub least : least_behind grounds (take f.sent events) ≤ v
+  pub most : v ≤ most_behind grounds (take f.ended events)
+  pub seen : IsSeenAs padded (meaning (version grounds events v) f.port f.bytes) f.extent f.seen
 
 -- versions, by the numbers of frames: each ended frame may have its own, and, where order counts, of two of a port the one that
 -- was sent first has no greater one
-pub record IsChoice (padded unordered : Bool) (events : List Event) (versions : ℕ → ℕ) : Type 0 where
-  pub each : (f : EndedFrame) → IsEnded events f → IsVersionOf padded events f (versions f.number)
+pub record IsChoice (grounds : Ground) (padded unordered : Bool) (events : List Event) (versions : ℕ → ℕ) : Type 0 where
+  pub each : (f : EndedFrame) → IsEnded events f → IsVersionOf grounds padded events f (versions f.number)
   pub ordered : unordered ≡ false → (f g : EndedFrame) → IsEnded events f → IsEnded events g
       → f.port ≡ g.port → f.number < g.number → versions f.number ≤ versions g.number
 
 -- events are explained
-pub record IsExplained (settings : JudgeSettings) (events : List Event) : Type 0 where
-  pub admitted : AreAdmitted settings events
+pub record IsExplained (terms : Terms) (events : List Event) : Type 0 where
+  pub admitted : AreAdmitted terms events
   pub versions : ℕ → ℕ
-  pub choice : IsChoice settings.padded settings.unordered events versions
+  pub choice : IsChoice (ground_in terms) terms.settings.padded terms.settings.unordered events versions
 
 -- versions of which each is the least that its frame has in any choice, and which are a choice
-pub record IsLeastChoice (padded unordered : Bool) (events : List Event) (versions : ℕ → ℕ) : Type 0 where
-  pub choice : IsChoice padded unordered events versions
-  pub least : (other : ℕ → ℕ) → IsChoice padded unordered events other
+pub record IsLeastChoice (grounds : Ground) (padded unordered : Bool) (events : List Event) (versions : ℕ → ℕ) : Type 0 where
+  pub choice : IsChoice grounds padded unordered events versions
+  pub least : (other : ℕ → ℕ) → IsChoice grounds padded unordered events other
       → (f : EndedFrame) → IsEnded events f → versions f.number ≤ other f.number

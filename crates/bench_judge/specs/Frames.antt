@@ -8,37 +8,38 @@ use Rattle.bench_history.specs.declared.event.Event.{Event}
 use Rattle.bench_history.specs.declared.event.Event.TheVariants.{Entered}
 use Rattle.bench_history.specs.declared.extent.Extent.{Extent}
 use Rattle.bench_sight.specs.Sight.{IsSeenAs}
-use Rattle.bench_judge.specs.Windows.{least_behind, most_behind}
+use Rattle.bench_answers.specs.Ground.{Ground}
+use Rattle.bench_answers.specs.Windows.{least_behind, most_behind}
 use Rattle.bench_judge.specs.Explained.{EndedFrame, IsEnded}
 use Rattle.bench_judge.specs.declared.frame.Frame.{Frame}
 
 -- ---- the frames of events
 
 -- what is kept of an ended frame
-pub record IsKept (events : List Event) (f : EndedFrame) (frame : Frame) : Type 0 where
+pub record IsKept (grounds : Ground) (events : List Event) (f : EndedFrame) (frame : Frame) : Type 0 where
   pub sent : frame.sent ≡ f.sent
   pub ended : frame.ended ≡ Some f.ended
   pub port : frame.port ≡ f.port
-  pub least : frame.least ≡ least_behind (take f.sent events)
-  pub most : frame.most ≡ most_behind (take f.ended events)
+  pub least : frame.least ≡ least_behind grounds (take f.sent events)
+  pub most : frame.most ≡ most_behind grounds (take f.ended events)
 
 -- an ended frame is kept at its number
-pub record IsKeptIn (events : List Event) (frames : List Frame) (f : EndedFrame) : Type 0 where
+pub record IsKeptIn (grounds : Ground) (events : List Event) (frames : List Frame) (f : EndedFrame) : Type 0 where
   pub frame : Frame
   pub at : slice_get frames f.number ≡ Some frame
-  pub kept : IsKept events f frame
+  pub kept : IsKept grounds events f frame
 
 -- what is kept at a number as ended is that ended frame
-pub record IsKeptOf (events : List Event) (n : ℕ) (frame : Frame) : Type 0 where
+pub record IsKeptOf (grounds : Ground) (events : List Event) (n : ℕ) (frame : Frame) : Type 0 where
   pub f : EndedFrame
   pub is : IsEnded events f
   pub number : f.number ≡ n
-  pub kept : IsKept events f frame
+  pub kept : IsKept grounds events f frame
 
 -- frames are those of events, by their numbers; of one that is open, not sent yet, or of which too little is known, nothing is said
-pub record AreFrames (events : List Event) (frames : List Frame) : Type 0 where
-  pub each : (f : EndedFrame) → IsEnded events f → IsKeptIn events frames f
-  pub only : (n : ℕ) (frame : Frame) → slice_get frames n ≡ Some frame → is_some frame.ended ≡ true → IsKeptOf events n frame
+pub record AreFrames (grounds : Ground) (events : List Event) (frames : List Frame) : Type 0 where
+  pub each : (f : EndedFrame) → IsEnded events f → IsKeptIn grounds events frames f
+  pub only : (n : ℕ) (frame : Frame) → slice_get frames n ≡ Some frame → is_some frame.ended ≡ true → IsKeptOf grounds events n frame
 
 -- ---- versions for frames, whatever their windows
 

@@ -1,9 +1,7 @@
+pub mod Terms
 pub mod Alone
-pub mod Asked
-pub mod Replies
 pub mod Doubt
 pub mod Admitted
-pub mod Windows
 pub mod Explained
 pub mod Frames
 pub mod Sweep
@@ -15,4 +13,5 @@ pub mod Rising
 pub mod Counted
 pub mod Evidence
 pub mod Judged
+pub mod Deviations
 pub mod Laws

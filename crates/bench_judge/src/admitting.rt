@@ -3,36 +3,40 @@ ghost use Rattle.std.specs.Prelude.{ℕ, Decides, IfOk, take};
 ghost use Rattle.bench_judge.specs.Admitted.{IsAdmitted};
 ghost use Rattle.bench_judge.specs.Doubt.{IsLatest};
 ghost use Rattle.bench_judge.specs.Scene.{IsScene};
+ghost use Rattle.bench_judge.specs.Terms.{terms_of};
 
 use crate::doubt::{Doubtful, Latest, is_one_of};
 use crate::frame::Case;
 use crate::scene::Scene;
+use crate::terms::Terms;
 use bench_history::Event;
 use std::alloc::{AllocError, Global};
 
 /// Whether an event by itself is one that a right unit may have shown behind those of a scene.
 pub(crate) fn is_admitted(
     alloc: Global,
-    scene: &Scene,
+    terms: &Terms<'_>,
+    scene: &Scene<'_>,
     events: &[Event<'_>],
     event: &Event<'_>,
     latest: &mut Option<Latest>,
 ) -> Result<bool, AllocError>
-    requires { IsLatest scene.now.asking.requests.items latest.old }
-    ensures latest { IsLatest scene.now.asking.requests.items latest.new }
-    ensures is { IfOk result (λ is. (place : ℕ) → IsScene events.now place scene.now
-        → Decides is (IsAdmitted scene.now.settings (take place events.now) event.now)) }
+    requires scene { (place : ℕ) × IsScene (terms_of terms.now) events.now place scene.now }
+    requires latest { IsLatest scene.now.answers.asking.requests.items latest.old }
+    ensures latest { IsLatest scene.now.answers.asking.requests.items latest.new }
+    ensures is { IfOk result (λ is. (place : ℕ) → IsScene (terms_of terms.now) events.now place scene.now
+        → Decides is (IsAdmitted (terms_of terms.now) (take place events.now) event.now)) }
 {
     match event {
-        Event::Replied { reply } => Ok(scene.is_right(reply)),
-        Event::Strayed { .. } => Ok(scene.settings.strays),
+        Event::Replied { reply } => Ok(scene.answers.is_right(reply)),
+        Event::Strayed { .. } => Ok(terms.settings.strays),
         Event::LeftOneOf { gem, extent, among } => {
             let case = Case {
                 events,
-                requests: &scene.asking.requests,
+                requests: scene.answers.requests(),
                 frames: &scene.frames,
-                padded: scene.settings.padded,
-                unordered: scene.settings.unordered,
+                padded: terms.settings.padded,
+                unordered: terms.settings.unordered,
             };
             let doubtful = Doubtful {
                 gem: *gem,

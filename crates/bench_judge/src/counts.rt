@@ -1,8 +1,9 @@
 //! How much a history has of what.
-ghost use Rattle.std.specs.Prelude.{◌≡◌, ◌++◌, ◌∷◌, [], IfOk, List, count_by, length, slice_set, true};
+ghost use Rattle.std.specs.Prelude.{◌≡◌, ◌++◌, ◌-◌, ◌∷◌, [], IfOk, List, count_by, length, slice_set, true};
 ghost use Rattle.bench_history.specs.History.{frames_in};
 ghost use Rattle.bench_history.specs.declared.event.Event.{Event as TheEvent};
-ghost use Rattle.bench_judge.specs.Asked.{accepted_of};
+ghost use Rattle.bench_answers.specs.Ground.{Ground};
+ghost use Rattle.bench_answers.specs.Asked.{base, requests_of};
 ghost use Rattle.bench_judge.specs.Counted.{AreCounts, AreKnown, AreMarks, doubtful_in, is_known_in, marked};
 
 use crate::frame::Frame;
@@ -136,9 +137,9 @@ pub(crate) fn counts(
     doubtful: usize,
 ) -> Counts
     requires known { AreKnown events.now frames.now }
-    requires accepted { accepted ≡ length (accepted_of events.now) }
     requires doubtful { doubtful ≡ doubtful_in events.now }
-    ensures { AreCounts events.now result }
+    ensures { (grounds : Ground) → accepted ≡ length (requests_of grounds events.now) - base grounds
+        → AreCounts grounds events.now result }
 {
     let mut counts = Counts {
         messages: 0,

@@ -1,11 +1,14 @@
 //! What the events before a place show of frames and of their versions.
 ghost use Rattle.std.specs.Prelude.{◌≡◌, ◌≤◌, IfOk, map, take};
-ghost use Rattle.bench_judge.specs.Cut.{IsChosen, IsSomeWalk, until};
+ghost use Rattle.bench_judge.specs.Cut.{IsChosen, until};
+ghost use Rattle.bench_judge.specs.Terms.{ground_in, terms_of};
+ghost use Rattle.bench_judge.specs.Walk.{IsWalk};
 
 use crate::fitting::versions_of;
 use crate::frame::{Case, Frame};
-use crate::settings::JudgeSettings;
+use crate::terms::Terms;
 use crate::walk::Walk;
+use crate::watch::Watch;
 use bench_history::Event;
 use std::alloc::{AllocError, Global};
 
@@ -39,25 +42,28 @@ pub(crate) fn frames_until(
 }
 
 /// Versions that the frames of the events before a place may have together, by their numbers: the least where order counts, and else some.
-/// None where these events have no choice.
-pub(crate) fn choice_until(
+/// None where these events have no choice: then the hint is the place of an event that leaves none, and mostly of the first.
+pub(crate) fn choice_until<W: Watch>(
     alloc: Global,
     events: &[Event<'_>],
     walk: &Walk,
-    settings: &JudgeSettings,
+    terms: &Terms<'_>,
     place: usize,
+    hint: &mut usize,
+    watch: &mut W,
 ) -> Result<Option<Vec<usize>>, AllocError>
-    requires walked { IsSomeWalk events.now walk.now }
+    requires walked { IsWalk (terms_of terms.now) events.now walk.now }
     requires within { place ≤ walk.now.walked }
-    ensures { IfOk result (IsChosen settings.now.padded settings.now.unordered (take place events.now)) }
+    ensures { IfOk result (IsChosen (ground_in (terms_of terms.now)) terms.now.settings.padded
+        terms.now.settings.unordered (take place events.now)) }
 {
     let frames = frames_until(alloc, &walk.frames, place)?;
     let case = Case {
         events,
         requests: &walk.requests,
         frames: &frames,
-        padded: settings.padded,
-        unordered: settings.unordered,
+        padded: terms.settings.padded,
+        unordered: terms.settings.unordered,
     };
-    versions_of(alloc, &case)
+    versions_of(alloc, &case, hint, watch)
 }

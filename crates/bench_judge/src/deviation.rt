@@ -5,6 +5,7 @@ ghost use Rattle.bench_history.specs.declared.event.Event.TheVariants.{Entered, 
 ghost use Rattle.bench_judge.specs.Cut.{IsSomeWalk, IsTurn};
 ghost use Rattle.bench_history.specs.declared.extent.Extent.{Extent as TheExtent};
 ghost use Rattle.bench_judge.specs.Judged.{IsCandidate, IsEndAs, IsWrongAt, IsWrongFrame};
+ghost use Rattle.bench_judge.specs.Terms.{Terms as TheTerms, ground_in, terms_of};
 ghost use Rattle.bench_judge.specs.declared.judgement.Candidate.{Candidate as TheCandidate};
 ghost use Rattle.bench_judge.specs.Walk.{AreSound, IsWalk};
 
@@ -14,8 +15,9 @@ use crate::fitting::versions_of;
 use crate::frame::Case;
 use crate::judgement::{Candidate, End, Wrong, WrongFrame, WrongOneOf, WrongReply};
 use crate::runs::runs;
-use crate::settings::JudgeSettings;
+use crate::terms::Terms;
 use crate::walk::Walk;
+use crate::watch::Nobody;
 use bench_history::{Among, Digits, Event, Extent};
 use script_lines::MOST_SPELLED;
 use std::alloc::{AllocError, Global};
@@ -72,14 +74,15 @@ pub(crate) fn wrong_frame<'a>(
     alloc: Global,
     events: &[Event<'a>],
     walk: &Walk,
-    settings: &JudgeSettings,
+    terms: &Terms<'_>,
     place: usize,
 ) -> Result<WrongFrame<'a>, AllocError>
     requires sound { AreSound events.now }
-    requires walked { IsWalk settings.now events.now walk.now }
+    requires walked { IsWalk (terms_of terms.now) events.now walk.now }
     requires within { place < walk.now.walked }
-    requires turn { IsTurn settings.now.padded settings.now.unordered events.now place }
-    ensures { IfOk result (IsWrongFrame settings.now events.now place) }
+    requires turn { IsTurn (ground_in (terms_of terms.now)) terms.now.settings.padded
+        terms.now.settings.unordered events.now place }
+    ensures { IfOk result (IsWrongFrame (terms_of terms.now) events.now place) }
 {
     let number = ended_by(&events[place]);
     let frame = walk.frames[number];
@@ -88,10 +91,10 @@ pub(crate) fn wrong_frame<'a>(
         events,
         requests: &walk.requests,
         frames: &frames,
-        padded: settings.padded,
-        unordered: settings.unordered,
+        padded: terms.settings.padded,
+        unordered: terms.settings.unordered,
     };
-    let Some(versions) = versions_of(alloc, &case)? else {
+    let Some(versions) = versions_of(alloc, &case, &mut 0, &mut Nobody)? else {
         unreachable!();
     };
     let at_least = at_least(&case, &versions, &frame, number);
@@ -99,7 +102,10 @@ pub(crate) fn wrong_frame<'a>(
     let (extent, sent) = sent_by(&events[frame.sent]);
     let mut buffer = [0; MOST_SPELLED];
     let bytes = sent.read(&mut buffer);
-    let runs = runs(alloc, &walk.requests, frame.port, bytes, at_least, at_most)?;
+    let base = walk.base;
+    let from = at_least.saturating_sub(base);
+    let to = at_most.saturating_sub(base);
+    let runs = runs(alloc, &walk.requests, base, frame.port, bytes, from, to)?;
     Ok(WrongFrame {
         number,
         port: frame.port,
@@ -107,8 +113,8 @@ pub(crate) fn wrong_frame<'a>(
         extent,
         sent,
         seen: end_of(&events[place]),
-        at_least,
-        at_most,
+        at_least: from,
+        at_most: to,
         runs,
     })
 }
@@ -117,13 +123,13 @@ pub(crate) fn wrong_frame<'a>(
 fn wrong_reply<'a>(
     events: &[Event<'_>],
     walk: Walk,
-    settings: &JudgeSettings,
+    terms: &Terms<'_>,
     reply: Digits<'a>,
 ) -> Wrong<'a>
-    requires walked { IsWalk settings.now events.now walk }
+    requires walked { IsWalk (terms_of terms.now) events.now walk }
     requires within { walk.walked < length events.now }
     requires replied { slice_get events.now walk.walked ≡ Some (Replied reply) }
-    ensures { IsWrongAt settings.now events.now walk.walked result }
+    ensures { IsWrongAt (terms_of terms.now) events.now walk.walked result }
 {
     match walk.awaited {
         Some(awaited) => Wrong::Reply(WrongReply {
@@ -145,29 +151,25 @@ fn candidate<'a>(
     requires walked { IsSomeWalk events.now walk.now }
     requires known { number < length walk.now.frames.items }
     ensures number { IfOk result (λ c. c.number ≡ number) }
-    ensures is { IfOk result (IsCandidate (take walk.now.walked events.now)) }
+    ensures is { (terms : TheTerms) → IsWalk terms events.now walk.now
+        → IfOk result (IsCandidate (ground_in terms) (take walk.now.walked events.now)) }
 {
     let frame = walk.frames[number];
     let (extent, sent) = sent_by(&events[frame.sent]);
     let mut buffer = [0; MOST_SPELLED];
     let bytes = sent.read(&mut buffer);
-    let at_most = walk.requests.len();
-    let runs = runs(
-        alloc,
-        &walk.requests,
-        frame.port,
-        bytes,
-        frame.least,
-        at_most,
-    )?;
+    let base = walk.base;
+    let from = frame.least.saturating_sub(base);
+    let to = walk.requests.len().saturating_sub(base);
+    let runs = runs(alloc, &walk.requests, base, frame.port, bytes, from, to)?;
     Ok(Candidate {
         number,
         port: frame.port,
         sent_line: frame.sent + 1,
         extent,
         sent,
-        at_least: frame.least,
-        at_most,
+        at_least: from,
+        at_most: to,
         runs,
     })
 }
@@ -182,8 +184,9 @@ fn candidates<'a>(
     requires walked { IsSomeWalk events.now walk.now }
     requires known { (n : ℕ) → Contains among.now.numbers n → n < length walk.now.frames.items }
     ensures numbers { IfOk result (λ all. map (λ c. c.number) all.items ≡ among.now.numbers) }
-    ensures each { IfOk result (λ all. (k : ℕ) (c : TheCandidate) → slice_get all.items k ≡ Some c
-        → IsCandidate (take walk.now.walked events.now) c) }
+    ensures each { (terms : TheTerms) → IsWalk terms events.now walk.now
+        → IfOk result (λ all. (k : ℕ) (c : TheCandidate) → slice_get all.items k ≡ Some c
+        → IsCandidate (ground_in terms) (take walk.now.walked events.now) c) }
 {
     let mut numbers = among.numbers();
     let mut all = Vec::new(alloc);
@@ -198,15 +201,15 @@ pub(crate) fn wrong_event<'a>(
     alloc: Global,
     events: &[Event<'a>],
     walk: Walk,
-    settings: &JudgeSettings,
+    terms: &Terms<'_>,
 ) -> Result<Wrong<'a>, AllocError>
     requires sound { AreSound events.now }
-    requires walked { IsWalk settings.now events.now walk }
+    requires walked { IsWalk (terms_of terms.now) events.now walk }
     requires within { walk.walked < length events.now }
-    ensures { IfOk result (IsWrongAt settings.now events.now walk.walked) }
+    ensures { IfOk result (IsWrongAt (terms_of terms.now) events.now walk.walked) }
 {
     match &events[walk.walked] {
-        Event::Replied { reply } => Ok(wrong_reply(events, walk, settings, reply.copied())),
+        Event::Replied { reply } => Ok(wrong_reply(events, walk, terms, reply.copied())),
         Event::Strayed { gem, extent, frame } => Ok(Wrong::Stray {
             gem: *gem,
             extent: *extent,

@@ -1,7 +1,9 @@
 //! What of a history was judged, and whether it was observed to its end.
 ghost use Rattle.std.specs.Prelude.{◌≡◌, Decides, List, is_some, length};
+ghost use Rattle.bench_answers.specs.Ground.{Ground};
+ghost use Rattle.bench_answers.specs.Standing.{compared as compared_in};
 ghost use Rattle.std.specs.List.{list_all, list_any};
-ghost use Rattle.bench_history.specs.History.{frames_in, is_ended, replies_in};
+ghost use Rattle.bench_history.specs.History.{frames_in, is_ended};
 ghost use Rattle.bench_history.specs.declared.event.Event.{Event as TheEvent};
 ghost use Rattle.bench_judge.specs.Counted.{AreKnown, is_known_in};
 ghost use Rattle.bench_judge.specs.Evidence.{HasJudged, HasJudgedDoubt, IsEvidence, IsKnownDoubt};
@@ -66,7 +68,7 @@ fn has_known_doubt(events: &[Event<'_>], frames: &[Frame]) -> bool
 /// Whether a frame of events was judged: one that has ended, or one of several that left. These are their frames.
 fn has_judged(events: &[Event<'_>], frames: &[Frame]) -> bool
     requires known { AreKnown events.now frames.now }
-    requires frames { AreFrames events.now frames.now }
+    requires frames { (grounds : Ground) × AreFrames grounds events.now frames.now }
     ensures { Decides result (HasJudged events.now) }
 {
     if has_judged_end(frames) {
@@ -75,13 +77,13 @@ fn has_judged(events: &[Event<'_>], frames: &[Frame]) -> bool
     has_known_doubt(events, frames)
 }
 
-/// What of events was judged, whose frames are these, and which have so many replies.
-pub(crate) fn evidence(events: &[Event<'_>], frames: &[Frame], replies: usize) -> Evidence
+/// What of events was judged, whose frames are these, and of whose replies so many were compared.
+pub(crate) fn evidence(events: &[Event<'_>], frames: &[Frame], compared: usize) -> Evidence
     requires known { AreKnown events.now frames.now }
-    requires frames { AreFrames events.now frames.now }
+    requires frames { (grounds : Ground) × AreFrames grounds events.now frames.now }
     requires count { length frames.now ≡ frames_in events.now }
-    requires replies { replies ≡ replies_in events.now }
-    ensures { IsEvidence events.now result }
+    ensures { (grounds : Ground) → compared ≡ compared_in grounds events.now
+        → IsEvidence grounds events.now result }
 {
     if has_judged(events, frames) {
         return Evidence::Judged;
@@ -89,7 +91,7 @@ pub(crate) fn evidence(events: &[Event<'_>], frames: &[Frame], replies: usize) -
     if frames.len() > 0 {
         return Evidence::NoFrame;
     }
-    if replies > 0 {
+    if compared > 0 {
         return Evidence::Judged;
     }
     Evidence::Nothing

@@ -1,5 +1,5 @@
-//! Versions for frames, and how they are found where each frame is judged by itself. A unit seldom lags behind what it was told, so the last version of a frame's window
-//! is tried first, and only for the frames that can't have that one all versions are gone through.
+//! Versions for frames, and how they are found where each frame is judged by itself. A unit seldom lags behind what it was told, so the
+//! last version of a frame's window is tried first, and only for the frames that can't have that one all versions are gone through.
 ghost use Rattle.std.specs.Prelude.{◌≡◌, ◌≤◌, true, IfOk, MatchOption, length, slice_index, take};
 ghost use Rattle.mib_state.specs.After.{after};
 ghost use Rattle.bench_judge.specs.Alone.{AreHad, AreJoined, IsLate, left_of, version_or};
@@ -9,6 +9,7 @@ ghost use Rattle.bench_judge.specs.Sweep.{NoneFit};
 
 use crate::frame::{Case, Frame};
 use crate::sweep::{may_have, sweep};
+use crate::watch::Watch;
 use bench_history::Event;
 use bench_sight::Buffers;
 use forward_plan::Live;
@@ -146,13 +147,16 @@ fn all_versions(
     Ok(all)
 }
 
-/// A version for each frame that it may have, by its number, where each is judged by itself; None where one may have none.
+/// A version for each frame that it may have, by its number, where each is judged by itself. None where one may have none: then
+/// the hint is the place of its end.
 ///
 /// It takes time in proportion to the events and the versions, and once more to the versions for each frame that may not have the last one
 /// of its window.
-pub(crate) fn versions_alone(
+pub(crate) fn versions_alone<W: Watch>(
     alloc: Global,
     case: &Case<'_, '_>,
+    hint: &mut usize,
+    watch: &mut W,
 ) -> Result<Option<Vec<usize>>, AllocError>
     requires { AreWithin case.now.requests.now case.now.frames.now }
     ensures { IfOk result (λ found. MatchOption found
@@ -169,23 +173,26 @@ pub(crate) fn versions_alone(
         padded: case.padded,
         unordered: true,
     };
-    match sweep(alloc, &behind)? {
+    match sweep(alloc, &behind, hint, watch)? {
         Some(others) => Ok(Some(all_versions(alloc, &others, &found)?)),
         None => Ok(None),
     }
 }
 
-/// Versions that frames may have together, by their numbers: the least where order counts, and else some. None where they can have none.
-pub(crate) fn versions_of(
+/// Versions that frames may have together, by their numbers: the least where order counts, and else some. None where they can have none:
+/// then the hint is the place of an event that leaves none, and mostly of the first.
+pub(crate) fn versions_of<W: Watch>(
     alloc: Global,
     case: &Case<'_, '_>,
+    hint: &mut usize,
+    watch: &mut W,
 ) -> Result<Option<Vec<usize>>, AllocError>
     requires { AreWithin case.now.requests.now case.now.frames.now }
     ensures { IfOk result (IsFitted case.now.padded case.now.unordered case.now.events.now case.now.requests.now
         case.now.frames.now) }
 {
     if case.unordered {
-        return versions_alone(alloc, case);
+        return versions_alone(alloc, case, hint, watch);
     }
-    sweep(alloc, case)
+    sweep(alloc, case, hint, watch)
 }

@@ -1,46 +1,75 @@
 //! Where events stop having a choice, and the greatest version that a frame may have: both found by halving.
 ghost use Rattle.std.specs.Prelude.{◌≡◌, ◌≤◌, ◌<◌, ◌+◌, ℕ, Some, true, false, Decides, IfOk, is_some, length, slice_get, take};
-ghost use Rattle.bench_judge.specs.Cut.{HasChoice, IsGreatestFit, IsSomeWalk, IsTurn};
+ghost use Rattle.bench_judge.specs.Cut.{HasChoice, IsGreatestFit, IsTurn};
 ghost use Rattle.bench_judge.specs.Frames.{AreWithin, Fits, FitsLeast};
+ghost use Rattle.bench_judge.specs.Terms.{ground_in, terms_of};
+ghost use Rattle.bench_judge.specs.Walk.{IsWalk};
 ghost use Rattle.bench_judge.specs.declared.frame.Frame.{Frame};
 
 use crate::cut::choice_until;
 use crate::frame::Case;
-use crate::settings::JudgeSettings;
 use crate::sweep::sweep;
+use crate::terms::Terms;
 use crate::walk::Walk;
-use crate::watch::{Stage, Watch};
+use crate::watch::{Nobody, Stage, Watch};
 use bench_history::Event;
 use omci_msg::Request;
 use std::alloc::{AllocError, Global};
 
-/// The place of the first event that leaves no choice, where all that were walked have none. It is looked for from the end, by steps
-/// that double until events have a choice, and then by halving: a history is mostly recorded until it deviates.
+/// How many places are tried by hints. Halving goes on behind them, so that wrong hints cost little.
+const MOST_HINTED: usize = 32;
+
+/// The place to try next between two: the one of a hint, or the one behind it once events have a choice up to there. Where the hint is of
+/// no use, it is so many steps before the second place, and at most half of the way.
+fn next_try(low: usize, high: usize, step: usize, hint: usize) -> usize
+    requires apart { low + 1 < high }
+    requires some { 0 < step }
+    ensures { (low < result) × (result < high) }
+{
+    if low < hint && hint < high {
+        return hint;
+    }
+    if hint == low {
+        return low + 1;
+    }
+    high - step.min((high - low) / 2)
+}
+
+/// The place of the first event that leaves no choice, where all that were walked have none. A hint says where it may be: it costs two
+/// tries where it is right, and has no part in the answer. Else the place is looked for from the end, by steps that double until events
+/// have a choice, and then by halving: a history is mostly recorded until it deviates.
 pub(crate) fn turn<W: Watch>(
     alloc: Global,
     events: &[Event<'_>],
     walk: &Walk,
-    settings: &JudgeSettings,
+    terms: &Terms<'_>,
+    hint: usize,
     watch: &mut W,
 ) -> Result<usize, AllocError>
-    requires walked { IsSomeWalk events.now walk.now }
-    requires none { ¬ (HasChoice settings.now.padded settings.now.unordered
-        (take walk.now.walked events.now)) }
+    requires walked { IsWalk (terms_of terms.now) events.now walk.now }
+    requires none { ¬ (HasChoice (ground_in (terms_of terms.now)) terms.now.settings.padded
+        terms.now.settings.unordered (take walk.now.walked events.now)) }
     ensures { IfOk result (λ place. (place < walk.now.walked)
-        × IsTurn settings.now.padded settings.now.unordered events.now place) }
+        × IsTurn (ground_in (terms_of terms.now)) terms.now.settings.padded terms.now.settings.unordered
+        events.now place) }
 {
     let mut low = 0;
     let mut high = walk.walked;
     let mut step = 1;
+    let mut hint = hint;
+    let mut hinted = MOST_HINTED;
     while high - low > 1 {
         watch.reached(Stage::Halving { lines: high - low });
-        let back = step.min((high - low) / 2);
-        let middle = high - back;
-        if choice_until(alloc, events, walk, settings, middle)?.is_some() {
+        let hinted_at = if hinted > 0 { hint } else { high };
+        let middle = next_try(low, high, step, hinted_at);
+        hinted = hinted.saturating_sub(1);
+        let nobody = &mut Nobody;
+        let found = choice_until(alloc, events, walk, terms, middle, &mut hint, nobody)?;
+        if found.is_some() {
             low = middle;
         } else {
+            step = 2 * (high - middle);
             high = middle;
-            step = 2 * back;
         }
     }
     Ok(low)
@@ -70,7 +99,7 @@ fn fits_from(
         padded: case.padded,
         unordered: case.unordered,
     };
-    Ok(sweep(alloc, &from)?.is_some())
+    Ok(sweep(alloc, &from, &mut 0, &mut Nobody)?.is_some())
 }
 
 /// The greatest version of an ended frame in all versions that fit, from one that it has in some.

@@ -7,13 +7,30 @@ use omci_msg::Reply;
 use tag_view::Tag;
 
 /// What is found of a history. Lines are numbered from 1, frames from 0 in the order in which they were sent, and a version is a number
-/// of accepted requests.
+/// of accepted requests, without those that were carried out before the first line.
 #[derive(Drop)]
 pub enum Judgement<'a> {
     /// A right unit may have behaved so.
     Explained(Explanation),
     /// A right unit can't have behaved so, and up to the line before it may have.
     Deviates(Deviation<'a>),
+}
+
+/// What is found of a history where every line is looked for that no right unit explains.
+#[derive(Drop)]
+pub enum Findings<'a> {
+    /// A right unit may have behaved so.
+    Explained(Explanation),
+    /// A right unit can't have behaved so.
+    Deviates(Deviations<'a>),
+}
+
+/// Lines that no right unit explains, in order: each is the first one where what those before it claim is taken back.
+#[derive(Drop)]
+pub struct Deviations<'a> {
+    pub list: Vec<Deviation<'a>>,
+    /// Whether more lines follow that aren't explained.
+    pub more: bool,
 }
 
 /// What an explained history shows.
@@ -43,7 +60,7 @@ pub enum Evidence {
 pub struct Counts {
     /// Messages that were sent.
     pub messages: usize,
-    /// Requests among them that the model accepts.
+    /// Requests among them that the model accepts and that are no repeats.
     pub accepted: usize,
     /// Replies that were seen.
     pub replies: usize,

@@ -1,6 +1,7 @@
 //! The judgement of a history.
 ghost use Rattle.std.specs.Prelude.{◌≡◌, IfErr, IfOk};
 ghost use Rattle.bench_judge.specs.Judged.{IsFound, IsJudgement, IsWhyUnjudged};
+ghost use Rattle.bench_judge.specs.Terms.{terms_of};
 ghost use Rattle.bench_judge.specs.Walk.{AreSound};
 
 use crate::counts::{counts, doubtful};
@@ -12,32 +13,36 @@ use crate::halving::turn;
 use crate::judgement::{Deviation, Explanation, Judgement, Wrong};
 use crate::settings::JudgeSettings;
 use crate::steps::steps;
+use crate::terms::Terms;
 use crate::walk::walk_through;
 use crate::watch::{Nobody, Stage, Watch};
 use bench_history::{Event, HistoryFault, Pieces, read_history};
+use omci_msg::Request;
 use std::alloc::{AllocError, Global};
 
 /// What is found of events.
-fn judge_events<'a, W: Watch>(
+pub(crate) fn judge_events<'a, W: Watch>(
     alloc: Global,
     events: &[Event<'a>],
-    settings: &JudgeSettings,
+    terms: &Terms<'_>,
     watch: &mut W,
 ) -> Result<Judgement<'a>, AllocError>
     requires { AreSound events.now }
-    ensures { IfOk result (IsFound settings.now events.now) }
+    ensures { IfOk result (IsFound (terms_of terms.now) events.now) }
 {
     watch.reached(Stage::Read {
         lines: events.len(),
     });
-    let walk = walk_through(alloc, events, settings)?;
+    let walk = walk_through(alloc, events, terms, watch)?;
     watch.reached(Stage::Walked {
         frames: walk.frames.len(),
         requests: walk.requests.len(),
     });
-    let Some(versions) = choice_until(alloc, events, &walk, settings, walk.walked)? else {
-        let place = turn(alloc, events, &walk, settings, watch)?;
-        let frame = wrong_frame(alloc, events, &walk, settings, place)?;
+    let end = walk.walked;
+    let mut hint = end;
+    let Some(versions) = choice_until(alloc, events, &walk, terms, end, &mut hint, watch)? else {
+        let place = turn(alloc, events, &walk, terms, hint, watch)?;
+        let frame = wrong_frame(alloc, events, &walk, terms, place)?;
         return Ok(Judgement::Deviates(Deviation {
             line: place + 1,
             wrong: Wrong::Frame(frame),
@@ -46,16 +51,17 @@ fn judge_events<'a, W: Watch>(
     if walk.walked < events.len() {
         return Ok(Judgement::Deviates(Deviation {
             line: walk.walked + 1,
-            wrong: wrong_event(alloc, events, walk, settings)?,
+            wrong: wrong_event(alloc, events, walk, terms)?,
         }));
     }
     let doubtful = doubtful(alloc, events, walk.frames.len())?;
-    let counts = counts(events, &walk.frames, walk.requests.len(), doubtful);
+    let accepted = walk.requests.len() - walk.base;
+    let unordered = terms.settings.unordered;
     Ok(Judgement::Explained(Explanation {
-        counts,
-        steps: steps(alloc, &walk.frames, &versions, settings.unordered)?,
+        counts: counts(events, &walk.frames, accepted, doubtful),
+        steps: steps(alloc, &walk.frames, &versions, unordered, walk.base)?,
         finished: is_finished(events),
-        evidence: evidence(events, &walk.frames, counts.replies),
+        evidence: evidence(events, &walk.frames, walk.compared),
     }))
 }
 
@@ -73,7 +79,11 @@ fn judge_events<'a, W: Watch>(
 /// leaves of it and what was seen are compared as far as both are known. A front of less than 24 bytes is too short to judge: nothing is
 /// said of its frame, and each line that names it among several is explained.
 ///
-/// The settings forgive what they name ([`JudgeSettings`]): contents that the model doesn't have, the order of frames, strays, padding.
+/// The requests of `start` were carried out before the first line. They belong to version 0: versions and counts say nothing of them. A
+/// reply above all messages that is right for one of them, behind that of the reply before, answers no other request, and is no evidence.
+///
+/// The settings forgive what they name ([`JudgeSettings`]): contents that the model doesn't have, repeats, the order of frames, strays,
+/// padding.
 ///
 /// An explained history says what was judged of it ([`Evidence`](crate::Evidence)), and whether a line ends the observation. A frame that
 /// ended is evidence, and so is a line that names several frames, if none of them has too short a front. A reply is evidence only where no
@@ -82,32 +92,34 @@ fn judge_events<'a, W: Watch>(
 /// Where it isn't explained, the judgement names the first line that isn't with all those before it.
 ///
 /// It takes time in proportion to the events, and to the versions times the ports, and memory in proportion to the text. Where the history
-/// isn't explained, it takes that once more for each try of a shorter front: two where the last line deviates, and at most twice as many as
-/// halvings lead to one line. Where each frame is judged by itself, each that may not have the last version of its window takes time in
-/// proportion to the versions. A line that names several frames takes time in proportion to these, and, where none of them leaves so by
-/// the last version, once more for each version.
+/// isn't explained, it takes that once more for each try of a shorter front: mostly two, and at most 32 more than twice as many as halvings
+/// lead to one line. A reply to a repeat takes time in proportion to the requests that wait. Where each frame is judged by itself,
+/// each that may not have the last version of its window takes time in proportion to the versions. A line that names several frames takes
+/// time in proportion to these, and, where none of them leaves so by the last version, once more for each version.
 ///
 /// [`JudgeFault::BadLine`] comes exactly where a line is bad, with the number of the first; [`JudgeFault::NoMemory`] where a request for
 /// memory is refused.
 pub fn judge<'a>(
     alloc: Global,
+    start: &[Request],
     history: &'a [u8],
     settings: &JudgeSettings,
 ) -> Result<Judgement<'a>, JudgeFault>
-    ensures found { IfOk result (IsJudgement settings.now history.now) }
+    ensures found { IfOk result (IsJudgement settings.now start.now history.now) }
     ensures fault { IfErr result (IsWhyUnjudged history.now) }
 {
-    judge_watched(alloc, history, settings, &mut Nobody)
+    judge_watched(alloc, start, history, settings, &mut Nobody)
 }
 
 /// Does as [`judge`] does, and tells meanwhile how far it is.
 pub fn judge_watched<'a, W: Watch>(
     alloc: Global,
+    start: &[Request],
     history: &'a [u8],
     settings: &JudgeSettings,
     watch: &mut W,
 ) -> Result<Judgement<'a>, JudgeFault>
-    ensures found { IfOk result (IsJudgement settings.now history.now) }
+    ensures found { IfOk result (IsJudgement settings.now start.now history.now) }
     ensures fault { IfErr result (IsWhyUnjudged history.now) }
 {
     let events = match read_history(alloc, history) {
@@ -115,7 +127,11 @@ pub fn judge_watched<'a, W: Watch>(
         Err(HistoryFault::BadLine(number)) => return Err(JudgeFault::BadLine(number)),
         Err(HistoryFault::NoMemory) => return Err(JudgeFault::NoMemory),
     };
-    match judge_events(alloc, &events, settings, watch) {
+    let terms = Terms {
+        settings: *settings,
+        start,
+    };
+    match judge_events(alloc, &events, &terms, watch) {
         Ok(judgement) => Ok(judgement),
         Err(_) => Err(JudgeFault::NoMemory),
     }
@@ -124,11 +140,12 @@ pub fn judge_watched<'a, W: Watch>(
 /// Does as [`judge_watched`] does, for a history in pieces: its text is what they hold.
 pub fn judge_pieces<'a, W: Watch>(
     alloc: Global,
+    start: &[Request],
     history: &'a Pieces,
     settings: &JudgeSettings,
     watch: &mut W,
 ) -> Result<Judgement<'a>, JudgeFault>
-    ensures found { IfOk result (IsJudgement settings.now history.now) }
+    ensures found { IfOk result (IsJudgement settings.now start.now history.now) }
     ensures fault { IfErr result (IsWhyUnjudged history.now) }
 {
     let events = match history.read(alloc) {
@@ -136,7 +153,11 @@ pub fn judge_pieces<'a, W: Watch>(
         Err(HistoryFault::BadLine(number)) => return Err(JudgeFault::BadLine(number)),
         Err(HistoryFault::NoMemory) => return Err(JudgeFault::NoMemory),
     };
-    match judge_events(alloc, &events, settings, watch) {
+    let terms = Terms {
+        settings: *settings,
+        start,
+    };
+    match judge_events(alloc, &events, &terms, watch) {
         Ok(judgement) => Ok(judgement),
         Err(AllocError) => Err(JudgeFault::NoMemory),
     }

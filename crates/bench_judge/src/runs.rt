@@ -107,28 +107,30 @@ fn live_after(alloc: Global, requests: &[Request]) -> Result<Live, AllocError>
 }
 
 /// What the versions from one to another mean for a frame that comes in at a port, those that follow each other with the same answer in
-/// one run. There is none where the first version is over the second.
+/// one run. There is none where the first version is over the second. The first requests, so many, aren't counted.
 pub(crate) fn runs(
     alloc: Global,
     requests: &[Request],
+    base: usize,
     port: u16,
     sent: &[u8],
     from: usize,
     to: usize,
 ) -> Result<Vec<Run>, AllocError>
-    requires { to ≤ length requests.now }
+    requires { base + to ≤ length requests.now }
     ensures { IfOk result (λ runs. AreRuns
-        (λ v. meaning (after (take v requests.now)) port sent.now)
+        (λ v. meaning (after (take (base + v) requests.now)) port sent.now)
         sent.now from to runs.items) }
 {
     let mut runs = Vec::new(alloc);
     if from > to {
         return Ok(runs);
     }
-    let mut live = live_after(alloc, &requests[..from])?;
+    let mut live = live_after(alloc, &requests[..base + from])?;
     add(alloc, sent, &mut runs, from, answer(&live, port, sent))?;
     for version in from..to {
-        live.apply(&requests[version]);
+        let next = base + version;
+        live.apply(&requests[next]);
         add(
             alloc,
             sent,

@@ -8,6 +8,9 @@ pub struct JudgeSettings {
     /// attributes aren't compared, nor is the size of the table or what is read of it: a real unit has its own. Results, masks and all
     /// other values are.
     pub modelled: bool,
+    /// A message with the bytes of the message before it is a repeat: it isn't carried out, and no reply has to come for it. A unit may
+    /// answer it from memory.
+    pub repeats: bool,
     /// Each frame is judged by itself: a port that several lanes serve may give a frame an older version than one sent before it.
     pub unordered: bool,
     /// A frame that was never sent, or has left before, may leave: a stray is explained.

@@ -12,6 +12,7 @@ ghost use Rattle.bench_judge.specs.declared.frame.Frame.{Frame as TheFrame};
 
 use crate::frame::{Case, Frame};
 use crate::seeing::is_seen;
+use crate::watch::{Stage, Watch};
 use bench_history::Event;
 use bench_sight::Buffers;
 use forward_plan::{Live, PORTS};
@@ -85,8 +86,32 @@ fn settle(
     true
 }
 
-/// Tries a version at each queue. False if some head can't take a later version.
-fn settle_all(live: &Live, case: &Case<'_, '_>, sweep: &mut SweepState, version: usize) -> bool
+/// The greatest place of an end among a frame and those before it in its queue, if that is before a hint; else the hint.
+fn earlier(case: &Case<'_, '_>, number: usize, hint: usize) -> usize {
+    let Some(frame) = case.frames.get(number) else {
+        return hint;
+    };
+    let mut last = frame.ended.unwrap_or(hint);
+    if case.unordered || last >= hint {
+        return last.min(hint);
+    }
+    for before in &case.frames[..number] {
+        if before.port == frame.port {
+            last = last.max(before.ended.unwrap_or(0));
+        }
+    }
+    last.min(hint)
+}
+
+/// Tries a version at each queue. False if some head can't take a later version: then the hint is the least place up to which the frames of
+/// such a queue have ended, where that is before it.
+fn settle_all(
+    live: &Live,
+    case: &Case<'_, '_>,
+    sweep: &mut SweepState,
+    version: usize,
+    hint: &mut usize,
+) -> bool
     requires whole { IsWhole case.now.frames.now sweep.old }
     ensures whole { IsWhole case.now.frames.now sweep.new }
     ensures so_far { live.now ≡ after (take version case.now.requests.now)
@@ -98,12 +123,15 @@ fn settle_all(live: &Live, case: &Case<'_, '_>, sweep: &mut SweepState, version:
         (NoneFit case.now.padded case.now.unordered case.now.events.now case.now.requests.now
         case.now.frames.now) }
 {
+    let mut all = true;
     for slot in 0..sweep.waiting.len() {
-        if !settle(live, case, sweep, slot, version) {
-            return false;
+        let is_settled = settle(live, case, sweep, slot, version);
+        if !is_settled {
+            *hint = earlier(case, sweep.waiting[slot], *hint);
         }
+        all &= is_settled;
     }
-    true
+    all
 }
 
 /// Whether a frame begins a queue, by the last frame of its port before it, or what is no number of one.
@@ -166,22 +194,32 @@ fn queues(alloc: Global, frames: &[Frame], unordered: bool) -> Result<SweepState
     Ok(sweep)
 }
 
-/// The least version of each frame, by its number, where all can be had together; of one that is open it is 0. None where they can't.
+/// The least version of each frame, by its number, where all can be had together; of one that is open it is 0. None where they can't:
+/// then the hint is the place of an event that leaves none, and mostly of the first.
 ///
 /// It takes time in proportion to the frames, the versions and, for each version, the queues, and memory in proportion to the frames.
-pub(crate) fn sweep(alloc: Global, case: &Case<'_, '_>) -> Result<Option<Vec<usize>>, AllocError>
+pub(crate) fn sweep<W: Watch>(
+    alloc: Global,
+    case: &Case<'_, '_>,
+    hint: &mut usize,
+    watch: &mut W,
+) -> Result<Option<Vec<usize>>, AllocError>
     requires { AreWithin case.now.requests.now case.now.frames.now }
     ensures { IfOk result (IsSwept case.now.padded case.now.unordered case.now.events.now
         case.now.requests.now case.now.frames.now) }
 {
     let mut live = Live::new(alloc)?;
     let mut sweep = queues(alloc, case.frames, case.unordered)?;
-    if !settle_all(&live, case, &mut sweep, 0) {
+    if !settle_all(&live, case, &mut sweep, 0, hint) {
         return Ok(None);
     }
     for (before, request) in case.requests.iter().enumerate() {
+        watch.reached(Stage::Sweeping {
+            versions: before + 1,
+            of: case.requests.len(),
+        });
         live.apply(request);
-        if !settle_all(&live, case, &mut sweep, before + 1) {
+        if !settle_all(&live, case, &mut sweep, before + 1, hint) {
             return Ok(None);
         }
     }

@@ -1,12 +1,13 @@
 -- Steps in parts: what happens in them, and what they show.
-use Rattle.std.proofs.Common.{◌≡◌, ◌<◌, ℕ, zero, suc, List, [], ◌∷◌, ◌++◌, length, take, Some, slice_get, fold, inl, inr, refl, ap, subst, ◌∙◌, arith}
+use Rattle.std.proofs.Common.{◌≡◌, ◌<◌, ℕ, zero, suc, Bool, List, [], ◌∷◌, ◌++◌, length, take, Some, slice_get, fold, inl, inr, refl, sym, ap, subst, ◌∙◌, arith, append_assoc, append-nil}
 use Rattle.std.proofs.lemmas.Bool.{cases_lt}
 use Rattle.std.proofs.lemmas.Grind.{flat_map-append}
 use Rattle.std.proofs.lemmas.List.Elements.{filter_map-append}
 use Rattle.plan_publish.specs.World.{World, opening, happens, IsPossible, IsRun, world_after, Event as MachineEvent}
 use Rattle.plan_publish.specs.Interleavings.{request_in as carried_by, requests_in}
 use Rattle.bench_history.specs.declared.event.Event.{Event}
-use Rattle.bench_judge.specs.Asked.{asked, request_in}
+use Rattle.bench_answers.specs.Ground.{collected}
+use Rattle.bench_answers.specs.Asked.{asked, asked_by}
 use Rattle.bench_law.specs.Steps.{Step, Happens, Shows, happening, line_of, happened, shown}
 use Rattle.bench_law.proofs.Fronts.{IsFront, front_shorter, fronts_taken, parted}
 
@@ -27,8 +28,20 @@ shown_front {xs} f = record { rest = shown f.rest; is = ap shown f.is ∙ shown_
 pub requests_front : {xs ys : List MachineEvent} → IsFront xs ys → IsFront (requests_in xs) (requests_in ys)
 requests_front {xs} f = record { rest = requests_in f.rest; is = ap requests_in f.is ∙ flat_map-append carried_by xs f.rest }
 
-pub asked_front : {xs ys : List Event} → IsFront xs ys → IsFront (asked xs) (asked ys)
-asked_front {xs} f = record { rest = asked f.rest; is = ap asked f.is ∙ filter_map-append request_in xs f.rest }
+collected_append : {A : Type 0} (adds : List Event → Event → List A) (before xs ys : List Event)
+    → collected adds before (xs ++ ys) ≡ collected adds before xs ++ collected adds (before ++ xs) ys
+collected_append adds before [] ys = ap (λ all. collected adds all ys) (sym (append-nil before))
+collected_append adds before (x ∷ xs) ys =
+    ap (λ more. adds before x ++ more) (collected_append adds (before ++ x ∷ []) xs ys)
+    ∙ ap (λ all. adds before x ++ (collected adds (before ++ x ∷ []) xs ++ collected adds all ys)) (append_assoc before (x ∷ []) xs)
+    ∙ sym (append_assoc (adds before x) (collected adds (before ++ x ∷ []) xs) (collected adds (before ++ x ∷ xs) ys))
+
+pub asked_front : (repeats : Bool) {xs ys : List Event} → IsFront xs ys → IsFront (asked repeats xs) (asked repeats ys)
+asked_front repeats {xs} f =
+    record {
+      rest = collected (asked_by repeats) xs f.rest;
+      is = ap (λ (es : List Event). asked repeats es) f.is ∙ collected_append (asked_by repeats) [] xs f.rest;
+    }
 
 -- steps that show fewer lines come first
 pub comes_first : (i k : ℕ) (steps : List Step) → length (shown (take i steps)) < length (shown (take k steps)) → i < k

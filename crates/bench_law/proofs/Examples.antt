@@ -1,106 +1,34 @@
 -- Worked examples, computed. Three messages are seen before the unit carries them out, and a wait. Behind these a frame is sent of which a
 -- front is known, and leaves by a GEM port that isn't seen, with padding. Or one frame is sent into two ports, and it can't be seen of which
 -- the one is that leaves.
-use Rattle.std.proofs.Common.{◌≡◌, ◌<◌, ◌+◌, ◌-◌, ◌*◌, ◌/◌, ◌%◌, ℕ, zero, suc, true, false, List, [], ◌∷◌, ◌++◌, length, take, replicate, Some, None, slice_get, inr, refl, sym, ap, subst, ◌∙◌, arith, append_assoc, append-nil}
-use Rattle.omci_msg.specs.declared.request.Request.{Request}
-use Rattle.omci_msg.specs.declared.reply.Reply.{Reply}
-use Rattle.omci_msg.specs.declared.action.Action.TheVariants.{Create}
+use Rattle.std.proofs.Common.{◌≡◌, ◌<◌, ℕ, true, false, List, [], ◌∷◌, ◌++◌, take, Some, None, inr, refl, sym, ap, subst, ◌∙◌, arith}
 use Rattle.omci_msg.specs.Message.{action_of, reply_of, request_of}
 use Rattle.tag_view.specs.Frame.{fault_of, frame_of}
 use Rattle.pmapper.specs.Mapper.{pointer_of, priority_of}
 use Rattle.mib_state.specs.Step.{create, create_in}
-use Rattle.frame_meaning.specs.declared.verdict.Verdict.{Verdict}
-use Rattle.frame_meaning.specs.declared.verdict.Verdict.TheVariants as verdict
 use Rattle.frame_meaning.specs.Meaning.{carries_upstream, forwarded_by, gem_port_at, gem_port_behind, gem_port_of, input_tpid_of, mapper_at, meaning, port_id_of, table_at, tags_at}
 use Rattle.plan_publish.specs.World.{IsRun, opening, world_after, answer, Message, Publish, Enter, Forward, Decided}
-use Rattle.plan_publish.specs.Interleavings.{entered_with, requests_in}
+use Rattle.plan_publish.specs.Interleavings.{entered_with}
 use Rattle.bench_history.specs.Among.{OneOf}
 use Rattle.bench_history.specs.History.{frames_in, is_end_of}
 use Rattle.bench_history.specs.declared.event.Event.{Event}
-use Rattle.bench_history.specs.declared.event.Event.TheVariants.{Sent, Replied, Entered, Left, LeftOneOf, Strayed, Waited, Ended}
+use Rattle.bench_history.specs.declared.event.Event.TheVariants.{Sent, Replied, Entered, Left, LeftOneOf, Waited, Ended}
 use Rattle.bench_history.specs.declared.extent.Extent.{Extent}
 use Rattle.bench_history.specs.declared.extent.Extent.TheVariants.{Whole, Front}
-use Rattle.bench_history.specs.declared.gem.SeenGem.{SeenGem}
 use Rattle.bench_history.specs.declared.gem.SeenGem.TheVariants.{Any, Port}
 use Rattle.bench_sight.specs.Sight.{IsSeenAs}
-use Rattle.bench_judge.specs.Asked.{asked}
-use Rattle.bench_judge.specs.Windows.{waits_for}
+use Rattle.bench_answers.specs.declared.standing.Standing.{Standing}
+use Rattle.bench_answers.specs.declared.standing.Standing.TheVariants.{Answers}
 use Rattle.bench_judge.specs.Explained.{EndedFrame, IsEnded, IsExplained}
+use Rattle.bench_judge.specs.Terms.{Terms, ground_in}
 use Rattle.bench_judge.specs.declared.settings.JudgeSettings.{JudgeSettings}
 use Rattle.bench_law.specs.Steps.{Step, Happens, Shows, happened, shown}
-use Rattle.bench_law.specs.Observation.{HasLearnt, IsAnswer, IsForwarded, IsKnownAs, IsObservation, IsOneThatLeft}
-use Rattle.bench_law.proofs.Explaining.{no_right_unit_is_accused}
-
--- ---- what holds of each element, by its place
-
-EachFrom : (List Step → Step → Type 0) → List Step → List Step → Type 0
-EachFrom P before [] = Unit {0}
-EachFrom P before (step ∷ rest) = P before step × EachFrom P (before ++ step ∷ []) rest
-
-each_at : (P : List Step → Step → Type 0) (before rest : List Step) → EachFrom P before rest
-    → (place : ℕ) (step : Step) → slice_get rest place ≡ Some step → P (before ++ take place rest) step
-unfolding EachFrom
-each_at P before [] each place step at = absurd (cc at)
-each_at P before (first ∷ rest) each zero step at =
-    let same : first ≡ step = cc at in
-    subst (λ (l : List Step). P l step) (sym (append-nil before)) (subst (λ (s : Step). P before s) same each.0)
-each_at P before (first ∷ rest) each (suc place) step at =
-    subst (λ (l : List Step). P l step) (append_assoc before (first ∷ []) (take place rest))
-    (each_at P (before ++ first ∷ []) rest each.1 place step at)
-
-EachLine : (ℕ → Event → Type 0) → ℕ → List Event → Type 0
-EachLine P n [] = Unit {0}
-EachLine P n (line ∷ rest) = P n line × EachLine P (suc n) rest
-
-line_of_each : (P : ℕ → Event → Type 0) (n : ℕ) (lines : List Event) → EachLine P n lines
-    → (k m : ℕ) (line : Event) → slice_get lines k ≡ Some line → m ≡ n + k → P m line
-unfolding EachLine
-line_of_each P n [] each k m line at is = absurd (cc at)
-line_of_each P n (first ∷ lines) each zero m line at is =
-    let same : first ≡ line = cc at in
-    let here : n ≡ m = omega (arith, is) in
-    subst (λ (j : ℕ). P j line) here (subst (λ (e : Event). P n e) same each.0)
-line_of_each P n (first ∷ lines) each (suc k) m line at is = line_of_each P (suc n) lines each.1 k m line at (omega (arith, is))
+use Rattle.bench_law.specs.Observation.{HasLearnt, IsForwarded, IsKnownAs, IsObservation, IsOneThatLeft, IsReply}
+use Rattle.bench_law.proofs.Explaining.{explained}
+use Rattle.bench_law.proofs.Setup.{addresses, created, creating, filled, frame, front, gem_port, lane_0, mapper, message, padded_frame, plain, point, verdict_of_frame}
+use Rattle.bench_law.proofs.Stepwise.{EachFrom, EachLine, IsSo, line_of_each, observed}
 
 -- ---- the observation
-
-filled : List ℕ → List ℕ
-filled xs = xs ++ replicate (32 - length xs) 0
-
--- a message in 44 bytes: its identifier, message type, class and instance, and its contents
-message : ℕ → ℕ → ℕ → ℕ → ℕ → List ℕ → List ℕ
-message tci kind class high low contents = 0 ∷ tci ∷ kind ∷ 10 ∷ class / 256 ∷ class % 256 ∷ high ∷ low ∷ [] ++ filled contents ++ 0 ∷ 0 ∷ 0 ∷ 40 ∷ []
-
-creating : ℕ → ℕ → ℕ → ℕ → List ℕ → Request
-creating tci class high low contents =
-    record { tci = tci; action = Create; wants_answer = true; class = class; instance = 256 * high + low; contents = filled contents }
-
-created : ℕ → ℕ → ℕ → ℕ → Reply
-created tci class high low = record { tci = tci; action = Create; class = class; instance = 256 * high + low; contents = filled [] }
-
--- GEM port network CTP 0x0401 of port-ID 1024, GEM interworking termination point 0x0501 to it, and mapper 0x0601 of port 257 whose
--- pointers lead there
-gem_port : List ℕ
-gem_port = 0x04 ∷ 0x00 ∷ 0x80 ∷ 0x01 ∷ 0x03 ∷ []
-
-point : List ℕ
-point = 0x04 ∷ 0x01 ∷ 0x05 ∷ 0x06 ∷ 0x01 ∷ []
-
-mapper : List ℕ
-mapper = 1 ∷ 1 ∷ 5 ∷ 1 ∷ 5 ∷ 1 ∷ 5 ∷ 1 ∷ 5 ∷ 1 ∷ 5 ∷ 1 ∷ 5 ∷ 1 ∷ 5 ∷ 1 ∷ 5 ∷ 1 ∷ 1 ∷ 0 ∷ 1 ∷ []
-
-addresses : List ℕ
-addresses = 2 ∷ 0 ∷ 0 ∷ 0 ∷ 0 ∷ 1 ∷ 2 ∷ 0 ∷ 0 ∷ 0 ∷ 0 ∷ 2 ∷ []
-
--- the frame's first 24 bytes, and two more
-front : List ℕ
-front = addresses ++ 0x08 ∷ 0x00 ∷ 0x45 ∷ 0x00 ∷ replicate 8 0
-
-frame : List ℕ
-frame = front ++ 1 ∷ 2 ∷ []
-
-padded_frame : List ℕ
-padded_frame = frame ++ replicate 34 0
 
 steps : List Step
 steps =
@@ -113,121 +41,141 @@ steps =
     ∷ []
 
 settings : JudgeSettings
-settings = record { modelled = false; unordered = false; strays = false; padded = true }
+settings = record plain { padded = true }
+
+terms : Terms
+terms = record { settings = settings; start = [] }
+
+-- each reply answers the next message
+means : List Standing
+means = Answers 0 ∷ Answers 1 ∷ Answers 2 ∷ []
 
 lines : List Event
 lines = shown steps
-
-verdict_of_frame : Verdict
-verdict_of_frame = verdict.Forward 1024 (record { addresses = addresses; tags = []; rest = 0x08 ∷ 0x00 ∷ 0x45 ∷ 0x00 ∷ replicate 8 0 ++ 1 ∷ 2 ∷ [] })
-
-lane_0 : 0 < 1
-lane_0 = omega arith
 
 runs : IsRun 1 opening (happened steps)
 unfolding steps creating filled gem_port point mapper frame front addresses create create_in
 runs = search lane_0
 
--- ---- messages
-
-IsCarried : List Step → Step → Type 0
-IsCarried before (Happens (Message q)) = slice_get (asked (shown before)) (length (requests_in (happened before))) ≡ Some q
-IsCarried before step = Unit {0}
-
-each_carried : EachFrom IsCarried [] steps
-unfolding EachFrom IsCarried steps creating message filled gem_port point mapper frame front padded_frame addresses request_of action_of
-each_carried = (tt, (tt, (tt, (refl, (tt, (refl, (refl, (tt, (tt, (tt, (tt, (tt, (tt, (tt, (tt, (tt, tt))))))))))))))))
-
-carried_out : (place : ℕ) (q : Request) → slice_get steps place ≡ Some (Happens (Message q))
-    → slice_get (asked (shown (take place steps))) (length (requests_in (happened (take place steps)))) ≡ Some q
-unfolding IsCarried
-carried_out place q at = each_at IsCarried [] steps each_carried place (Happens (Message q)) at
-
 -- ---- replies
 
-IsAnswered : List Step → Step → Type 0
-IsAnswered before (Shows (Replied bytes)) = IsAnswer false before bytes
-IsAnswered before step = Unit {0}
-
-answered_1 : IsAnswer false (take 4 steps) (message 1 0x24 268 4 1 [])
-unfolding steps creating created message filled gem_port point mapper frame front padded_frame addresses create create_in reply_of action_of
+answered_1 : IsReply (ground_in terms) means (take 4 steps) (message 1 0x24 268 4 1 [])
+unfolding terms settings plain means steps creating created message filled gem_port point mapper frame front padded_frame addresses create create_in reply_of action_of
 answered_1 =
     record {
-      place = 3;
-      request = creating 1 268 4 1 gem_port;
-      reply = created 1 268 4 1;
-      carried_out = refl;
-      wants_answer = refl;
-      next = refl;
-      answered = refl;
-      spelled = record { reply = created 1 268 4 1; read = refl; tci = refl; action = refl; class = refl; instance = refl; contents = λ byte compared. refl };
+      standing = Answers 0;
+      listed = refl;
+      stands =
+          record {
+            is =
+                record {
+                  place = 3;
+                  request = creating 1 268 4 1 gem_port;
+                  reply = created 1 268 4 1;
+                  carried_out = refl;
+                  wants_answer = refl;
+                  answered = refl;
+                  spelled =
+                      record {
+                        reply = created 1 268 4 1;
+                        read = refl;
+                        tci = refl;
+                        action = refl;
+                        class = refl;
+                        instance = refl;
+                        contents = λ byte compared. refl;
+                      };
+                };
+            number = refl;
+            next = refl;
+          };
     }
 
-answered_2 : IsAnswer false (take 8 steps) (message 2 0x24 266 5 1 [])
-unfolding steps creating created message filled gem_port point mapper frame front padded_frame addresses create create_in reply_of action_of
+answered_2 : IsReply (ground_in terms) means (take 8 steps) (message 2 0x24 266 5 1 [])
+unfolding terms settings plain means steps creating created message filled gem_port point mapper frame front padded_frame addresses create create_in reply_of action_of
 answered_2 =
     record {
-      place = 5;
-      request = creating 2 266 5 1 point;
-      reply = created 2 266 5 1;
-      carried_out = refl;
-      wants_answer = refl;
-      next = refl;
-      answered = refl;
-      spelled = record { reply = created 2 266 5 1; read = refl; tci = refl; action = refl; class = refl; instance = refl; contents = λ byte compared. refl };
+      standing = Answers 1;
+      listed = refl;
+      stands =
+          record {
+            is =
+                record {
+                  place = 5;
+                  request = creating 2 266 5 1 point;
+                  reply = created 2 266 5 1;
+                  carried_out = refl;
+                  wants_answer = refl;
+                  answered = refl;
+                  spelled =
+                      record {
+                        reply = created 2 266 5 1;
+                        read = refl;
+                        tci = refl;
+                        action = refl;
+                        class = refl;
+                        instance = refl;
+                        contents = λ byte compared. refl;
+                      };
+                };
+            number = refl;
+            next = refl;
+          };
     }
 
-answered_3 : IsAnswer false (take 9 steps) (message 3 0x24 130 6 1 [])
-unfolding steps creating created message filled gem_port point mapper frame front padded_frame addresses create create_in reply_of action_of
+answered_3 : IsReply (ground_in terms) means (take 9 steps) (message 3 0x24 130 6 1 [])
+unfolding terms settings plain means steps creating created message filled gem_port point mapper frame front padded_frame addresses create create_in reply_of action_of
 answered_3 =
     record {
-      place = 6;
-      request = creating 3 130 6 1 mapper;
-      reply = created 3 130 6 1;
-      carried_out = refl;
-      wants_answer = refl;
-      next = refl;
-      answered = refl;
-      spelled = record { reply = created 3 130 6 1; read = refl; tci = refl; action = refl; class = refl; instance = refl; contents = λ byte compared. refl };
+      standing = Answers 2;
+      listed = refl;
+      stands =
+          record {
+            is =
+                record {
+                  place = 6;
+                  request = creating 3 130 6 1 mapper;
+                  reply = created 3 130 6 1;
+                  carried_out = refl;
+                  wants_answer = refl;
+                  answered = refl;
+                  spelled =
+                      record {
+                        reply = created 3 130 6 1;
+                        read = refl;
+                        tci = refl;
+                        action = refl;
+                        class = refl;
+                        instance = refl;
+                        contents = λ byte compared. refl;
+                      };
+                };
+            number = refl;
+            next = refl;
+          };
     }
 
-each_answered : EachFrom IsAnswered [] steps
-unfolding EachFrom IsAnswered steps
-each_answered = (tt, (tt, (tt, (tt, (answered_1, (tt, (tt, (tt, (answered_2, (answered_3, (tt, (tt, (tt, (tt, (tt, (tt, tt))))))))))))))))
+-- ---- the wait, and all steps
 
-replied : (place : ℕ) (bytes : List ℕ) → slice_get steps place ≡ Some (Shows (Replied bytes)) → IsAnswer false (take place steps) bytes
-unfolding IsAnswered
-replied place bytes at = each_at IsAnswered [] steps each_answered place (Shows (Replied bytes)) at
-
--- ---- the wait
-
-learnt : (lane : ℕ) → lane < 1 → HasLearnt (take 11 steps) 3 lane
+learnt : (lane : ℕ) → lane < 1 → HasLearnt [] (take 11 steps) 3 lane
 unfolding steps creating
 learnt lane less =
     let only : 0 ≡ lane = omega (arith, less) in
     record {
       place = 7;
       publishes = refl;
+      begun = omega arith;
       carried_out = omega arith;
       learnt = inr (record { place = 10; since = omega arith; enters = ap (λ (l : ℕ). Some (Happens (Enter l))) only });
     }
 
-IsWaited : List Step → Step → Type 0
-IsWaited before (Shows line) = 0 < waits_for (shown before) line → (lane : ℕ) → lane < 1 → HasLearnt before (waits_for (shown before) line) lane
-IsWaited before (Happens event) = Unit {0}
+no_script : {A : Type 0} → 0 < 0 → A
+no_script less = absurd (omega (arith, less))
 
-none_waited : {A : Type 0} → 0 < 0 → A
-none_waited less = absurd (omega (arith, less))
-
-each_waited : EachFrom IsWaited [] steps
-unfolding EachFrom IsWaited steps
-each_waited =
-    (none_waited, (none_waited, (none_waited, (tt, (none_waited, (tt, (tt, (tt, (none_waited, (none_waited, (tt, (λ some. learnt, (none_waited, (tt, (none_waited, (none_waited, tt))))))))))))))))
-
-waited : (place : ℕ) (line : Event) → slice_get steps place ≡ Some (Shows line) → 0 < waits_for (shown (take place steps)) line
-    → (lane : ℕ) → lane < 1 → HasLearnt (take place steps) (waits_for (shown (take place steps)) line) lane
-unfolding IsWaited
-waited place line at = each_at IsWaited [] steps each_waited place (Shows line) at
+each_so : EachFrom (IsSo 1 terms means) [] steps
+unfolding EachFrom terms settings plain means steps creating message filled gem_port point mapper frame front padded_frame addresses request_of action_of
+each_so =
+    (tt, (tt, (tt, (refl, (answered_1, (refl, (refl, (tt, (answered_2, (answered_3, (tt, (λ some. learnt, (no_script, (tt, (tt, (tt, tt))))))))))))))))
 
 -- ---- the frame
 
@@ -287,57 +235,16 @@ only_frame : (f g : EndedFrame) → IsEnded (shown steps) f → IsEnded (shown s
 only_frame f g is_f is_g =
     is_f.number ∙ ap (λ (k : ℕ). frames_in (take k (shown steps))) ((the_frame f is_f).0 ∙ sym (the_frame g is_g).0) ∙ sym is_g.number
 
--- ---- strays
-
-IsNoStray : List Step → Step → Type 0
-IsNoStray before (Shows (Strayed gem extent bytes)) = false ≡ true
-IsNoStray before step = Unit {0}
-
-each_no_stray : EachFrom IsNoStray [] steps
-unfolding EachFrom IsNoStray steps
-each_no_stray = (tt, (tt, (tt, (tt, (tt, (tt, (tt, (tt, (tt, (tt, (tt, (tt, (tt, (tt, (tt, (tt, tt))))))))))))))))
-
-strays : (place : ℕ) (gem : SeenGem) (extent : Extent) (bytes : List ℕ) → slice_get steps place ≡ Some (Shows (Strayed gem extent bytes)) → false ≡ true
-unfolding IsNoStray
-strays place gem extent bytes at = each_at IsNoStray [] steps each_no_stray place (Shows (Strayed gem extent bytes)) at
-
--- ---- frames that can't be told apart
-
-IsNoDoubt : List Step → Step → Type 0
-IsNoDoubt before (Shows (LeftOneOf gem extent among)) = ⊥
-IsNoDoubt before step = Unit {0}
-
-each_no_doubt : EachFrom IsNoDoubt [] steps
-unfolding EachFrom IsNoDoubt steps
-each_no_doubt = (tt, (tt, (tt, (tt, (tt, (tt, (tt, (tt, (tt, (tt, (tt, (tt, (tt, (tt, (tt, (tt, tt))))))))))))))))
-
-doubted : (place : ℕ) (gem : SeenGem) (extent : Extent) (among : OneOf) → slice_get steps place ≡ Some (Shows (LeftOneOf gem extent among))
-    → IsOneThatLeft true (take place steps) gem extent among
-unfolding IsNoDoubt
-doubted place gem extent among at = absurd (each_at IsNoDoubt [] steps each_no_doubt place (Shows (LeftOneOf gem extent among)) at)
-
 -- ---- it is an observation, and so it is explained
 
-observation : IsObservation 1 settings steps
-unfolding settings
+observation : IsObservation 1 terms steps
+unfolding terms settings plain
 observation =
-    record {
-      run = runs;
-      carried_out = carried_out;
-      replied = replied;
-      waited = waited;
-      strays = strays;
-      doubted = doubted;
-      lane_of = λ number. 0;
-      place_of = λ number. 13;
-      forwarded = forwards;
-      in_order = λ order f g is_f is_g port less. absurd (omega (arith, less, only_frame f g is_f is_g));
-    }
+    observed 1 terms means steps runs each_so (λ number. 0) (λ number. 13) forwards
+    (λ order f g is_f is_g port less. absurd (omega (arith, less, only_frame f g is_f is_g)))
 
-explained : IsExplained settings (shown steps)
-explained =
-    no_right_unit_is_accused 1 settings settings steps observation
-    (record { modelled = λ is. is; unordered = λ is. is; strays = λ is. is; padded = λ is. is })
+is_explained : IsExplained terms (shown steps)
+is_explained = explained 1 terms steps observation
 
 -- the frame's lane holds three accepted requests
 three : entered_with 0 (happened (take 13 steps)) ≡ 3
@@ -346,9 +253,8 @@ three = refl
 
 -- ---- one frame into two ports, of which one alone has a mapper
 
--- no setting is needed
-plain : JudgeSettings
-plain = record { modelled = false; unordered = false; strays = false; padded = false }
+plain_terms : Terms
+plain_terms = record { settings = plain; start = [] }
 
 either : OneOf
 either = record { frame = frame; numbers = 0 ∷ 1 ∷ [] }
@@ -362,23 +268,6 @@ twice =
 twice_runs : IsRun 1 opening (happened twice)
 unfolding twice steps creating filled gem_port point mapper frame front addresses create create_in
 twice_runs = search lane_0
-
-twice_carried : EachFrom IsCarried [] twice
-unfolding EachFrom IsCarried twice steps creating message filled gem_port point mapper frame front addresses request_of action_of
-twice_carried = (tt, (tt, (tt, (refl, (tt, (refl, (refl, (tt, (tt, (tt, (tt, (tt, (tt, (tt, (tt, (tt, (tt, tt)))))))))))))))))
-
-twice_answered : EachFrom IsAnswered [] twice
-unfolding EachFrom IsAnswered twice steps
-twice_answered = (tt, (tt, (tt, (tt, (answered_1, (tt, (tt, (tt, (answered_2, (answered_3, (tt, (tt, (tt, (tt, (tt, (tt, (tt, tt)))))))))))))))))
-
-twice_waited : EachFrom IsWaited [] twice
-unfolding EachFrom IsWaited twice steps
-twice_waited =
-    (none_waited, (none_waited, (none_waited, (tt, (none_waited, (tt, (tt, (tt, (none_waited, (none_waited, (tt, (λ some. learnt, (none_waited, (none_waited, (tt, (none_waited, (none_waited, tt)))))))))))))))))
-
-twice_no_stray : EachFrom IsNoStray [] twice
-unfolding EachFrom IsNoStray twice steps
-twice_no_stray = (tt, (tt, (tt, (tt, (tt, (tt, (tt, (tt, (tt, (tt, (tt, (tt, (tt, (tt, (tt, (tt, (tt, tt)))))))))))))))))
 
 -- no line ends a frame by itself
 EndsNone : ℕ → Event → Type 0
@@ -416,31 +305,16 @@ first_left =
           );
     }
 
-IsDoubted : List Step → Step → Type 0
-IsDoubted before (Shows (LeftOneOf gem extent among)) = IsOneThatLeft false before gem extent among
-IsDoubted before step = Unit {0}
+twice_so : EachFrom (IsSo 1 plain_terms means) [] twice
+unfolding EachFrom plain_terms plain terms settings means twice steps creating message filled gem_port point mapper frame front addresses request_of action_of
+twice_so =
+    (tt, (tt, (tt, (refl, (answered_1, (refl, (refl, (tt, (answered_2, (answered_3, (tt, (λ some. learnt, (no_script, (no_script, (tt, (first_left, (tt, tt)))))))))))))))))
 
-twice_doubted : EachFrom IsDoubted [] twice
-unfolding EachFrom IsDoubted twice steps
-twice_doubted = (tt, (tt, (tt, (tt, (tt, (tt, (tt, (tt, (tt, (tt, (tt, (tt, (tt, (tt, (tt, (first_left, (tt, tt)))))))))))))))))
-
-twice_observed : IsObservation 1 plain twice
-unfolding plain IsCarried IsAnswered IsWaited IsNoStray IsDoubted
+twice_observed : IsObservation 1 plain_terms twice
+unfolding plain_terms plain
 twice_observed =
-    record {
-      run = twice_runs;
-      carried_out = λ place q at. each_at IsCarried [] twice twice_carried place (Happens (Message q)) at;
-      replied = λ place bytes at. each_at IsAnswered [] twice twice_answered place (Shows (Replied bytes)) at;
-      waited = λ place line at. each_at IsWaited [] twice twice_waited place (Shows line) at;
-      strays = λ place gem extent bytes at. each_at IsNoStray [] twice twice_no_stray place (Shows (Strayed gem extent bytes)) at;
-      doubted = λ place gem extent among at. each_at IsDoubted [] twice twice_doubted place (Shows (LeftOneOf gem extent among)) at;
-      lane_of = λ number. 0;
-      place_of = λ number. 14;
-      forwarded = λ f is. absurd (none_ended f is);
-      in_order = λ order f g is_f is_g port less. absurd (none_ended f is_f);
-    }
+    observed 1 plain_terms means twice twice_runs twice_so (λ number. 0) (λ number. 14) (λ f is. absurd (none_ended f is))
+    (λ order f g is_f is_g port less. absurd (none_ended f is_f))
 
-twice_explained : IsExplained plain (shown twice)
-twice_explained =
-    no_right_unit_is_accused 1 plain plain twice twice_observed
-    (record { modelled = λ is. is; unordered = λ is. is; strays = λ is. is; padded = λ is. is })
+twice_explained : IsExplained plain_terms (shown twice)
+twice_explained = explained 1 plain_terms twice twice_observed

@@ -1,49 +1,57 @@
 -- Each history that an observation shows is explained.
-use Rattle.std.proofs.Common.{◌≡◌, ◌<◌, ◌≤◌, ℕ, false, List, ◌++◌, take, ap, subst, arith}
+use Rattle.std.proofs.Common.{◌≡◌, ◌<◌, ◌≤◌, ℕ, false, List, ◌++◌, take, Some, slice_get, ap, subst, arith}
 use Rattle.plan_publish.specs.Interleavings.{entered_with}
 use Rattle.plan_publish.proofs.Last.{prefixes_grow}
 use Rattle.bench_history.specs.declared.event.Event.{Event}
 use Rattle.bench_history.specs.declared.event.Event.TheVariants.{Replied, LeftOneOf, Strayed}
-use Rattle.bench_judge.specs.Replies.{IsRight}
+use Rattle.bench_answers.specs.Ground.{Ground}
 use Rattle.bench_judge.specs.Doubt.{IsOneOf}
 use Rattle.bench_judge.specs.Admitted.{AreAdmitted, IsAdmitted}
 use Rattle.bench_judge.specs.Explained.{EndedFrame, IsChoice, IsEnded, IsExplained}
-use Rattle.bench_judge.specs.declared.settings.JudgeSettings.{JudgeSettings}
+use Rattle.bench_judge.specs.Terms.{Terms, ground_in}
 use Rattle.bench_law.specs.Steps.{Step, happened, shown}
 use Rattle.bench_law.specs.Observation.{IsObservation}
 use Rattle.bench_law.specs.Law.{NoRightUnitIsAccused}
 use Rattle.bench_law.proofs.Fronts.{IsFront, fronts_taken}
-use Rattle.bench_law.proofs.Courses.{LineAt, happened_front, line_at}
-use Rattle.bench_law.proofs.Carried.{carried_front}
-use Rattle.bench_law.proofs.Answers.{is_right}
-use Rattle.bench_law.proofs.Windows.{IsCourse, course_upto}
+use Rattle.bench_law.proofs.Courses.{happened_front, line_at}
+use Rattle.bench_law.proofs.Observed.{IsCourse, course_upto}
+use Rattle.bench_law.proofs.Replies.{right_reply}
 use Rattle.bench_law.proofs.Versions.{has_version}
 use Rattle.bench_law.proofs.Candidates.{is_one_of}
-use Rattle.bench_law.proofs.Settings.{explained_now}
+use Rattle.bench_law.proofs.Settings.{observed_now}
 
-module _ (lanes : ℕ) (settings : JudgeSettings) (steps : List Step) (o : IsObservation lanes settings steps) where
-  course : IsCourse lanes steps
-  course = record { run = o.run; carried_out = o.carried_out; waited = o.waited }
+module _ (lanes : ℕ) (terms : Terms) (steps : List Step) (o : IsObservation lanes terms steps) where
+  abbrev grounds : Ground
+  grounds = ground_in terms
+
+  course : IsCourse lanes grounds o.means steps
+  course =
+      record {
+        run = o.run;
+        carried_out = o.carried_out;
+        replied = o.replied;
+        unexcused = o.unexcused;
+        waited = o.waited;
+        begun = o.begun;
+      }
 
   -- ---- events by themselves
 
-  admitted_at : (number : ℕ) (line : Event) → LineAt steps number line → IsAdmitted settings (take number (shown steps)) line
-  admitted_at number (Replied bytes) here =
+  admitted_at : (number : ℕ) (line : Event) → slice_get (shown steps) number ≡ Some line → IsAdmitted terms (take number (shown steps)) line
+  admitted_at number (Replied bytes) at = right_reply lanes grounds o.means steps course number bytes at
+  admitted_at number (LeftOneOf gem extent among) at =
+      let here = line_at steps number (LeftOneOf gem extent among) at in
       let above : List Step = take here.place steps in
-      let right : IsRight settings.modelled (shown above) bytes =
-      is_right lanes settings.modelled above bytes (course_upto lanes steps here.place course).run (carried_front steps o.carried_out here.place)
-      (o.replied here.place bytes here.at) in
-      subst (λ (l : List Event). IsRight settings.modelled l bytes) here.before right
-  admitted_at number (LeftOneOf gem extent among) here =
-      let above : List Step = take here.place steps in
-      let one : IsOneOf settings.padded (shown above) gem extent among =
-      is_one_of lanes settings.padded above (course_upto lanes steps here.place course) gem extent among (o.doubted here.place gem extent among here.at) in
-      subst (λ (l : List Event). IsOneOf settings.padded l gem extent among) here.before one
-  admitted_at number (Strayed gem extent frame) here = o.strays here.place gem extent frame here.at
-  admitted_at number line here = tt
+      let one : IsOneOf grounds terms.settings.padded (shown above) gem extent among =
+      is_one_of lanes grounds o.means terms.settings.padded above (course_upto lanes grounds o.means steps here.place course) gem extent among
+      (o.doubted here.place gem extent among here.at) in
+      subst (λ (l : List Event). IsOneOf grounds terms.settings.padded l gem extent among) here.before one
+  admitted_at number (Strayed gem extent frame) at =
+      let here = line_at steps number (Strayed gem extent frame) at in o.strays here.place gem extent frame here.at
+  admitted_at number line at = tt
 
-  admitted : AreAdmitted settings (shown steps)
-  admitted number line at = admitted_at number line (line_at steps number line at)
+  admitted : AreAdmitted terms (shown steps)
+  admitted number line at = admitted_at number line at
 
   -- ---- frames
 
@@ -51,7 +59,7 @@ module _ (lanes : ℕ) (settings : JudgeSettings) (steps : List Step) (o : IsObs
   abbrev versions : ℕ → ℕ
   versions number = entered_with (o.lane_of number) (happened (take (o.place_of number) steps))
 
-  in_order : settings.unordered ≡ false → (f g : EndedFrame) → IsEnded (shown steps) f → IsEnded (shown steps) g → f.port ≡ g.port → f.number < g.number
+  in_order : terms.settings.unordered ≡ false → (f g : EndedFrame) → IsEnded (shown steps) f → IsEnded (shown steps) g → f.port ≡ g.port → f.number < g.number
       → versions f.number ≤ versions g.number
   in_order order f g is_f is_g port first =
       let both = o.in_order order f g is_f is_g port first in
@@ -65,16 +73,17 @@ module _ (lanes : ℕ) (settings : JudgeSettings) (steps : List Step) (o : IsObs
       ap (λ (l : ℕ). entered_with l (happened (take (o.place_of g.number) steps))) both.0 in
       omega (arith, grows, whole, lane)
 
-  choice : IsChoice settings.padded settings.unordered (shown steps) versions
+  choice : IsChoice grounds terms.settings.padded terms.settings.unordered (shown steps) versions
   choice =
       record {
         each = λ f is.
-            has_version lanes settings.padded steps course f (o.lane_of f.number) (o.place_of f.number) (o.forwarded f is) is.enough;
+            has_version lanes grounds o.means terms.settings.padded steps course f (o.lane_of f.number) (o.place_of f.number) (o.forwarded f is) is.entered is.enough;
         ordered = in_order;
       }
 
-  explained : IsExplained settings (shown steps)
+  pub explained : IsExplained terms (shown steps)
   explained = record { admitted = admitted; versions = versions; choice = choice }
 
 pub no_right_unit_is_accused : NoRightUnitIsAccused
-no_right_unit_is_accused lanes needed settings steps o allow = explained_now settings needed allow (shown steps) (explained lanes needed steps o)
+no_right_unit_is_accused lanes needed settings start steps o allow =
+    explained lanes (record { settings = settings; start = start }) steps (observed_now lanes start steps settings needed allow o)

@@ -1,5 +1,5 @@
 -- Fronts of lists.
-use Rattle.std.proofs.Common.{◌≡◌, ◌≤◌, ◌<◌, ◌⊎◌, ℕ, zero, suc, List, [], ◌∷◌, ◌++◌, length, take, drop, Some, slice_get, inl, inr, refl, sym, ap, subst, ◌∙◌, arith, append_assoc, append-nil, length-append, take-append-drop, take-take}
+use Rattle.std.proofs.Common.{◌≡◌, ◌≤◌, ◌<◌, ◌⊎◌, ◌+◌, ℕ, zero, suc, List, [], ◌∷◌, ◌++◌, length, take, drop, Some, slice_get, inl, inr, refl, sym, ap, subst, ◌∙◌, arith, append_assoc, append-nil, length-append, take-append-drop, take-take}
 use Rattle.std.proofs.Math.Seq.{take-length}
 use Rattle.std.proofs.lemmas.List.{take-append-le}
 
@@ -34,6 +34,21 @@ front_within {A} {xs} {ys} k f le =
     let front : take (length xs) ys ≡ xs =
     ap (λ (l : List A). take (length xs) l) f.is ∙ take-append-le (length xs) xs f.rest (omega arith) ∙ take-length xs in
     subst (λ l. IsFront l (take k ys)) front (fronts_taken (length xs) k ys le)
+
+-- the same behind other elements
+pub front_behind : {A : Type 0} {xs ys : List A} (zs : List A) → IsFront xs ys → IsFront (zs ++ xs) (zs ++ ys)
+front_behind {A} {xs} zs f = record { rest = f.rest; is = ap (λ l. zs ++ l) f.is ∙ sym (append_assoc zs xs f.rest) }
+
+-- a front that reaches behind the first of two lists ends in the second
+pub front_parted : {A : Type 0} (xs ys front : List A) → IsFront front (xs ++ ys) → length xs ≤ length front
+    → (more : List A) × (front ≡ xs ++ more) × IsFront more ys
+front_parted [] ys front f long = (front, refl, f)
+front_parted (x ∷ xs) ys [] f long = absurd (omega (arith, long))
+front_parted {A} (x ∷ xs) ys (z ∷ front) f long =
+    let same : x ≡ z = cc (f.is) in
+    let others : xs ++ ys ≡ front ++ f.rest = cc (f.is) in
+    let later = front_parted xs ys front (record { rest = f.rest; is = others }) (omega (arith, long)) in
+    (later.0, (λ i. sym same i ∷ later.1 i), later.2)
 
 -- ---- elements by their places
 
@@ -79,3 +94,15 @@ pub length_before : {A : Type 0} (xs : List A) (k : ℕ) (x : A) → slice_get x
 length_before [] k x at = absurd (cc at)
 length_before (y ∷ xs) zero x at = refl
 length_before (y ∷ xs) (suc k) x at = omega (arith, length_before xs k x at)
+
+-- what stands in the second of two lists stands behind the first
+pub behind_front : {A : Type 0} (xs ys : List A) (k m : ℕ) → m ≡ length xs + k → slice_get (xs ++ ys) m ≡ slice_get ys k
+behind_front [] ys k m is = let same : m ≡ k = omega (arith, is) in ap (λ j. slice_get ys j) same
+behind_front (x ∷ xs) ys k zero is = absurd (omega (arith, is))
+behind_front (x ∷ xs) ys k (suc m) is = behind_front xs ys k m (omega (arith, is))
+
+-- what stands in the first stands in both
+pub before_end : {A : Type 0} (xs ys : List A) (k : ℕ) → k < length xs → slice_get (xs ++ ys) k ≡ slice_get xs k
+before_end [] ys k less = absurd (omega (arith, less))
+before_end (x ∷ xs) ys zero less = refl
+before_end (x ∷ xs) ys (suc k) less = before_end xs ys k (omega (arith, less))

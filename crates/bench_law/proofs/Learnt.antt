@@ -5,6 +5,7 @@ use Rattle.std.proofs.lemmas.Bool.Decides.{nat_tests}
 use Rattle.std.proofs.lemmas.Grind.{flat_map-append}
 use Rattle.std.proofs.lemmas.List.Elements.{Contains-append_left}
 use Rattle.std.proofs.lemmas.List.Folds.{list_any-append}
+use Rattle.omci_msg.specs.declared.request.Request.{Request}
 use Rattle.plan_publish.specs.World.{opening, IsRun, Event as MachineEvent, Publish, Enter, Forward, Gave}
 use Rattle.plan_publish.specs.Interleavings.{accepted_in, before_last, entered_with, is_enter, is_publish, published_by, token_to, tokens_to}
 use Rattle.plan_publish.proofs.Last.{fewer_before, last_is, prefixes_grow}
@@ -96,10 +97,10 @@ module _ (lanes : ℕ) (before : List Step) (run : IsRun lanes opening (happened
       omega (arith, some, held, same)
 
   -- where it forwards behind these steps, it holds all that was accepted before the publish
-  pub learnt_at_least : (reply lane : ℕ) (learnt : HasLearnt before reply lane) (past rest : List MachineEvent) (port : ℕ) (bytes : List ℕ)
+  pub learnt_at_least : (script : List Request) (count lane : ℕ) (learnt : HasLearnt script before count lane) (past rest : List MachineEvent) (port : ℕ) (bytes : List ℕ)
       → IsFront (happened before) past → IsRun lanes opening (past ++ Forward lane port bytes ∷ rest)
       → length (accepted_in (happened (take learnt.place before))) ≤ entered_with lane past
-  learnt_at_least reply lane learnt past rest port bytes front forwards =
+  learnt_at_least script count lane learnt past rest port bytes front forwards =
       elim learnt.learnt [
         | inl told ↦ told_at_least learnt.place lane learnt.publishes told past rest port bytes front forwards
         | inr entered ↦

@@ -1,5 +1,5 @@
 -- Requests and more: which want an answer, and how many are accepted.
-use Rattle.std.proofs.Common.{◌≡◌, ◌≤◌, ◌+◌, ℕ, zero, suc, Bool, true, false, cond, List, [], ◌∷◌, ◌++◌, length, fold, Some, count_by, slice_get, ap, ◌∙◌, arith}
+use Rattle.std.proofs.Common.{◌≡◌, ◌≤◌, ◌+◌, ℕ, zero, suc, Bool, true, false, cond, List, [], ◌∷◌, ◌++◌, length, fold, Some, slice_get, refl, ap, ◌∙◌, arith}
 use Rattle.std.proofs.lemmas.List.Sums.{sum_by-cons}
 use Rattle.omci_msg.specs.declared.request.Request.{Request}
 use Rattle.mib_state.specs.Entities.{Entities, nothing}
@@ -8,13 +8,11 @@ use Rattle.mib_state.specs.After.{accepted, accepted_from, after, is_accepted}
 use Rattle.mib_upload.specs.Upload.{DeskState, answered}
 use Rattle.plan_publish.proofs.Parts.{accepted-append}
 use Rattle.bench_reply.specs.Replies.{Wanted}
-use Rattle.bench_judge.specs.Asked.{wanted_from}
-use Rattle.bench_judge.specs.Windows.{up_to}
+use Rattle.bench_answers.specs.Asked.{desk_from, wanted_from}
+use Rattle.bench_answers.specs.Windows.{up_to}
+use Rattle.bench_answers.proofs.Requests.{cond_front}
+use Rattle.bench_law.specs.Steps.{wanting}
 use Rattle.bench_law.proofs.Fronts.{IsFront}
-
--- how many of requests want an answer
-abbrev pub wanting : List Request → ℕ
-wanting qs = count_by (λ (q : Request). q.wants_answer) qs
 
 -- the state that requests leave
 abbrev pub desk_behind : DeskState → List Request → DeskState
@@ -27,6 +25,26 @@ wanted_at s q = record { request = q; reply = (answered s q).0 }
 -- one more in front
 wanting_before : (q : Request) (qs : List Request) → wanting (q ∷ qs) ≡ cond q.wants_answer 1 0 + wanting qs
 wanting_before q qs = sum_by-cons (λ (p : Request). cond p.wants_answer 1 0) q qs
+
+pub wanting_append : (qs rs : List Request) → wanting (qs ++ rs) ≡ wanting qs + wanting rs
+wanting_append [] rs = omega arith
+wanting_append (q ∷ qs) rs = omega (arith, wanting_before q (qs ++ rs), wanting_before q qs, wanting_append qs rs)
+
+-- those that want an answer, of requests and more
+pub wanted_append : (s : DeskState) (qs rs : List Request) → wanted_from s (qs ++ rs) ≡ wanted_from s qs ++ wanted_from (desk_from s qs) rs
+wanted_append s [] rs = refl
+wanted_append s (q ∷ qs) rs = cond_front q.wants_answer (wanted_at s q) _ _ _ (wanted_append (answered s q).1 qs rs)
+
+-- there are as many as want one
+pub wanted_count : (s : DeskState) (qs : List Request) → length (wanted_from s qs) ≡ wanting qs
+wanted_count s [] = refl
+wanted_count s (q ∷ qs) =
+    let rest : List Wanted = wanted_from (answered s q).1 qs in
+    let later : length rest ≡ wanting qs = wanted_count (answered s q).1 qs in
+    (elim q.wants_answer as (λ b. wanting (q ∷ qs) ≡ cond b 1 0 + wanting qs → length (cond b (wanted_at s q ∷ rest) rest) ≡ wanting (q ∷ qs)) [
+      | true ↦ λ more. omega (arith, later, more)
+      | false ↦ λ more. omega (arith, later, more)
+    ]) (wanting_before q qs)
 
 stands_behind : (b : Bool) (first w : Wanted) (rest : List Wanted) (n m : ℕ) → m ≡ cond b 1 0 + n → slice_get rest n ≡ Some w
     → slice_get (cond b (first ∷ rest) rest) m ≡ Some w

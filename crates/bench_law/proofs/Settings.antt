@@ -1,52 +1,62 @@
--- What is explained by some settings is explained by all that allow more.
+-- What is an observation for some settings is one for all that allow more.
 use Rattle.std.proofs.Common.{◌≡◌, ◌<◌, ◌-◌, ◌&&◌, ℕ, Bool, true, false, List, length, take, replicate, inl, inr, refl, arith, length-append}
 use Rattle.std.specs.Prelude.{nat_eq, nat_lt}
 use Rattle.std.specs.List.{starts_with}
 use Rattle.std.proofs.lemmas.Bool.{and_parts, lt-ltb, ltb-true}
+use Rattle.omci_msg.specs.declared.request.Request.{Request}
 use Rattle.tag_view.specs.Frame.{frame_bytes}
-use Rattle.frame_meaning.specs.Meaning.{meaning}
 use Rattle.frame_meaning.specs.declared.verdict.Verdict.{Verdict}
 use Rattle.frame_meaning.specs.declared.verdict.Verdict.TheVariants.{Forward, Drop}
+use Rattle.bench_history.specs.Among.{OneOf}
 use Rattle.bench_history.specs.declared.event.Event.{Event}
-use Rattle.bench_history.specs.declared.event.Event.TheVariants.{Replied, Left, LeftOneOf, Strayed}
+use Rattle.bench_history.specs.declared.event.Event.TheVariants.{Left}
 use Rattle.bench_history.specs.declared.extent.Extent.{Extent}
 use Rattle.bench_history.specs.declared.extent.Extent.TheVariants.{Whole, Front}
+use Rattle.bench_history.specs.declared.gem.SeenGem.{SeenGem}
 use Rattle.bench_sight.specs.Sight.{IsSeenAs, agree, padded_to}
 use Rattle.bench_sight.proofs.Prefixes.{Decides-begins, in_first_part}
-use Rattle.bench_reply.specs.Replies.{Wanted, is_compared}
-use Rattle.bench_judge.specs.Asked.{version}
-use Rattle.bench_judge.specs.Replies.{IsRight}
-use Rattle.bench_judge.specs.Admitted.{IsAdmitted}
-use Rattle.bench_judge.specs.Doubt.{LeavesBy, MayBe}
-use Rattle.bench_judge.specs.Explained.{EndedFrame, IsExplained, IsVersionOf}
+use Rattle.bench_reply.proofs.Fewer.{fewer_compared}
+use Rattle.bench_answers.specs.Ground.{Ground}
+use Rattle.bench_answers.specs.declared.standing.Standing.{Standing}
+use Rattle.bench_answers.specs.declared.standing.Standing.TheVariants.{Answers, Repeats, OfStart, Absent}
+use Rattle.bench_judge.specs.Explained.{EndedFrame}
 use Rattle.bench_judge.specs.declared.settings.JudgeSettings.{JudgeSettings}
+use Rattle.bench_law.specs.Steps.{Step, shown}
+use Rattle.bench_law.specs.Observation.{IsAnswer, IsForwarded, IsObservation, IsOneThatLeft, IsReply, StandsFor, seen_in}
 use Rattle.bench_law.specs.Law.{Allow}
+use Rattle.bench_law.proofs.Unrepeated.{with_repeats}
 
 -- ---- replies
 
--- a byte that is compared was compared
-compared_before : (now before : Bool) (w : Wanted) (byte : ℕ) → (before ≡ true → now ≡ true) → is_compared now w byte ≡ true
-    → is_compared before w byte ≡ true
-compared_before now false w byte allow compared = refl
-compared_before true true w byte allow compared = compared
-compared_before false true w byte allow compared = absurd (cc (allow refl))
+module _ (now before repeats : Bool) (start : List Request) (steps : List Step) (bytes : List ℕ) (allow : before ≡ true → now ≡ true) where
+  abbrev answer_now : IsAnswer before steps bytes → IsAnswer now steps bytes
+  answer_now is =
+      record {
+        place = is.place;
+        request = is.request;
+        reply = is.reply;
+        carried_out = is.carried_out;
+        wants_answer = is.wants_answer;
+        answered = is.answered;
+        spelled = fewer_compared now before (record { request = is.request; reply = is.reply }) bytes allow is.spelled;
+      }
 
-right_now : (now before : Bool) (events : List Event) (bytes : List ℕ) → (before ≡ true → now ≡ true) → IsRight before events bytes → IsRight now events bytes
-right_now now before events bytes allow is =
-    record {
-      answers = is.answers;
-      next = is.next;
-      right =
-          record {
-            reply = is.right.reply;
-            read = is.right.read;
-            tci = is.right.tci;
-            action = is.right.action;
-            class = is.right.class;
-            instance = is.right.instance;
-            contents = λ byte compared. is.right.contents byte (compared_before now before is.answers byte allow compared);
-          };
-    }
+  abbrev ground_before : Ground
+  ground_before = record { modelled = before; repeats = repeats; start = start }
+
+  abbrev ground_now : Ground
+  ground_now = record { modelled = now; repeats = repeats; start = start }
+
+  stands_now : (seen : List Standing) (standing : Standing) → StandsFor ground_before steps seen bytes standing → StandsFor ground_now steps seen bytes standing
+  stands_now seen (Answers k) is = record { is = answer_now is.is; number = is.number; next = is.next }
+  stands_now seen (Repeats k) is =
+      record { is = answer_now is.is; number = is.number; last = is.last; repeated = is.repeated; alone = is.alone }
+  stands_now seen (OfStart j) is =
+      record { is = answer_now is.is; number = is.number; of_start = is.of_start; behind = is.behind; unsent = is.unsent }
+  stands_now seen Absent is = is
+
+  reply_now : (means : List Standing) → IsReply ground_before means steps bytes → IsReply ground_now means steps bytes
+  reply_now means is = record { standing = is.standing; listed = is.listed; stands = stands_now (seen_in means steps) is.standing is.stands }
 
 -- ---- frames
 
@@ -91,54 +101,69 @@ ordered_before : (now before : Bool) → (before ≡ true → now ≡ true) → 
 ordered_before now true allow order = let set : now ≡ true = allow refl in cc
 ordered_before now false allow order = refl
 
--- ---- histories
+-- ---- frames by their lanes
 
-module _ (settings needed : JudgeSettings) (allow : Allow settings needed) (events : List Event) where
-  may_be_now : (before : List Event) (n : ℕ) (seen : Event) → MayBe needed.padded before n seen → MayBe settings.padded before n seen
-  may_be_now before n seen is =
+forwarded_now : (now before : Bool) (steps : List Step) (f : EndedFrame) (lane place : ℕ) → (before ≡ true → now ≡ true)
+    → IsForwarded before steps f lane place → IsForwarded now steps f lane place
+forwarded_now now before steps f lane place allow is =
+    record {
+      bytes = is.bytes;
+      verdict = is.verdict;
+      forwards = is.forwards;
+      sent = is.sent;
+      ended = is.ended;
+      known = is.known;
+      decided = is.decided;
+      seen = seen_now now before is.verdict Whole f.seen allow is.seen;
+    }
+
+one_now : (now before : Bool) (steps : List Step) (gem : SeenGem) (extent : Extent) (among : OneOf) → (before ≡ true → now ≡ true)
+    → IsOneThatLeft before steps gem extent among → IsOneThatLeft now steps gem extent among
+one_now now before steps gem extent among allow is =
+    record {
+      frame = is.frame;
+      is_named = is.is_named;
+      left =
+          elim is.left [
+            | inl few ↦ inl few
+            | inr lets ↦ inr (lets.0, lets.1, forwarded_now now before steps is.frame lets.0 lets.1 allow lets.2)
+          ];
+    }
+
+-- ---- observations
+
+module _ (lanes : ℕ) (start : List Request) (steps : List Step) (settings needed : JudgeSettings) (allow : Allow settings needed (shown steps)) where
+  repeats_now : (now before : Bool) → settings.repeats ≡ now → needed.repeats ≡ before
+      → IsObservation lanes (record { settings = record needed { repeats = before }; start = start }) steps
+      → IsObservation lanes (record { settings = record needed { repeats = now }; start = start }) steps
+  repeats_now true true is was o = o
+  repeats_now true false is was o = with_repeats lanes start steps needed (allow.unrepeated was is) o
+  repeats_now false true is was o = let set : settings.repeats ≡ true = allow.repeats was in absurd (cc (set, is))
+  repeats_now false false is was o = o
+
+  -- where both mean repeats, or neither
+  others_now : IsObservation lanes (record { settings = record needed { repeats = settings.repeats }; start = start }) steps
+      → IsObservation lanes (record { settings = settings; start = start }) steps
+  others_now o =
       record {
-        sent = is.sent;
-        by =
-            elim is.by [
-              | inl few ↦ inl few
-              | inr leaves ↦
-                  let v : ℕ = leaves.0 in
-                  let by : LeavesBy needed.padded before n is.sent seen v = leaves.1 in
-                  inr (
-                    v,
-                    record {
-                      least = by.least;
-                      most = by.most;
-                      shows =
-                          seen_now settings.padded needed.padded (meaning (version before v) is.sent.port is.sent.bytes) is.sent.extent seen
-                          allow.padded by.shows;
-                    },
-                  )
-            ];
+        run = o.run;
+        carried_out = o.carried_out;
+        means = o.means;
+        replied = λ place bytes at.
+            reply_now settings.modelled needed.modelled settings.repeats start (take place steps) bytes allow.modelled o.means (o.replied place bytes at);
+        unexcused = o.unexcused;
+        waited = o.waited;
+        begun = o.begun;
+        strays = λ place gem extent frame at. allow.strays (o.strays place gem extent frame at);
+        doubted = λ place gem extent among at.
+            one_now settings.padded needed.padded (take place steps) gem extent among allow.padded (o.doubted place gem extent among at);
+        lane_of = o.lane_of;
+        place_of = o.place_of;
+        forwarded = λ f is.
+            forwarded_now settings.padded needed.padded steps f (o.lane_of f.number) (o.place_of f.number) allow.padded (o.forwarded f is);
+        in_order = λ order. o.in_order (ordered_before settings.unordered needed.unordered allow.unordered order);
       }
 
-  admitted_now : (before : List Event) (event : Event) → IsAdmitted needed before event → IsAdmitted settings before event
-  admitted_now before (Replied bytes) is = right_now settings.modelled needed.modelled before bytes allow.modelled is
-  admitted_now before (LeftOneOf gem extent among) is = (is.0, is.1, may_be_now before is.0 (Left gem extent is.0 among.frame) is.2)
-  admitted_now before (Strayed gem extent frame) is = allow.strays is
-  admitted_now before event is = tt
-
-  version_now : (f : EndedFrame) (v : ℕ) → IsVersionOf needed.padded events f v → IsVersionOf settings.padded events f v
-  version_now f v is =
-      record {
-        least = is.least;
-        most = is.most;
-        seen = seen_now settings.padded needed.padded (meaning (version events v) f.port f.bytes) f.extent f.seen allow.padded is.seen;
-      }
-
-  pub explained_now : IsExplained needed events → IsExplained settings events
-  explained_now is =
-      record {
-        admitted = λ i event at. admitted_now (take i events) event (is.admitted i event at);
-        versions = is.versions;
-        choice =
-            record {
-              each = λ f is_f. version_now f (is.versions f.number) (is.choice.each f is_f);
-              ordered = λ order. is.choice.ordered (ordered_before settings.unordered needed.unordered allow.unordered order);
-            };
-      }
+  pub observed_now : IsObservation lanes (record { settings = needed; start = start }) steps
+      → IsObservation lanes (record { settings = settings; start = start }) steps
+  observed_now o = others_now (repeats_now settings.repeats needed.repeats refl refl o)

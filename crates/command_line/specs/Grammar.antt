@@ -130,6 +130,17 @@ padded = flag (codes "padded")
 abbrev pub allow_unfinished : Rule
 allow_unfinished = flag (codes "allow-unfinished")
 
+abbrev pub repeats : Rule
+repeats = flag (codes "repeats")
+
+-- a script that is carried out before the history
+abbrev pub start : Rule
+start = optional (codes "start") NonEmptyString
+
+-- how many deviations are listed
+abbrev pub most : Rule
+most = numbered (codes "most")
+
 -- a file with a history, which may be left out
 abbrev pub history : Rule
 history = record (new_rule (codes "history")) {
@@ -221,8 +232,12 @@ abbrev pub by_settings : App
 by_settings =
     with_rule (with_rule (with_rule (with_rule (with_rule (new_app (codes "judge")) modelled) unordered) allow_strays) padded) allow_unfinished
 
+-- and what of it
+abbrev pub by_wishes : App
+by_wishes = with_rule (with_rule (with_rule (with_rule by_settings repeats) start) all) most
+
 abbrev pub judge : App
-judge = with_rule (with_rule by_settings json) history
+judge = with_rule (with_rule by_wishes json) history
 
 -- the identifier of the first message
 abbrev pub identifier : Rule

@@ -66,7 +66,7 @@ first_there None text none some = absurd (cc)
 first_there (Some row) text none some = let bad : None ≡ Some text = rw none at some in absurd (cc)
 
 -- so an option that may be left out has one number, or none
-option_same : (name : Text) (rows : List Row) (n m : Option ℕ) → IsOptionalNumber name rows n → IsOptionalNumber name rows m → n ≡ m
+pub option_same : (name : Text) (rows : List Row) (n m : Option ℕ) → IsOptionalNumber name rows n → IsOptionalNumber name rows m → n ≡ m
 option_same name rows None None a b = refl
 option_same name rows (Some n) (Some m) a b = ap Some (number_same name rows n m a b)
 option_same name rows None (Some m) a b = absurd (first_there _ b.text a b.value)

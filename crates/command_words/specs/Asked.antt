@@ -1,6 +1,7 @@
 -- What the words ask for.
-use Rattle.std.specs.Prelude.{◌≡◌, ◌≢◌, ℕ, Bool, true, false, List, [], Option, Some, None, codes, map, option_map, unwrap_or}
+use Rattle.std.specs.Prelude.{◌≡◌, ◌≢◌, ◌≢◌, ℕ, Bool, true, false, List, [], Option, Some, None, codes, map, option_map, unwrap_or}
 use Rattle.std.specs.Borrow.{Bor}
+use Rattle.std.specs.Str.{bytes_eq}
 use Rattle.std.specs.Str.Parse.{IsNumeral, digits_value, without_leading_plus}
 use Rattle.clap.specs.Words.{Row, Text, all_of, first_of, one_of}
 use Rattle.run_settings.specs.Settings.{default_batch, default_lanes}
@@ -113,6 +114,23 @@ pub record IsExplain (rows : List Row) (words : ExplainWords) : Type 0 where
   pub json : IsFlag (codes "json") rows words.json
   pub frame : IsFrame rows words.frame
 
+-- how many deviations are listed where nothing says it
+abbrev pub most_listed : ℕ
+most_listed = 100
+
+-- whether all deviations are asked for
+abbrev pub is_true : Option Text → Bool
+is_true (Some text) = bytes_eq text (codes "true")
+is_true None = false
+
+abbrev pub asks_for_all : List Row → Bool
+asks_for_all rows = is_true (first_of (codes "all") rows)
+
+-- how many deviations are listed at most: where all are asked for so many as `most` says; else none, and `most` isn't given
+abbrev pub IsListed : List Row → Option ℕ → Type 0
+IsListed rows (Some n) = (asks_for_all rows ≡ true) × IsNumberOr most_listed (codes "most") rows n
+IsListed rows None = (asks_for_all rows ≡ false) × (first_of (codes "most") rows ≡ None)
+
 -- those behind `judge`
 pub record IsJudge (rows : List Row) (words : JudgeWords) : Type 0 where
   pub file : first_of (codes "history") rows ≡ option_map (λ (name : _). name.now) words.file
@@ -120,6 +138,9 @@ pub record IsJudge (rows : List Row) (words : JudgeWords) : Type 0 where
   pub unordered : IsFlag (codes "unordered") rows words.unordered
   pub allow_strays : IsFlag (codes "allow-strays") rows words.allow_strays
   pub padded : IsFlag (codes "padded") rows words.padded
+  pub repeats : IsFlag (codes "repeats") rows words.repeats
+  pub start : first_of (codes "start") rows ≡ option_map (λ (name : _). name.now) words.start
+  pub listed : IsListed rows words.listed
   pub allow_unfinished : IsFlag (codes "allow-unfinished") rows words.allow_unfinished
   pub json : IsFlag (codes "json") rows words.json
 

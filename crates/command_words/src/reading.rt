@@ -1,7 +1,7 @@
 //! What the words ask for.
 ghost use Rattle.std.specs.Prelude.{◌≡◌, ◌≤◌, ℕ, Option, codes, IfErr, IfNone, IfOk, IfSome};
 ghost use Rattle.clap.specs.Words.{found_of, rows_of, subcommand_rows_of};
-ghost use Rattle.command_words.specs.Asked.{AreTexts, IsAskedBy, IsDecode, IsEncode, IsExplain, IsForward, IsFrame, IsGraph, IsJudge, IsLint, IsLook, IsMib, HasNoList, IsOptionalNumber, IsRecord, IsReplay, IsRules, IsRun, IsTrace, IsTraces};
+ghost use Rattle.command_words.specs.Asked.{AreTexts, IsAskedBy, IsDecode, IsEncode, IsExplain, IsForward, IsFrame, IsGraph, IsJudge, IsLint, IsListed, IsLook, IsMib, HasNoList, IsOptionalNumber, IsRecord, IsReplay, IsRules, IsRun, IsTrace, IsTraces, asks_for_all};
 ghost use Rattle.command_words.specs.declared.words.Words.{Words};
 ghost use Rattle.command_words.specs.declared.words.RecordWords.{RecordWords};
 ghost use Rattle.command_words.specs.declared.words.RunWords.{RunWords};
@@ -10,6 +10,7 @@ ghost use Rattle.command_words.specs.declared.words.RulesWords.{RulesWords};
 ghost use Rattle.command_words.specs.declared.words.ExplainWords.{ExplainWords};
 ghost use Rattle.command_words.specs.declared.words.LintWords.{LintWords};
 ghost use Rattle.command_words.specs.declared.words.GraphWords.{GraphWords};
+ghost use Rattle.command_words.specs.declared.words.JudgeWords.{JudgeWords};
 ghost use Rattle.command_words.specs.declared.words.EncodeWords.{EncodeWords};
 ghost use Rattle.command_words.specs.declared.words.ForwardWords.{ForwardWords};
 ghost use Rattle.command_words.specs.declared.words.FrameWords.{FrameWords};
@@ -169,19 +170,57 @@ fn read_forward<'a>(given: &ArgMatches<'a>) -> Option<ForwardWords<'a>>
     })
 }
 
-/// What the words behind `judge` ask for.
-fn read_judge<'a>(given: &ArgMatches<'a>) -> JudgeWords<'a>
-    ensures { IsJudge (rows_of (found_of given.now)) result }
+/// Whether all deviations are asked for.
+fn asks_for_all(given: &ArgMatches<'_>) -> bool
+    ensures { result ≡ asks_for_all (rows_of (found_of given.now)) }
 {
-    JudgeWords {
+    match given.get_str("all") {
+        Some(text) => text == "true",
+        None => false,
+    }
+}
+
+/// How many deviations are listed where all are asked for, and `--most` doesn't say it.
+const MOST_LISTED: u32 = 100;
+
+/// How many deviations are to be listed at most, Some(None) for the first alone; None where `--most` is given without `--all`, or its number
+/// has over 32 bits.
+fn read_listed(given: &ArgMatches<'_>) -> Option<Option<u32>>
+    ensures asked { IfSome result (IsListed (rows_of (found_of given.now))) }
+    ensures range { IfSome result IsLine }
+    ensures none { IfNone result ((listed : Option ℕ)
+        → IsListed (rows_of (found_of given.now)) listed → IsLine listed → ⊥) }
+{
+    let most = read_optional(given, "most")?;
+    let all = asks_for_all(given);
+    match most {
+        None if all => Some(Some(MOST_LISTED)),
+        Some(most) if all => Some(Some(most)),
+        None => Some(None),
+        Some(_) => None,
+    }
+}
+
+/// What the words behind `judge` ask for; None where `--most` is given without `--all`, or its number has over 32 bits.
+fn read_judge<'a>(given: &ArgMatches<'a>) -> Option<JudgeWords<'a>>
+    ensures asked { IfSome result (IsJudge (rows_of (found_of given.now))) }
+    ensures range { IfSome result (λ words. IsLine words.listed) }
+    ensures none { IfNone result ((words : JudgeWords)
+        → IsJudge (rows_of (found_of given.now)) words → IsLine words.listed → ⊥) }
+{
+    let listed = read_listed(given)?;
+    Some(JudgeWords {
         file: given.get_str("history"),
         modelled: given.get_flag("modelled"),
         unordered: given.get_flag("unordered"),
         allow_strays: given.get_flag("allow-strays"),
         padded: given.get_flag("padded"),
+        repeats: given.get_flag("repeats"),
+        start: given.get_str("start"),
+        listed,
         allow_unfinished: given.get_flag("allow-unfinished"),
         json: given.get_flag("json"),
-    }
+    })
 }
 
 /// What the words behind `encode` ask for; None where the identifier has over 16 bits.
@@ -366,7 +405,7 @@ fn read_others<'a>(matches: &ArgMatches<'a>) -> Option<Words<'a>>
         return Some(Words::Run(read_run(given)?));
     }
     if let Some(given) = matches.subcommand_matches("judge") {
-        return Some(Words::Judge(read_judge(given)));
+        return Some(Words::Judge(read_judge(given)?));
     }
     if let Some(given) = matches.subcommand_matches("forward") {
         return Some(Words::Forward(read_forward(given)?));
@@ -431,6 +470,7 @@ pub fn complaint(matches: &ArgMatches<'_>) -> &'static str {
     match matches.subcommand_matches("explain") {
         Some(given) if has_no_trace(given) => "give the trace too, in front of the frame",
         Some(_) => "give the frame by its bytes alone, or by --frames and --frame",
+        None if matches.subcommand_matches("judge").is_some() => "give --all too, beside --most",
         None => "a value is missing or out of its range",
     }
 }

@@ -158,6 +158,12 @@ pub struct JudgeWords<'a> {
     pub allow_strays: bool,
     /// Whether a short frame may be seen with zeros behind it.
     pub padded: bool,
+    /// Whether a message that is sent twice is carried out once.
+    pub repeats: bool,
+    /// The file with the script that is carried out before the history, or None where there is none.
+    pub start: Option<&'a str>,
+    /// How many deviations are listed at most, or None for the first alone.
+    pub listed: Option<u32>,
     /// Whether a history without an end line is explained too.
     pub allow_unfinished: bool,
     /// Whether it is shown as JSON.

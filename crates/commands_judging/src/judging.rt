@@ -1,18 +1,20 @@
 //! Whether a right unit may have done what a history says.
+use crate::finding::{Begun, Found, find, status_of, write_found};
 use crate::mistakes::find_history_mistake;
 use crate::progress::Shown;
-use bench_judge::{JudgeFault, JudgeSettings, Judgement, judge_pieces, judge_watched};
+use crate::start::start_of;
+use bench_judge::JudgeFault;
 use command_words::JudgeWords;
-use commands_files::{History, read_history, read_whole, report_unread};
-use std::alloc::{AllocError, Global};
+use commands_files::{History, read_history, read_whole, refuse_twice, report_unread};
+use std::alloc::Global;
 use std::fs::File;
 use std::io::{ErrorKind, IsTerminal, Read, Write};
 use std::rt::Files;
 use std::thread::Threads;
-use text_deviations::Observed;
-use text_encode::without_mark;
-use text_judgements::{Told, write_judgement, write_judgement_json};
-use text_writing::{LookFault, Status, TextFault, report_look};
+use text_writing::{LookFault, Status, report_look};
+
+/// The name of standard input.
+const STANDARD_INPUT: &str = "-";
 
 /// Why a history isn't judged.
 fn judge_fault(fault: JudgeFault) -> LookFault {
@@ -32,15 +34,21 @@ fn read_input<I: Read>(alloc: Global, input: &mut I) -> Result<Vec<u8>, LookFaul
     }
 }
 
+/// Says that a text is waited for where its name is that of standard input, and this is a terminal.
+fn say_waiting<I: IsTerminal, E: Write>(name: &str, words: &[u8], input: &I, err: &mut E) {
+    if name == STANDARD_INPUT && input.is_terminal() {
+        let _ = err.write_all(words);
+    }
+}
+
 /// The history that the words name, or the status where it can't be had; why is written to `err`.
 fn history_of<
     R: Files<File = File> + Alloc<A = Global> + Threads + Sync,
     I: Read + IsTerminal,
     E: Write,
 >(rt: &R, file: Option<&str>, input: &mut I, err: &mut E) -> Result<History, Status> {
-    if file.is_none() && input.is_terminal() {
-        let _ = err.write_all(b"reading a history from this terminal, up to its end (Ctrl-D)\n");
-    }
+    let said = b"reading a history from this terminal, up to its end (Ctrl-D)\n";
+    say_waiting(file.unwrap_or(STANDARD_INPUT), said, input, err);
     match file {
         Some(path) => match read_history(rt, path) {
             Ok(history) => Ok(history),
@@ -53,60 +61,15 @@ fn history_of<
     }
 }
 
-/// The text of a history in parts, each of whole lines.
-fn parts_of(alloc: Global, history: &History) -> Result<Vec<&[u8]>, AllocError> {
-    match history {
-        History::Whole(text) => {
-            let mut parts = Vec::new(alloc);
-            parts.push(without_mark(text))?;
-            Ok(parts)
-        }
-        History::InPieces(pieces) => pieces.parts(alloc),
-    }
-}
-
-/// Writes what a history shows, as text or as JSON.
-fn write_found<O: Write>(
-    alloc: Global,
-    words: &JudgeWords,
-    history: &History,
-    found: &Judgement<'_>,
-    out: &mut O,
-) -> Result<(), TextFault> {
-    let told = Told {
-        allow_unfinished: words.allow_unfinished,
-        start: None,
-    };
-    if words.json {
-        return write_judgement_json(alloc, found, &told, out);
-    }
-    let parts = parts_of(alloc, history)?;
-    let observed = Observed {
-        parts: &parts,
-        start: &[],
-        repeats: false,
-    };
-    write_judgement(alloc, found, &told, &observed, out)
-}
-
 /// Judges a history, and shows on `err` meanwhile how far that is, where it is a terminal and the history long.
-fn judge_shown<'a, E: Write + IsTerminal>(
+fn judge_shown<'h, E: Write + IsTerminal>(
     alloc: Global,
     words: &JudgeWords,
-    history: &'a History,
+    begun: &'h Begun,
     err: &mut E,
-) -> Result<Judgement<'a>, LookFault> {
-    let settings = JudgeSettings {
-        modelled: words.modelled,
-        unordered: words.unordered,
-        strays: words.allow_strays,
-        padded: words.padded,
-    };
+) -> Result<Found<'h>, LookFault> {
     let mut shown = Shown::new(err);
-    let found = match history {
-        History::Whole(text) => judge_watched(alloc, without_mark(text), &settings, &mut shown),
-        History::InPieces(pieces) => judge_pieces(alloc, pieces, &settings, &mut shown),
-    };
+    let found = find(alloc, words, begun, &mut shown);
     shown.end();
     match found {
         Ok(found) => Ok(found),
@@ -114,30 +77,16 @@ fn judge_shown<'a, E: Write + IsTerminal>(
     }
 }
 
-/// The status of what a history shows, which may be unfinished where that is allowed.
-fn status_of(found: &Judgement<'_>, allow_unfinished: bool) -> Status {
-    match found {
-        Judgement::Explained(explanation) => {
-            if explanation.passes(allow_unfinished) {
-                Status::Done
-            } else {
-                Status::Undecided
-            }
-        }
-        Judgement::Deviates(_) => Status::Found,
-    }
-}
-
 /// Judges a history, and writes what it shows to `out`. It gives the status where nothing is wrong with the call.
 fn judge_text<O: Write, E: Write + IsTerminal>(
     alloc: Global,
     words: &JudgeWords,
-    history: &History,
+    begun: &Begun,
     out: &mut O,
     err: &mut E,
 ) -> Result<Status, LookFault> {
-    let found = judge_shown(alloc, words, history, err)?;
-    write_found(alloc, words, history, &found, out)?;
+    let found = judge_shown(alloc, words, begun, err)?;
+    write_found(alloc, words, begun, &found, out)?;
     Ok(status_of(&found, words.allow_unfinished))
 }
 
@@ -164,6 +113,14 @@ fn report_bad_line<R: Files + Alloc<A = Global>, E: Write>(
     }
 }
 
+/// Refuses words by which the history and the script before it are both read from standard input, and gives the status.
+fn refuse_one_input<E: Write>(words: &JudgeWords, err: &mut E) -> Result<(), Status> {
+    match words.start {
+        Some(start) => refuse_twice(&[start, words.file.unwrap_or(STANDARD_INPUT)], err),
+        None => Ok(()),
+    }
+}
+
 /// Reads a history whole, from its file or from `input`, and writes what it shows to `out`, and why nothing, or not all, to `err`. It
 /// gives the status.
 pub fn judge_history<
@@ -172,16 +129,26 @@ pub fn judge_history<
     O: Write,
     E: Write + IsTerminal,
 >(rt: &R, words: &JudgeWords, input: &mut I, out: &mut O, err: &mut E) -> Status {
+    if let Err(status) = refuse_one_input(words, err) {
+        return status;
+    }
+    let said = b"reading a script from this terminal, up to its end (Ctrl-D)\n";
+    say_waiting(words.start.unwrap_or(""), said, input, err);
+    let start = match start_of(rt, words, err) {
+        Ok(start) => start,
+        Err(status) => return status,
+    };
     let history = match history_of(rt, words.file, input, err) {
         Ok(history) => history,
         Err(status) => return status,
     };
-    match judge_text(rt.alloc(), words, &history, out, err) {
+    let begun = Begun { start, history };
+    match judge_text(rt.alloc(), words, &begun, out, err) {
         Ok(status) => status,
         Err(fault) => {
             let status = report_look(&Err(fault), err);
             if let LookFault::BadLine(line) = fault {
-                report_bad_line(rt, words, &history, line, err);
+                report_bad_line(rt, words, &begun.history, line, err);
             }
             status
         }

@@ -4,9 +4,11 @@
 #![tactic(auto)]
 
 mod above;
+mod finding;
 mod judging;
 mod mistakes;
 mod parts;
 mod progress;
+mod start;
 
 pub use judging::judge_history;

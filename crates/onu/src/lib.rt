@@ -4,18 +4,19 @@
 //! call does.
 #![tactic(auto)]
 
-ghost use Rattle.std.specs.Prelude.{◌≡◌, None};
+ghost use Rattle.std.specs.Prelude.{◌≡◌, [], None};
 ghost use Rattle.onu_calls.specs.Forwarding.{StandsIn, verdict_in, verdict_number, verdict_room};
 ghost use Rattle.onu_calls.specs.Messaging.{answer_in, answer_number, answer_room, left_in};
 ghost use Rattle.onu_cell.specs.Opening.{Opens, closing_number};
 ghost use Rattle.onu_scripts.specs.Looking.{LooksInto};
 ghost use Rattle.onu_scripts.specs.Making.{MakesInto};
-ghost use Rattle.onu_texts.specs.Judging.{JudgesInto};
+ghost use Rattle.onu_texts.specs.Judging.{JudgesBehind, JudgesInto};
 ghost use Rattle.onu_texts.specs.Replaying.{ReplaysInto};
 ghost use Rattle.onu_texts.specs.Room.{ExplainsInto};
 
 use onu_calls::CVerdict;
 use onu_cell::Cell;
+use onu_texts::Asked;
 use std::alloc::Global;
 
 /// Puts a unit without any instance into an empty cell.
@@ -110,10 +111,34 @@ pub extern "C" fn onu_proved_judge(
     written: &mut usize,
     line: &mut u64,
 ) -> i32
-    ensures { JudgesInto flags history.now room.old room.new result written.old written.new line.old
-        line.new }
+    ensures { JudgesInto [] flags history.now room.old room.new result written.old written.new
+        line.old line.new }
 {
     onu_texts::judge_into(alloc, history, flags, room, written, line)
+}
+
+/// Judges a history behind a script, as JSON in a room, with as many of its deviations as are asked for.
+#[unsafe(no_mangle)]
+pub extern "C" fn onu_proved_judge_all(
+    alloc: Global,
+    start: &[u8],
+    history: &[u8],
+    flags: u32,
+    most: u64,
+    room: &mut [u8],
+    written: &mut usize,
+    line: &mut u64,
+) -> i32
+    ensures { JudgesBehind start.now flags history.now room.old room.new result written.old
+        written.new line.old line.new }
+{
+    let asked = Asked {
+        start,
+        history,
+        flags,
+        most,
+    };
+    onu_texts::judge_all_into(alloc, &asked, room, written, line)
 }
 
 /// Makes a script of a text in words, in a room.

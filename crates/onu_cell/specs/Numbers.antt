@@ -25,3 +25,7 @@ bad_line = negsuc 20
 -- a flag that has no meaning is set: -22
 abbrev pub bad_flags : ℤ
 bad_flags = negsuc 21
+
+-- a line of the script before a history is bad: -23
+abbrev pub bad_start : ℤ
+bad_start = negsuc 22

@@ -17,3 +17,6 @@ pub const BAD_LINE: i32 = -21;
 
 /// A flag that has no meaning is set.
 pub const FLAGS: i32 = -22;
+
+/// A line of the script before a history is bad; its number was said.
+pub const BAD_START: i32 = -23;

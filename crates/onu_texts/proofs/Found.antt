@@ -1,40 +1,30 @@
--- What a judgement says of a history is what its number and its line say.
-use Rattle.std.proofs.Common.{◌≡◌, ◌∙◌, ◌⊎◌, ℕ, ℤ, pos, Bool, true, false, ◌||◌, if◌then◌else◌, List, Option, Some, Vec, Global, refl, ap₂, sym, subst, inl, inr}
-use Rattle.onu_cell.specs.Numbers.{small}
+-- What is found of a history is what its number and its line say.
+use Rattle.std.proofs.Common.{◌≡◌, ◌∙◌, ◌⊎◌, ◌<◌, ℕ, ℤ, pos, Bool, true, false, ◌||◌, List, [], ◌∷◌, Ok, Vec, Global, length, refl, ap, sym, subst, inl, inr, arith, to_z, of_z, w32}
+use Rattle.omci_msg.specs.declared.request.Request.{Request}
+use Rattle.bench_history.specs.History.{history_of}
 use Rattle.bench_history.specs.declared.event.Event.{Event}
+use Rattle.bench_judge.specs.Deviations.{AreDeviations}
 use Rattle.bench_judge.specs.Evidence.{IsEvidence, passes}
+use Rattle.bench_judge.specs.Explained.{IsExplained}
 use Rattle.bench_judge.specs.Judged.{IsJudgement}
+use Rattle.bench_judge.specs.Terms.{ground_in}
 use Rattle.bench_judge.specs.declared.judgement.Counts.{Counts}
 use Rattle.bench_judge.specs.declared.judgement.Deviation.{Deviation}
 use Rattle.bench_judge.specs.declared.judgement.Evidence.{Evidence}
 use Rattle.bench_judge.specs.declared.judgement.Evidence.TheVariants.{Judged, NoFrame, Nothing}
 use Rattle.bench_judge.specs.declared.judgement.Explanation.{Explanation}
-use Rattle.bench_judge.specs.declared.judgement.Judgement.{Judgement}
 use Rattle.bench_judge.specs.declared.judgement.Judgement.TheVariants.{Explained, Deviates}
 use Rattle.bench_judge.specs.declared.judgement.Step.{Step}
 use Rattle.bench_judge.specs.declared.settings.JudgeSettings.{JudgeSettings}
-use Rattle.onu_texts.specs.Judging.{By, DeviatesAt, IsExplainedHistory, IsJudgeNumber, IsNoPass, IsPass, NamesLine, said_of}
-
--- what holds of the settings holds where they are given
-given_by : (given : Option JudgeSettings) (settings : JudgeSettings) (Holds : JudgeSettings → Type 0) → given ≡ Some settings → Holds settings → By given Holds
-given_by given settings Holds some is = subst (λ (o : Option JudgeSettings). By o Holds) (sym some) is
+use Rattle.onu_texts.specs.Judging.{DeviatesAt, IsExplainedHistory, IsFoundIn, Says, first_line, number_of, said_of, upon}
+use Rattle.onu_texts.specs.declared.judging.Found.{Found}
+use Rattle.onu_texts.specs.declared.judging.Found.TheVariants.{First, Listed}
 
 -- ---- explained
 
-abbrev is_explained : (settings : JudgeSettings) (history : List ℕ) (e : Explanation) → IsJudgement settings history (Explained e) → IsExplainedHistory history settings
-is_explained settings history e found = record { events = found.events; read = found.read; explained = found.found.explained }
-
--- the number of an explanation
-abbrev number_of : Bool → ℤ
-number_of passed = if passed then pos 1 else pos 2
-
-passed_by : (b : Bool) → number_of b ≡ pos 1 → b ≡ true
-passed_by true is = refl
-passed_by false is = absurd (cc is)
-
-unpassed_by : (b : Bool) → number_of b ≡ pos 2 → b ≡ false
-unpassed_by true is = absurd (cc is)
-unpassed_by false is = refl
+abbrev is_explained : (settings : JudgeSettings) (start : List Request) (history : List ℕ) (e : Explanation)
+    → IsJudgement settings start history (Explained e) → IsExplainedHistory start history settings
+is_explained settings start history e found = record { events = found.events; read = found.read; explained = found.found.explained }
 
 pass_if : (u : Bool) (counts : Counts) (steps : Vec Step Global) (finished : Bool) (v : Evidence)
     → passes u (record { counts = counts; steps = steps; finished = finished; evidence = v }) ≡ true → (v ≡ Judged) × (finished || u ≡ true)
@@ -50,79 +40,77 @@ no_pass_if u counts steps finished NoFrame is = inl refl
 no_pass_if u counts steps finished Nothing is = inr (inl refl)
 
 -- why an explanation is no pass
-why_of : (events : List Event) (v : Evidence) (over other : Bool) → other ≡ over → IsEvidence events v → (v ≡ NoFrame) ⊎ (v ≡ Nothing) ⊎ (over ≡ false)
-    → IsEvidence events NoFrame ⊎ IsEvidence events Nothing ⊎ (other ≡ false)
-why_of events v over other same evidence (inl is) = inl (subst (IsEvidence events) is evidence)
-why_of events v over other same evidence (inr (inl is)) = inr (inl (subst (IsEvidence events) is evidence))
-why_of events v over other same evidence (inr (inr is)) = inr (inr (same ∙ is))
+why_of : (settings : JudgeSettings) (start : List Request) (events : List Event) (u : Bool) (v : Evidence) (finished ended : Bool) → finished ≡ ended
+    → IsEvidence (ground_in (upon start settings)) events v → (v ≡ NoFrame) ⊎ (v ≡ Nothing) ⊎ (finished || u ≡ false)
+    → IsEvidence (ground_in (upon start settings)) events NoFrame ⊎ IsEvidence (ground_in (upon start settings)) events Nothing ⊎ (ended || u ≡ false)
+why_of settings start events u v finished ended same evidence (inl is) = inl (subst (IsEvidence (ground_in (upon start settings)) events) is evidence)
+why_of settings start events u v finished ended same evidence (inr (inl is)) =
+    inr (inl (subst (IsEvidence (ground_in (upon start settings)) events) is evidence))
+why_of settings start events u v finished ended same evidence (inr (inr is)) = inr (inr (ap (λ f. f || u) (sym same) ∙ is))
 
-not_0 : (b : Bool) → number_of b ≡ pos 0 → ⊥
-not_0 true is = cc is
-not_0 false is = cc is
+says_explained : (u passed : Bool) (settings : JudgeSettings) (start : List Request) (history : List ℕ) (e : Explanation) → passes u e ≡ passed
+    → IsJudgement settings start history (Explained e) → Says u settings start history (number_of passed) 0
+says_explained u true settings start history e is found =
+    let passed = pass_if u e.counts e.steps e.finished e.evidence is in
+    inl (
+      refl,
+      refl,
+      record {
+        so = is_explained settings start history e found;
+        evidence = subst (IsEvidence (ground_in (upon start settings)) found.events) passed.0 found.found.evidence;
+        finished = ap (λ f. f || u) (sym found.found.finished) ∙ passed.1;
+      },
+    )
+says_explained u false settings start history e is found =
+    let why = no_pass_if u e.counts e.steps e.finished e.evidence is in
+    inr (inl (
+      refl,
+      refl,
+      record {
+        so = is_explained settings start history e found;
+        why = why_of settings start found.events u e.evidence e.finished _ found.found.finished found.found.evidence why;
+      },
+    ))
 
-deviates : (settings : JudgeSettings) (history : List ℕ) (d : Deviation) → IsJudgement settings history (Deviates d) → DeviatesAt history d.line settings
-deviates settings history d found = record { events = found.events; read = found.read; place = found.found.place; names = found.found.line; first = found.found.first }
+-- ---- not explained
 
-pub passes_by : (given : Option JudgeSettings) (settings : JudgeSettings) (u unfinished : Bool) (history : List ℕ) (j : Judgement) → given ≡ Some settings
-    → u ≡ unfinished → IsJudgement settings history j → (said_of u j).0 ≡ pos 1 → By given (IsPass unfinished history)
-passes_by given settings u unfinished history (Explained e) some same found is =
-    let passed = pass_if u e.counts e.steps e.finished e.evidence (passed_by (passes u e) is) in
-    given_by given settings (IsPass unfinished history) some
-    (record {
-      so = is_explained settings history e found;
-      evidence = subst (IsEvidence found.events) passed.0 found.found.evidence;
-      finished = ap₂ (λ f a. f || a) (sym found.found.finished) (sym same) ∙ passed.1;
-    })
-passes_by given settings u unfinished history (Deviates d) some same found is = absurd (cc is)
+deviates : (settings : JudgeSettings) (start : List Request) (history : List ℕ) (d : Deviation) → IsJudgement settings start history (Deviates d)
+    → DeviatesAt start history d.line settings
+deviates settings start history d found =
+    record { events = found.events; read = found.read; place = found.found.place; names = found.found.line; first = found.found.first }
 
-pub no_pass_by : (given : Option JudgeSettings) (settings : JudgeSettings) (u unfinished : Bool) (history : List ℕ) (j : Judgement) → given ≡ Some settings
-    → u ≡ unfinished → IsJudgement settings history j → (said_of u j).0 ≡ pos 2 → By given (IsNoPass unfinished history)
-no_pass_by given settings u unfinished history (Explained e) some same found is =
-    let over = ap₂ (λ f a. f || a) (sym found.found.finished) (sym same) in
-    let why = no_pass_if u e.counts e.steps e.finished e.evidence (unpassed_by (passes u e) is) in
-    given_by given settings (IsNoPass unfinished history) some
-    (record { so = is_explained settings history e found; why = why_of found.events e.evidence (e.finished || u) _ over found.found.evidence why })
-no_pass_by given settings u unfinished history (Deviates d) some same found is = absurd (cc is)
+-- some deviations of unexplained events, of which at least one was to be listed
+listed : (settings : JudgeSettings) (start : List Request) (history : List ℕ) (events : List Event) (most : ℕ) (list : List Deviation) (more : Bool)
+    → history_of history ≡ Ok events → 0 < most → ¬ (IsExplained (upon start settings) events)
+    → AreDeviations (upon start settings) events list more → (more ≡ true → length list ≡ most)
+    → DeviatesAt start history (first_line list) settings
+listed settings start history events most [] true read some unexplained are cut =
+    let none = cut refl in
+    absurd (omega (arith, none, some))
+listed settings start history events most [] false read some unexplained are cut = absurd (unexplained are)
+listed settings start history events most (d ∷ rest) more read some unexplained are cut =
+    record { events = events; read = read; place = are.0.place; names = are.0.line; first = are.0.first }
 
-pub deviates_by : (given : Option JudgeSettings) (settings : JudgeSettings) (u : Bool) (history : List ℕ) (j : Judgement) → given ≡ Some settings
-    → IsJudgement settings history j → (said_of u j).0 ≡ pos 0 → By given (DeviatesAt history (said_of u j).1)
-deviates_by given settings u history (Explained e) some found is = absurd (not_0 (passes u e) is)
-deviates_by given settings u history (Deviates d) some found is = given_by given settings (DeviatesAt history d.line) some (deviates settings history d found)
+pub says_of : (u : Bool) (settings : JudgeSettings) (start : List Request) (history : List ℕ) (found : Found) → IsFoundIn settings start history found
+    → Says u settings start history (said_of u found).0 (said_of u found).1
+says_of u settings start history (First (Explained e)) is = says_explained u (passes u e) settings start history e refl is
+says_of u settings start history (First (Deviates d)) is = inr (inr (refl, deviates settings start history d is))
+says_of u settings start history (Listed d) (most, some, found) =
+    inr (inr (refl, listed settings start history found.events most d.list.items d.more found.read some found.found.unexplained found.found.deviations found.found.cut))
 
--- ---- the number and the line
+-- ---- as a number of 32 bits
 
-number_said : (passed : Bool) → IsJudgeNumber (number_of passed)
-number_said true = inl refl
-number_said false = inr (inl refl)
+pub says_kept : (u : Bool) (settings : JudgeSettings) (start : List Request) (history : List ℕ) (number : ℤ) (line : ℕ) → Says u settings start history number line
+    → Says u settings start history (to_z w32 (of_z w32 number)) line
+says_kept u settings start history number line (inl says) = inl (subst (λ n. to_z w32 (of_z w32 n) ≡ pos 1) (sym says.0) refl, says.1, says.2)
+says_kept u settings start history number line (inr (inl says)) = inr (inl (subst (λ n. to_z w32 (of_z w32 n) ≡ pos 2) (sym says.0) refl, says.1, says.2))
+says_kept u settings start history number line (inr (inr says)) = inr (inr (subst (λ n. to_z w32 (of_z w32 n) ≡ pos 0) (sym says.0) refl, says.1))
 
-pub number_is : (u : Bool) (j : Judgement) → IsJudgeNumber (said_of u j).0
-number_is u (Explained e) = number_said (passes u e)
-number_is u (Deviates d) = inr (inr (inl refl))
-
-names_none : (given : Option JudgeSettings) (history : List ℕ) (before : ℕ) (passed : Bool) → NamesLine given history (number_of passed) before 0
-names_none given history before true =
-    record { yes = λ is. refl; so_far = λ is. refl; found = λ is. absurd (cc is); none = λ is. absurd (cc is); flags = λ is. absurd (cc is) }
-names_none given history before false =
-    record { yes = λ is. refl; so_far = λ is. refl; found = λ is. absurd (cc is); none = λ is. absurd (cc is); flags = λ is. absurd (cc is) }
-
-pub names_found : (given : Option JudgeSettings) (u : Bool) (history : List ℕ) (before : ℕ) (j : Judgement) → NamesLine given history (said_of u j).0 before (said_of u j).1
-names_found given u history before (Explained e) = names_none given history before (passes u e)
-names_found given u history before (Deviates d) =
-    record { yes = λ is. absurd (cc is); so_far = λ is. absurd (cc is); found = λ is. absurd (cc is); none = λ is. absurd (cc is); flags = λ is. absurd (cc is) }
-
-line_said : (given : Option JudgeSettings) (settings : JudgeSettings) (u : Bool) (history : List ℕ) (j : Judgement) → given ≡ Some settings → IsJudgement settings history j
-    → (((said_of u j).1 ≡ 0) × By given (IsExplainedHistory history)) ⊎ By given (DeviatesAt history (said_of u j).1)
-line_said given settings u history (Explained e) some found =
-    inl (refl, given_by given settings (IsExplainedHistory history) some (is_explained settings history e found))
-line_said given settings u history (Deviates d) some found =
-    inr (given_by given settings (DeviatesAt history d.line) some (deviates settings history d found))
-
-pub names_small : (given : Option JudgeSettings) (settings : JudgeSettings) (u : Bool) (history : List ℕ) (before : ℕ) (j : Judgement) → given ≡ Some settings
-    → IsJudgement settings history j → NamesLine given history small before (said_of u j).1
-names_small given settings u history before j some found = record {
-  yes = λ is. absurd (cc is);
-  so_far = λ is. absurd (cc is);
-  found = λ is. line_said given settings u history j some found;
-  none = λ is. absurd (cc is);
-  flags = λ is. absurd (cc is);
-}
+-- what is said of a finding, where this is what was asked
+pub says_so : (u asked : Bool) (settings : JudgeSettings) (start : List Request) (history : List ℕ) (found : Found) (said : ℤ × ℕ)
+    → said ≡ said_of asked found → asked ≡ u → IsFoundIn settings start history found
+    → Says u settings start history (to_z w32 (of_z w32 said.0)) said.1
+says_so u asked settings start history found said is same are =
+    let all : said ≡ said_of u found = is ∙ ap (λ b. said_of b found) same in
+    says_kept u settings start history said.0 said.1
+    (subst (λ (p : ℤ × ℕ). Says u settings start history p.0 p.1) (sym all) (says_of u settings start history found are))

@@ -9,6 +9,6 @@ mod replaying;
 mod room;
 
 pub use explaining::explain_into;
-pub use judging::judge_into;
+pub use judging::{Asked, judge_all_into, judge_into};
 pub use replaying::replay_into;
 pub use room::put;

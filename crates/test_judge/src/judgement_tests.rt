@@ -65,6 +65,7 @@ fn write_alone<W: Write>(
         parts: &[],
         start: &[],
         repeats: false,
+        modelled: false,
     };
     write_judgement(alloc, found, &TOLD, &observed, writer)
 }

@@ -193,11 +193,12 @@ fn found(
 ) -> Result<(bool, usize, usize, usize), usize> {
     let settings = JudgeSettings {
         modelled: false,
+        repeats: false,
         unordered: false,
         strays: false,
         padded: false,
     };
-    match judge(alloc, text, &settings).expect(rt, "a history") {
+    match judge(alloc, &[], text, &settings).expect(rt, "a history") {
         Judgement::Explained(explained) => {
             let passes = explained.passes(false);
             let counts = explained.counts;

@@ -6,6 +6,7 @@ use bench_judge::{Answer, JudgeFault, JudgeSettings, Judgement, Wrong, judge};
 /// Everything is looked at.
 const SETTINGS: JudgeSettings = JudgeSettings {
     modelled: false,
+    repeats: false,
     unordered: false,
     strays: false,
     padded: false,
@@ -96,8 +97,8 @@ fn deviation(judgement: &Judgement<'_>) -> (usize, &'static str) {
 
 /// Judges a history, again where there was no memory.
 fn call_judge(memory: &Memory, history: &[u8], line: usize, kind: &'static str) -> Seen {
-    let judged = match judge(memory.first(), history, &SETTINGS) {
-        Err(JudgeFault::NoMemory) => judge(memory.again(), history, &SETTINGS),
+    let judged = match judge(memory.first(), &[], history, &SETTINGS) {
+        Err(JudgeFault::NoMemory) => judge(memory.again(), &[], history, &SETTINGS),
         judged => judged,
     };
     let Ok(judgement) = judged else {

@@ -1,5 +1,6 @@
 //! The lines below a deviation.
-use crate::carried::carried_out;
+use crate::carried::{carried_out, request_of};
+use crate::compared_part::compared_part;
 use crate::deciding::decided_in;
 use crate::frame_difference::{JudgedFrame, Telling, frame_difference};
 use crate::lines::HistoryLines;
@@ -9,6 +10,7 @@ use crate::seen_elsewhere::seen_elsewhere;
 use crate::source::source_of;
 use crate::unanswered::find_unanswered;
 use bench_judge::{Deviation, End, Wrong, WrongFrame, WrongOneOf, WrongReply};
+use bench_reply::{Compared, Expected};
 use omci_msg::read_reply;
 use script_lines::MOST_SPELLED;
 use std::alloc::{AllocError, Global};
@@ -80,9 +82,18 @@ fn put_reply(
     if let Some(unanswered) = find_unanswered(history, &seen, wrong.request_line, line) {
         return writeln!(text, "{unanswered}");
     }
+    let seen = compared_part(&seen, &wrong.model, compared_of(history, wrong));
     match reply_difference(&seen, &wrong.model) {
         Some(difference) => writeln!(text, "differs: {difference}"),
         None => Ok(()),
+    }
+}
+
+/// What is compared of a reply with the model's to its request.
+fn compared_of(history: &Lines<'_>, wrong: &WrongReply<'_>) -> Compared {
+    match request_of(&history.lines, wrong.request_line) {
+        Some(request) => Expected::of(history.modelled, &request, wrong.model).compared,
+        None => Compared::Everything,
     }
 }
 

@@ -40,6 +40,11 @@ impl CarriedOut {
     }
 }
 
+/// How many of requests that come before a history are accepted.
+pub fn accepted_before(alloc: Global, start: &[Request]) -> Result<usize, AllocError> {
+    Ok(CarriedOut::before(alloc, start)?.accepted.len())
+}
+
 /// The request of the message that digits spell, if it has no fault.
 fn request_in(digits: &[u8]) -> Option<Request> {
     if digits.len() > 2 * MESSAGE {

@@ -7,6 +7,7 @@
 mod beside;
 mod bytes_difference;
 mod carried;
+mod compared_part;
 mod deciding;
 mod frame_difference;
 mod lines;
@@ -20,5 +21,6 @@ mod tag_difference;
 mod unanswered;
 
 pub use beside::write_beside;
+pub use carried::accepted_before;
 pub use observed::{Lines, Observed};
 pub use shown_frame::ADDRESSES;

@@ -12,6 +12,8 @@ pub struct Observed<'t> {
     pub start: &'t [Request],
     /// Whether a message that repeats the one before it isn't carried out.
     pub repeats: bool,
+    /// Whether replies are compared only in what the model determines.
+    pub modelled: bool,
 }
 
 /// The same, by its lines.
@@ -19,6 +21,7 @@ pub struct Observed<'t> {
 pub struct Lines<'t> {
     pub(crate) start: &'t [Request],
     pub(crate) repeats: bool,
+    pub(crate) modelled: bool,
     pub(crate) lines: HistoryLines<'t>,
 }
 
@@ -28,6 +31,7 @@ impl<'t> Lines<'t> {
         Ok(Lines {
             start: observed.start,
             repeats: observed.repeats,
+            modelled: observed.modelled,
             lines: HistoryLines::of(alloc, observed.parts)?,
         })
     }

@@ -170,7 +170,7 @@ fn attribute_difference<'j>(seen: &'j Reply, model: &'j Reply) -> Option<ReplyDi
 }
 
 /// How many bytes a Get returns of the attribute at a place of a class, or None where the class hasn't so many.
-fn returned_width(class: u16, place: usize) -> Option<usize> {
+pub(crate) fn returned_width(class: u16, place: usize) -> Option<usize> {
     let attribute = layout_of(class).get(place)?;
     if attribute.access.is_table() {
         return Some(TABLE_SIZE);

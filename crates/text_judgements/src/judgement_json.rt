@@ -3,7 +3,9 @@ use crate::counts::CountMembers;
 use crate::digits::DigitWords;
 use crate::frame_json::{LeftValue, stray_object, write_frame, write_one_of};
 use crate::told::Told;
-use bench_judge::{Deviation, Evidence, Explanation, Judgement, Step, Wrong, WrongReply};
+use bench_judge::{
+    Deviation, Deviations, Evidence, Explanation, Judgement, Step, Wrong, WrongReply,
+};
 use json::Writer;
 use std::alloc::{AllocError, Global};
 use std::io::Write;
@@ -46,6 +48,32 @@ pub fn write_judgement_json<W: Write>(
             write_deviation(alloc, deviation, around, writer)
         }
     }
+}
+
+/// Writes every line that no right unit explains as one object of JSON: `deviations`, an object for each as [`write_judgement_json`] writes the
+/// first, and `more`, whether more lines follow that aren't explained.
+pub fn write_deviations_json<W: Write>(
+    alloc: Global,
+    deviations: &Deviations<'_>,
+    told: &Told,
+    writer: &mut W,
+) -> Result<(), TextFault> {
+    let front = front_of(alloc, told)?;
+    let front = format!(in alloc; "{front}\"explained\":false,\"deviations\":[\n")?;
+    write_whole(writer, front.as_bytes())?;
+    let mut left = deviations.list.len();
+    for deviation in &deviations.list {
+        left = left.saturating_sub(1);
+        let around = Around {
+            front: "{",
+            behind: if left > 0 { "}," } else { "}" },
+        };
+        write_deviation(alloc, deviation, around, writer)?;
+    }
+    let more = deviations.more;
+    let behind = format!(in alloc; "],\"more\":{more}}}\n")?;
+    write_whole(writer, behind.as_bytes())?;
+    Ok(())
 }
 
 /// The first members of each object: the format, and how many requests were accepted before the history.

@@ -5,8 +5,8 @@ use crate::digits::DigitWords;
 use crate::told::Told;
 use bench_history::{Digits, Extent};
 use bench_judge::{
-    Candidate, Deviation, Evidence, Explanation, Judgement, Run, Step, Wrong, WrongFrame,
-    WrongOneOf, WrongReply,
+    Candidate, Deviation, Deviations, Evidence, Explanation, Judgement, Run, Step, Wrong,
+    WrongFrame, WrongOneOf, WrongReply,
 };
 use std::alloc::{AllocError, Global};
 use std::io::Write;
@@ -40,6 +40,27 @@ pub fn write_judgement<W: Write>(
             write_deviation(alloc, deviation, &history, writer)
         }
     }
+}
+
+/// Writes every line that no right unit explains, each as [`write_judgement`] writes the first, and behind them how many there are, and
+/// `and more` where more lines follow that aren't explained.
+pub fn write_deviations<W: Write>(
+    alloc: Global,
+    deviations: &Deviations<'_>,
+    told: &Told,
+    observed: &Observed<'_>,
+    writer: &mut W,
+) -> Result<(), TextFault> {
+    write_start(alloc, told, writer)?;
+    let history = Lines::of(alloc, observed)?;
+    for deviation in &deviations.list {
+        write_deviation(alloc, deviation, &history, writer)?;
+    }
+    let count = deviations.list.len();
+    let more = if deviations.more { " and more" } else { "" };
+    let text = format!(in alloc; "deviations {count}{more}\n")?;
+    write_whole(writer, text.as_bytes())?;
+    Ok(())
 }
 
 /// Writes how many requests were accepted before the history.

@@ -1,9 +1,9 @@
 //! The words of `judge`.
 ghost use Rattle.std.specs.Prelude.{◌≡◌, false};
 ghost use Rattle.clap.specs.Words.{rule_of};
-ghost use Rattle.command_line.specs.Grammar.{IsCommand, allow_strays, allow_unfinished, history, judge, modelled, padded, unordered};
+ghost use Rattle.command_line.specs.Grammar.{IsCommand, all, allow_strays, allow_unfinished, by_settings, history, judge, modelled, most, padded, repeats, start, unordered};
 
-use crate::grammar::common::{json, with_arg};
+use crate::grammar::common::{json, numbered, optional, with_arg};
 use clap::builder::ValueParser;
 use clap::{Arg, ArgAction, Command};
 use std::alloc::{AllocError, Global};
@@ -17,7 +17,7 @@ fn modelled<'a>(alloc: Global) -> Arg<'a>
         .long("modelled")
         .action(ArgAction::SetTrue)
         .help(
-            "Compare contents of replies only for a MIB reset and on classes 130, 171, 266 and 268; has no value [example: --modelled]",
+            "Compare contents of replies only for a MIB reset and on classes 130, 171, 266 and 268, without read-only values and what the table holds; has no value [example: --modelled]",
         )
 }
 
@@ -73,6 +73,59 @@ fn allow_unfinished<'a>(alloc: Global) -> Arg<'a>
         )
 }
 
+/// Whether a message that is sent twice is carried out once.
+fn repeats<'a>(alloc: Global) -> Arg<'a>
+    ensures rule { rule_of result ≡ repeats }
+    ensures local { result.global ≡ false }
+{
+    Arg::new(alloc, "repeats")
+        .long("repeats")
+        .action(ArgAction::SetTrue)
+        .help(
+            "Take a message with the bytes of the one before it as not carried out, and answered from memory or not at all; a unit that passes over it, or carries it out where no reply shows that, isn't found then; has no value [example: --repeats]",
+        )
+}
+
+/// Whether every deviation is listed.
+fn all<'a>(alloc: Global) -> Arg<'a>
+    ensures rule { rule_of result ≡ all }
+    ensures local { result.global ≡ false }
+{
+    Arg::new(alloc, "all")
+        .long("all")
+        .action(ArgAction::SetTrue)
+        .help(
+            "List every deviation; behind each the judge goes on as if the unit had been right there; has no value [example: --all]",
+        )
+}
+
+/// How many deviations are listed at most.
+fn most<'a>(alloc: Global) -> Arg<'a>
+    ensures rule { rule_of result ≡ most }
+    ensures local { result.global ≡ false }
+{
+    numbered(
+        alloc,
+        "most",
+        "N",
+        "How many deviations --all lists at most, from 1; 100 without it [example: 20]",
+    )
+}
+
+/// The script that is carried out before the history.
+fn start<'a>(alloc: Global) -> Arg<'a>
+    ensures rule { rule_of result ≡ start }
+    ensures local { result.global ≡ false }
+{
+    optional(
+        alloc,
+        "start",
+        "FILE",
+        "Script, or words for one, whose messages the unit had carried out before the first line, a file; its frames are passed over [example: up.script]",
+        ValueParser::NonEmptyString,
+    )
+}
+
 /// The file with a history.
 fn history<'a>(alloc: Global) -> Arg<'a>
     ensures rule { rule_of result ≡ history }
@@ -85,8 +138,9 @@ fn history<'a>(alloc: Global) -> Arg<'a>
         .help("History, a file; standard input without it [example: bench.history]")
 }
 
-pub(super) fn judge<'a>(alloc: Global) -> Result<Command<'a>, AllocError>
-    ensures { IsCommand result judge }
+/// The command with what says how a history is judged.
+fn by_settings<'a>(alloc: Global) -> Result<Command<'a>, AllocError>
+    ensures { IsCommand result by_settings }
 {
     let alone = Command::new(alloc, "judge")
         .about("Say whether a right unit may have done what a history says")
@@ -97,7 +151,16 @@ pub(super) fn judge<'a>(alloc: Global) -> Result<Command<'a>, AllocError>
     let of_order = with_arg(of_model, unordered(alloc));
     let of_strays = with_arg(of_order, allow_strays(alloc));
     let of_padding = with_arg(of_strays, padded(alloc));
-    let of_end = with_arg(of_padding, allow_unfinished(alloc));
-    let shown = with_arg(of_end, json(alloc));
+    with_arg(of_padding, allow_unfinished(alloc))
+}
+
+pub(super) fn judge<'a>(alloc: Global) -> Result<Command<'a>, AllocError>
+    ensures { IsCommand result judge }
+{
+    let of_repeats = with_arg(by_settings(alloc), repeats(alloc));
+    let of_start = with_arg(of_repeats, start(alloc));
+    let of_all = with_arg(of_start, all(alloc));
+    let of_most = with_arg(of_all, most(alloc));
+    let shown = with_arg(of_most, json(alloc));
     with_arg(shown, history(alloc))
 }

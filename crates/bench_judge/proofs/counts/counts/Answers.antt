@@ -6,7 +6,7 @@ use Rattle.bench_judge.proofs.Counted.{known_same}
 use Rattle.bench_judge.proofs.counts.counts.Goals as goal
 
 pub returns : goal.returns
-returns c =
+returns c = λ grounds requests.
     let events = c.args.events.now in
     let inv = c.loop-event.invariant in
     let all : take c.loop-event.event-index events ≡ events = take_all c.loop-event.event-index events c.loop-event-test.false in
@@ -14,7 +14,7 @@ returns c =
     let opened : c.loop-event.counts.«open» ≡ frames_in events = inv.frames ∙ ap (count_by is_frame) all in
     record {
       messages = inv.messages ∙ ap (count_by is_message) all;
-      accepted = inv.accepted ∙ c.requires.accepted;
+      accepted = inv.accepted ∙ requests;
       replies = inv.replies ∙ ap (count_by is_reply) all;
       forwarded = inv.forwarded ∙ ap (count_by (is_left (is_known_in c.args.frames.now))) all ∙ ap (λ (k : ℕ → Bool). count_by (is_left k) events) known;
       dropped = inv.dropped ∙ ap (count_by (is_dropped (is_known_in c.args.frames.now))) all ∙ ap (λ (k : ℕ → Bool). count_by (is_dropped k) events) known;

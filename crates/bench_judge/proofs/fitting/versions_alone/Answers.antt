@@ -2,13 +2,13 @@ use Rattle.bench_judge.proofs.Alone.{alone_none, alone_some, alone_within}
 use Rattle.bench_judge.proofs.fitting.versions_alone.Goals as goal
 
 pub sweep-requires : goal.sweep-requires
-sweep-requires c =
+sweep-requires g c =
     let case = c.args.case.now in
     alone_within case.events.now case.requests.now case.frames.now c.in_ok-left.left.items c.deref-2.result.now c.in_ok-found.found.items c.deref.result.now
     c.in_ok-found.ensures.count c.deref.ensures.value c.deref-2.ensures.value c.in_ok-left.ensures.each c.in_ok-left.ensures.count c.requires
 
 pub returns-in-Some : goal.returns-in-Some
-returns-in-Some c =
+returns-in-Some g c =
     let case = c.args.case.now in
     alone_some case.events.now case.requests.now case.frames.now c.in_ok-left.left.items c.deref-2.result.now c.in_ok-found.found.items c.deref.result.now
     c.in_ok-found.ensures.count c.deref.ensures.value c.deref-2.ensures.value c.in_ok-left.ensures.each c.in_ok-left.ensures.count
@@ -17,7 +17,7 @@ returns-in-Some c =
     c.in_ok-all_versions-in-Some.ensures.each c.in_ok-all_versions-in-Some.ensures.count
 
 pub returns : goal.returns
-returns c =
+returns g c =
     let case = c.args.case.now in
     alone_none case.events.now case.requests.now case.frames.now c.in_ok-left.left.items c.deref-2.result.now c.in_ok-found.found.items c.deref.result.now
     c.in_ok-found.ensures.count c.deref.ensures.value c.deref-2.ensures.value c.in_ok-left.ensures.each c.in_ok-left.ensures.count

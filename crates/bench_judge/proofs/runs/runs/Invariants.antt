@@ -6,7 +6,7 @@ use Rattle.bench_judge.proofs.runs.runs.Given as goal
 
 abbrev pub invariant-loop-version : goal.invariant-loop-version
 invariant-loop-version l = record {
-  live : l.live ≡ after (take l.version l.requests);
+  live : l.live ≡ after (take (l.base + l.version) l.requests);
   from_on : l.from ≤ l.version;
-  runs : AreRunsUpTo (λ v. meaning (after (take v l.requests)) l.port l.sent) l.sent l.from (l.version + 1) l.runs.items;
+  runs : AreRunsUpTo (λ v. meaning (after (take (l.base + v) l.requests)) l.port l.sent) l.sent l.from (l.version + 1) l.runs.items;
 }

@@ -5,7 +5,7 @@ use Rattle.bench_judge.proofs.Settling.{after_more, all_done, next_version}
 use Rattle.bench_judge.proofs.sweep.sweep.Goals as goal
 
 pub returns-then-not-settle_all-2 : goal.returns-then-not-settle_all-2
-returns-then-not-settle_all-2 c =
+returns-then-not-settle_all-2 g c =
     let n = c.loop-before.before in
     let inv = c.loop-before.invariant in
     let q = c.request-item.result in
@@ -16,7 +16,7 @@ returns-then-not-settle_all-2 c =
     c.if-not-settle_all-2.ensures.so_far live next
 
 pub loop-before-preserved : goal.loop-before-preserved
-loop-before-preserved c =
+loop-before-preserved g c =
     let n = c.loop-before.before in
     let inv = c.loop-before.invariant in
     let q = c.request-item.result in
@@ -31,7 +31,7 @@ loop-before-preserved c =
     }
 
 pub returns : goal.returns
-returns c =
+returns g c =
     let inv = c.loop-before.invariant in
     let all : c.loop-before.before ≡ length c.args.case.now.requests.now = omega arith in
     let so_far = subst (λ (v : ℕ). IsSoFar c.args.case.now.padded c.args.case.now.unordered c.args.case.now.events.now c.args.case.now.requests.now c.args.case.now.frames.now v (length c.loop-before.sweep.waiting.items) c.loop-before.sweep) all inv.so_far in

@@ -1,13 +1,10 @@
-use Rattle.std.proofs.Common.{rules, codes}
-use Rattle.clap.specs.Words.{new_app}
 use Rattle.command_line.proofs.grammar.judge.judge.Goals as goal
 
 pub returns : goal.returns
 returns c =
-    let of_model = c.with_arg-of_model.ensures (new_app (codes "judge")) _ (search rules, search rules) c.modelled.ensures.rule c.modelled.ensures.local in
-    let of_order = c.with_arg-of_order.ensures _ _ of_model c.unordered.ensures.rule c.unordered.ensures.local in
-    let of_strays = c.with_arg-of_strays.ensures _ _ of_order c.allow_strays.ensures.rule c.allow_strays.ensures.local in
-    let of_padding = c.with_arg-of_padding.ensures _ _ of_strays c.padded.ensures.rule c.padded.ensures.local in
-    let of_end = c.with_arg-of_end.ensures _ _ of_padding c.allow_unfinished.ensures.rule c.allow_unfinished.ensures.local in
-    let shown = c.with_arg-shown.ensures _ _ of_end c.json.ensures.rule c.json.ensures.local in
+    let of_repeats = c.with_arg-of_repeats.ensures _ _ c.by_settings.ensures c.repeats.ensures.rule c.repeats.ensures.local in
+    let of_start = c.with_arg-of_start.ensures _ _ of_repeats c.start.ensures.rule c.start.ensures.local in
+    let of_all = c.with_arg-of_all.ensures _ _ of_start c.all.ensures.rule c.all.ensures.local in
+    let of_most = c.with_arg-of_most.ensures _ _ of_all c.most.ensures.rule c.most.ensures.local in
+    let shown = c.with_arg-shown.ensures _ _ of_most c.json.ensures.rule c.json.ensures.local in
     c.with_arg.ensures _ _ shown c.history.ensures.rule c.history.ensures.local
