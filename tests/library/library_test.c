@@ -211,6 +211,11 @@ static void null_pointers_are_answered(void) {
     CHECK(onu_judge(room, 9, 0, NULL, 64, &written, &line) == ONU_NULL);
     CHECK(onu_judge(room, 9, 0, room + 20, 40, NULL, &line) == ONU_NULL);
     CHECK(onu_judge(room, 9, 0, room + 20, 40, &written, NULL) == ONU_NULL);
+    CHECK(onu_judge_all(NULL, 9, room, 9, 0, 1, room + 20, 40, &written, &line) == ONU_NULL);
+    CHECK(onu_judge_all(room, 9, NULL, 9, 0, 1, room + 20, 40, &written, &line) == ONU_NULL);
+    CHECK(onu_judge_all(room, 9, room, 9, 0, 1, NULL, 40, &written, &line) == ONU_NULL);
+    CHECK(onu_judge_all(room, 9, room, 9, 0, 1, room + 20, 40, NULL, &line) == ONU_NULL);
+    CHECK(onu_judge_all(room, 9, room, 9, 0, 1, room + 20, 40, &written, NULL) == ONU_NULL);
     for (int i = 0; i < 2; i++) {
         CHECK(makes[i](NULL, 9, room, 64, &written) == ONU_NULL);
         CHECK(makes[i](room, 9, NULL, 64, &written) == ONU_NULL);
@@ -241,6 +246,8 @@ static void no_bytes_may_be_null(void) {
     CHECK(onu_explain(&cell, 257, NULL, 0, NULL, 0, &written) == ONU_SMALL && written > 0);
     CHECK(onu_replay(NULL, 0, NULL, 0, &written, &line) == 0 && written == 0 && line == 0);
     CHECK(onu_judge(NULL, 0, 0, room, sizeof room, &written, &line) == 2 && line == 0);
+    written = line = 7;
+    CHECK(onu_judge_all(NULL, 0, NULL, 0, 0, 1, NULL, 0, &written, &line) == ONU_SMALL && written > 7 && line == 0);
     for (int i = 0; i < 2; i++) {
         written = 7;
         CHECK(makes[i](NULL, 0, NULL, 0, &written) == 0 && written == 0);
@@ -429,7 +436,7 @@ static int32_t judged(const char *history, uint32_t flags, uint64_t *line) {
 /* Whether a history deviates at a line, and is explained with a flag. */
 static bool is_for(uint32_t flag, const char *history, uint64_t deviation) {
     uint64_t line = 7;
-    if (judged(history, ~flag & 31, &line) != 0 || line != deviation || judged(history, 0, &line) != 0 || line != deviation)
+    if (judged(history, ~flag & 63, &line) != 0 || line != deviation || judged(history, 0, &line) != 0 || line != deviation)
         return false;
     return judged(history, flag, &line) == 1 && line == 0;
 }
@@ -457,8 +464,8 @@ static void a_history_is_judged(void) {
     /* Each frame by itself, it is right. */
     CHECK(is_for(ONU_UNORDERED, history, 13));
     needed = line = 7;
-    CHECK(onu_judge((uint8_t *)history, strlen(history), 32, room, sizeof room, &needed, &line) == ONU_FLAGS && needed == 7 && line == 7);
-    CHECK(judged(history, 33, &line) == ONU_FLAGS && judged(history, UINT32_MAX, &line) == ONU_FLAGS && line == 7);
+    CHECK(onu_judge((uint8_t *)history, strlen(history), 64, room, sizeof room, &needed, &line) == ONU_FLAGS && needed == 7 && line == 7);
+    CHECK(judged(history, 65, &line) == ONU_FLAGS && judged(history, UINT32_MAX, &line) == ONU_FLAGS && line == 7);
     /* A frame leaves again. */
     put_history(history, "g 0 1024 " U "\ns 1024 " U "\ne\n");
     CHECK(is_for(ONU_ALLOW_STRAYS, history, 13));
@@ -467,20 +474,84 @@ static void a_history_is_judged(void) {
     CHECK(is_for(ONU_PADDED, history, 12));
     /* No line ends it. */
     put_history(history, "g 0 1024 " U "\n");
-    CHECK(judged(history, 0, &line) == 2 && line == 0 && judged(history, ~ONU_ALLOW_UNFINISHED & 31, &line) == 2);
+    CHECK(judged(history, 0, &line) == 2 && line == 0 && judged(history, ~ONU_ALLOW_UNFINISHED & 63, &line) == 2);
     CHECK(judged(history, ONU_ALLOW_UNFINISHED, &line) == 1 && line == 0);
     /* Frames were sent, and nothing is said of them. */
     put_history(history, "e\n");
-    CHECK(judged(history, 0, &line) == 2 && judged(history, 31, &line) == 2 && line == 0);
+    CHECK(judged(history, 0, &line) == 2 && judged(history, 63, &line) == 2 && line == 0);
     /* A class that the model has not: its reply is compared but where asked for modelled classes alone. */
     history[0] = 0;
     put_line(history, "o", "0001440a002d0001");
     put_line(history, "r", "0001240a002d0001");
     strcat(history, "e\n");
     CHECK(is_for(ONU_MODELLED, history, 2));
+    /* A message and its reply stand twice. */
+    history[0] = 0;
+    for (int i = 0; i < 2; i++) {
+        put_line(history, "o", set_up[0]);
+        put_line(history, "r", "0001240a010c0401");
+    }
+    strcat(history, "e\n");
+    CHECK(is_for(ONU_REPEATS, history, 4));
     /* A frame that nobody sent. */
     strcpy(history, "# nothing\ng 0 1 00\n");
     CHECK(onu_judge((uint8_t *)history, strlen(history), 0, room, sizeof room, &written, &line) == ONU_BAD_LINE && line == 2 && written == 0);
+}
+
+/* How a history is judged behind a script, with its line and its text. */
+static int32_t judged_behind(const char *start, const char *history, uint32_t flags, uint64_t most, const char *text, uint64_t *line) {
+    static uint8_t room[4096];
+    size_t written = 0;
+    int32_t number = onu_judge_all((const uint8_t *)start, strlen(start), (const uint8_t *)history, strlen(history), flags, most, room,
+                                   sizeof room, &written, line);
+    CHECK(says(room, written, text));
+    return number;
+}
+
+/* The counts of a history in which one frame leaves. */
+#define ONE_LEFT                                                                                                                         \
+    "\"finished\":true,\"evidence\":true,\"messages\":0,\"accepted\":0,\"replies\":0,\"frames\":{\"forwarded\":1,\"dropped\":0,"               \
+    "\"open\":0,\"strays\":0,\"doubtful\":0,\"lost\":0,\"cut\":0},\"versions\":[]}"
+
+static void a_history_is_judged_behind_a_script(void) {
+    static const char left[] = "w\nf 257 " U "\ng 0 1024 " U "\ne\n";
+    static char script[4096];
+    static uint8_t room[4096];
+    size_t written = 7;
+    uint64_t line = 7;
+    script[0] = 0;
+    for (int i = 0; i < 4; i++)
+        put_line(script, "o", set_up[i]);
+    /* The script sets the port up, and its frames are passed over. */
+    strcat(script, "f 257 " U "\n");
+    CHECK(judged_behind(script, left, 0, 9, "{\"format\":2,\"start\":4,\"explained\":true," ONE_LEFT, &line) == 1 && line == 0);
+    CHECK(onu_judge((const uint8_t *)left, strlen(left), 0, room, sizeof room, &written, &line) == 0 && line == 3);
+    /* Without a byte there is no script. */
+    CHECK(judged_behind("", "s 7 " U "\n", ONU_ALLOW_UNFINISHED, 0,
+                        "{\"format\":2,\"explained\":false,\"line\":1,\"stray\":{\"gem\":7,\"frame\":\"" U "\"}}", &line) == 0 && line == 1);
+    /* Two deviations, of which one or both are listed. */
+    CHECK(judged_behind(script, "s 7 00\ns 8 00\n", 0, 1,
+                        "{\"format\":2,\"start\":4,\"explained\":false,\"deviations\":["
+                        "{\"line\":1,\"stray\":{\"gem\":7,\"frame\":\"00\"}}],\"more\":true}", &line) == 0 && line == 1);
+    CHECK(judged_behind(script, "\ns 7 00\ns 8 00\n", 0, UINT64_MAX,
+                        "{\"format\":2,\"start\":4,\"explained\":false,\"deviations\":["
+                        "{\"line\":2,\"stray\":{\"gem\":7,\"frame\":\"00\"}},"
+                        "{\"line\":3,\"stray\":{\"gem\":8,\"frame\":\"00\"}}],\"more\":false}", &line) == 0 && line == 2);
+    /* No line ends it. */
+    CHECK(judged_behind(script, "", 0, 9,
+                        "{\"format\":2,\"start\":4,\"explained\":false,\"finished\":false,\"evidence\":false,\"messages\":0,\"accepted\":0,"
+                        "\"replies\":0,\"frames\":{\"forwarded\":0,\"dropped\":0,\"open\":0,\"strays\":0,\"doubtful\":0,"
+                        "\"lost\":0,\"cut\":0},\"versions\":[]}", &line) == 2 && line == 0);
+    /* A bad line of the script is named before one of the history; and flags without a meaning before both. */
+    strcat(script, "r 00\n");
+    memset(room, 0xee, sizeof room);
+    CHECK(judged_behind(script, "x\n", 0, 1, "", &line) == ONU_BAD_START && line == 6);
+    CHECK(judged_behind("# remark\n", "\nx\n", 0, 1, "", &line) == ONU_BAD_LINE && line == 2);
+    line = 7;
+    CHECK(onu_judge_all((uint8_t *)script, strlen(script), bytes, 1, 64, 1, room, sizeof room, &written, &line) == ONU_FLAGS && line == 7);
+    CHECK(room[0] == 0xee);
+    CHECK(onu_judge_all(NULL, 0, (const uint8_t *)left, strlen(left), 0, 1, room, 4, &written, &line) == ONU_SMALL && written > 4 && line == 3);
+    CHECK(room[0] == 0xee);
 }
 
 /* A text that a call makes: in a room of just its size, and in one that is a byte too small. */
@@ -653,7 +724,7 @@ static void memory_for_texts_is_refused(void) {
     static uint8_t room[4096];
     put_script(script, answers);
     put_history(history, "g 0 1024 " AD "8100006408004500\ng 1 1024 " U "\n");
-    for (int judges = 0; judges < 2; judges++) {
+    for (int which = 0; which < 3; which++) {
         unsigned long number = 0;
         int32_t answer;
         do {
@@ -661,8 +732,13 @@ static void memory_for_texts_is_refused(void) {
             uint64_t line = 7;
             memset(room, 0xee, sizeof room);
             refuse(++number);
-            answer = judges ? onu_judge((uint8_t *)history, strlen(history), 0, room, sizeof room, &written, &line)
-                            : onu_replay((uint8_t *)script, strlen(script), room, sizeof room, &written, &line);
+            if (which == 0)
+                answer = onu_replay((uint8_t *)script, strlen(script), room, sizeof room, &written, &line);
+            else if (which == 1)
+                answer = onu_judge((uint8_t *)history, strlen(history), 0, room, sizeof room, &written, &line);
+            else
+                answer = onu_judge_all((uint8_t *)script, strlen(script), (uint8_t *)history, strlen(history), 0, 2, room, sizeof room,
+                                       &written, &line);
             refuse(0);
             CHECK(answer == 0 || (answer == ONU_NO_MEMORY && written == 0 && line == 0 && room[0] == 0xee));
             CHECK(blocks == 0);
@@ -707,6 +783,7 @@ int main(void) {
     a_frame_is_explained();
     a_script_is_answered();
     a_history_is_judged();
+    a_history_is_judged_behind_a_script();
     words_become_a_script();
     a_script_is_decoded();
     what_a_trace_leaves_is_shown();

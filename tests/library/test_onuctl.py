@@ -24,6 +24,7 @@ import onuctl  # noqa: E402
 from dialogues import calls_of  # noqa: E402
 from onuctl import (  # noqa: E402
     BadLine,
+    BadStart,
     Dropped,
     Forwarded,
     MessageFault,
@@ -699,6 +700,40 @@ class TextTest(unittest.TestCase):
         found = judge(self.history("e"))
         self.assertEqual((found.explained, found.line, str(found)), (False, None, "explained so far: nothing was judged"))
         self.assertEqual(str(judge("# remark\n", allow_unfinished=True)), "explained so far: no end line, nothing was judged")
+
+    def test_messages_that_are_repeated(self) -> None:
+        history = "".join(2 * ["o %s\nr %s\n" % (digits(SET_UP[0]), digits(REPLIES[0]))]) + "e\n"
+        self.assertEqual(judge(history).line, 4)
+        self.assertTrue(judge(history, repeats=True).explained)
+
+    def test_a_history_behind_a_script(self) -> None:
+        start = "".join("o %s\n" % digits(request) for request in SET_UP) + "f 257 00\n"
+        history = "w\nf 257 %s\ng 0 1024 %s\ne\n" % (UNTAGGED, UNTAGGED)
+        self.assertEqual(judge(history).line, 3)
+        for given in (start, start.encode(), bytearray(start.encode())):
+            found = judge(history, start=given)
+            self.assertEqual((found.explained, found.details["start"], found.deviations), (True, len(SET_UP), []))
+        self.assertNotIn("start", judge(history, start="").details)
+        with self.assertRaisesRegex(BadStart, "^start line 2 is bad$") as raised:
+            judge("x", start="# remark\nr 00\n")
+        self.assertEqual(raised.exception.line, 2)
+        with self.assertRaisesRegex(TypeError, "^start must be str, bytes, bytearray or memoryview, not int$"):
+            judge(history, start=7)  # type: ignore[arg-type]
+
+    def test_every_deviation(self) -> None:
+        history = self.history("g 0 1024 " + ADDRESSES + "8100006408004500", "g 1 1024 " + UNTAGGED, "s any 00", "e")
+        for most, lines, more in ((1, [13], True), (2, [13, 14], False), (2**70, [13, 14], False)):
+            found = judge(history, most=most)
+            self.assertEqual((found.explained, found.line, found.details["more"]), (False, 13, more))
+            self.assertEqual([each["line"] for each in found.deviations], lines)
+        self.assertEqual([each["line"] for each in judge(history).deviations], [13])
+        self.assertEqual(judge(history, most=9).deviations[1]["stray"], {"gem": "any", "frame": "00"})
+        self.assertTrue(judge(history, most=9, unordered=True, allow_strays=True).explained)
+        for wrong in (0, -1):
+            with self.assertRaisesRegex(ValueError, "^at least one deviation is listed, not %d$" % wrong):
+                judge(history, most=wrong)
+        with self.assertRaisesRegex(TypeError, "^most must be an int, not str$"):
+            judge(history, most="1")  # type: ignore[arg-type]
 
     def test_a_history_with_a_bad_line(self) -> None:
         with self.assertRaises(BadLine) as raised:

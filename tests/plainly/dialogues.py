@@ -9,8 +9,9 @@ A file of dialogues has the lines of scripts, each before its answer, and what e
   -   m N   d N      the other answers, as they stand
   ~TEXT              a line of the script as it stands, but that \\r is a CR, \\t a tab and \\040 a blank
   ! STATUS TEXT      the status, and what is said on standard error, where it isn't 0 and nothing; without TEXT nothing is said
-  !! TEXT            a further line of that
+  !! TEXT            a further line of that, and !! alone an empty one
   > LINE             a line of a history, as above, but that g N GEM DIGITS is frame N as it left; w and w N stand as they are
+  @ LINE             a line of the script that was carried out before the history: the word @ behind judge stands for a file with these lines
   $ WORDS            the program is asked with these words, and with the messages so far as its trace; judge with the history so far
   < LINE             a line that is decoded, as above; those that follow one another are decoded together
   | TEXT             a line that is written then, with the same escapes
@@ -75,11 +76,12 @@ def event(line):
 
 
 class Call:
-    """A call of the program: the dialogue that asks for it, its words, the text that it is given, and what must come of it. Lines that it must
-    write and say stand with the numbers of the lines that ask for them; `at` is the line by which the call begins."""
+    """A call of the program: the dialogue that asks for it, its words, the text that it is given, the script before a history, and what must
+    come of it. Lines that it must write and say stand with the numbers of the lines that ask for them; `at` is the line by which the call
+    begins."""
 
-    def __init__(self, file, name, at, words, given):
-        self.file, self.name, self.at, self.words, self.given = file, name, at, words, given
+    def __init__(self, file, name, at, words, given, start=""):
+        self.file, self.name, self.at, self.words, self.given, self.start = file, name, at, words, given, start
         self.wanted, self.errors, self.status, self.status_at = [], [], 0, at
 
     def ends_well(self):
@@ -95,7 +97,7 @@ class Reader:
     def begin(self, number, name):
         self.end()
         self.name, self.at, self.looks = name, number, 0
-        self.script, self.history, self.answers = "", "", []
+        self.script, self.history, self.start, self.answers = "", "", "", []
         self.look, self.decoded, self.shown = None, "", []
         self.forget_end()
         for at, line in self.opening:
@@ -105,7 +107,7 @@ class Reader:
         self.errors, self.status, self.status_at = [], 0, self.at
 
     def call(self, at, words, given, wanted):
-        call = Call(self.file, self.name, at, words, given)
+        call = Call(self.file, self.name, at, words, given, self.start)
         call.wanted, call.errors, call.status, call.status_at = wanted, self.errors, self.status, self.status_at
         self.calls.append(call)
 
@@ -151,7 +153,7 @@ class Reader:
                 raise BadDialogue(self.file, number, line, "nothing is asked that writes this")
             self.shown.append((number, escaped(line[2:] if line.startswith("| ") else line[1:])))
             return True
-        if line.startswith("!! "):
+        if line == "!!" or line.startswith("!! "):
             self.errors.append((number, line[3:]))
             return True
         found = STATUS.fullmatch(line)
@@ -176,11 +178,13 @@ class Reader:
         if line.startswith("$ "):
             self.look = number, line[2:].split()
             return self.look[1]
-        text = event(line[2:]) if line.startswith("> ") else whole(line)
+        text = event(line[2:]) if line.startswith("> ") else whole(line[2:]) if line.startswith("@ ") else whole(line)
         if text is None:
             return False
         if line[0] == ">":
             self.history += text + "\n"
+        elif line[0] == "@":
+            self.start += text + "\n"
         elif line[0] in "~of":
             self.script += text + "\n"
         else:

@@ -183,11 +183,15 @@ Arguments:
   [FILE]  History, a file; standard input without it [example: bench.history]
 
 Options:
-      --modelled          Compare contents of replies only for a MIB reset and on classes 130, 171, 266 and 268; has no value [example: --modelled]
+      --modelled          Compare contents of replies only for a MIB reset and on classes 130, 171, 266 and 268, without read-only values and what the table holds; has no value [example: --modelled]
       --unordered         Judge each frame by itself, for ports that several lanes serve; has no value [example: --unordered]
       --allow-strays      Take strays, frames that leave and that no open frame can be; one that the unit makes up or sends twice isn't found then; has no value [example: --allow-strays]
       --padded            Take zeros behind a frame that leaves with fewer than 68 bytes, up to 68, as a wire pads it; zeros that the unit adds aren't found then; has no value [example: --padded]
       --allow-unfinished  Take a history without an end line, e; one that was cut isn't found then; has no value [example: --allow-unfinished]
+      --repeats           Take a message with the bytes of the one before it as not carried out, and answered from memory or not at all; a unit that passes over it, or carries it out where no reply shows that, isn't found then; has no value [example: --repeats]
+      --start <FILE>      Script, or words for one, whose messages the unit had carried out before the first line, a file; its frames are passed over [example: up.script]
+      --all               List every deviation; behind each the judge goes on as if the unit had been right there; has no value [example: --all]
+      --most <N>          How many deviations --all lists at most, from 1; 100 without it [example: 20]
       --json              Show it as JSON, for other programs; has no value [example: --json]
   -h, --help              Print help
 

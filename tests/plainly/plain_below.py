@@ -27,12 +27,19 @@ def head_answered(line):
     return data[:2] + bytes([0x20 | data[2] & 0x1F, 10]) + data[4:8]
 
 
-def unanswered(lines, line, reply):
-    """Which requests get no reply, where that of a line answers a later one than the next."""
+def is_repeat(lines, number):
+    """Whether a line sends the bytes of the message before it once more."""
+    messages = [event_of(line)[1] for line in lines[:number] if line.startswith(b"o ")]
+    return lines[number - 1].startswith(b"o ") and len(messages) > 1 and messages[-2] == messages[-1]
+
+
+def unanswered(lines, line, reply, has_repeats):
+    """Which requests get no reply, where that of a line answers a later one than the next. A repeat asks for none, if repeats are meant."""
     seen, first = bytes.fromhex(reply["seen"]), reply["request_line"]
     if len(seen) not in (44, 48) or head_answered(lines[first - 1]) == seen[:8]:
         return None
-    waiting = [number for number in range(first, line) if head_answered(lines[number - 1])]
+    waiting = [number for number in range(first, line)
+               if head_answered(lines[number - 1]) and not (has_repeats and is_repeat(lines, number))]
     answered = [number for number in waiting if head_answered(lines[number - 1]) == seen[:8]]
     if not answered:
         return None
@@ -81,12 +88,12 @@ def source_of(lines, line):
     return found and f"{plain(found[1])} record {plain(found[2])}, {plain(found[3])} s"
 
 
-def below(text, found):
-    """The lines below a deviation."""
+def below(text, found, options=()):
+    """The lines below a deviation, by the options of `judge`."""
     lines = [line[:-1] if line.endswith(b"\r") else line for line in lines_of(text)]
     frame, reply, line = found.get("frame"), found.get("reply"), found["line"]
     if reply and reply["request_line"] is not None:
-        yield unanswered(lines, line, reply) or "differs: .."
+        yield unanswered(lines, line, reply, "--repeats" in options) or "differs: .."
     if "one_of" in found or frame and frame["versions"]:
         yield "differs: .."
     elsewhere = line_elsewhere(lines, frame["sent_line"]) if frame and frame["seen"] == "lost" else None

@@ -1,6 +1,7 @@
 """A plain judge of histories, to compare the program's with, by docs/FORMATS.md ("Histories", "Judgements") alone. It looks at each front of
 a history by itself, tries each version at each frame, and takes the frames of a port one after the other. What a unit replies, and what
-becomes of a frame by each version, it asks of a model that it is given. It is asked by the options of `judge`."""
+becomes of a frame by each version, it asks of a model that it is given. It is asked by the options of `judge`, and by the messages of the
+script behind --start."""
 import re
 
 from model import LAYOUTS
@@ -20,6 +21,11 @@ MODELLED_ACTIONS = (4, 6, 8, 9, 26)
 MODELLED_CLASSES = (130, 171, 266, 268)
 # What is known of a frame is enough where it has as many bytes; and a wire makes a frame as long.
 ENOUGH, LONG = 24, 68
+# How many deviations are listed where nothing says it.
+MOST_LISTED = 100
+# What a reply stands for, each beside the number of a request from 0: the answer to a request of the history, which may be the next or a later
+# one; to a repeat of one; to one of the script before the history; or, of a wrong one that is taken back, nothing.
+ANSWER, REPEAT, OF_START, ABSENT = "answer", "repeat", "of start", "absent"
 
 
 def own_places(action, entity, asked, reply):
@@ -158,11 +164,32 @@ class Frame:
         return self.place is not None and self.is_known()
 
 
-class Shown:
-    """What a history shows. A model gives of messages and frames what each message is answered, as (reply, wants an answer, is accepted) or
-    None where it has a fault, and of each frame its fate by each version: (GEM port, bytes), or the reason of its drop."""
+class Request:
+    """A message without a fault that is carried out, at a place, or before all others: what the model replies, whether it wants that, and whether
+    it is accepted."""
 
-    def __init__(self, events, model, options):
+    def __init__(self, place, data, answer):
+        self.place, self.data = place, data
+        self.reply, self.wants, self.is_accepted = answer
+
+    def has_head_of(self, seen):
+        """Whether bytes are spelled as a reply with the head of this one's."""
+        return len(seen) in (44, 48) and seen[:8] == self.reply[:8]
+
+    def is_answered_by(self, seen, modelled):
+        """Whether bytes are a right reply."""
+        action, entity = self.data[2] & 31, int.from_bytes(self.data[4:6], "big")
+        whole = not modelled or action == 15 or action in MODELLED_ACTIONS and entity in MODELLED_CLASSES
+        own = own_places(action, entity, self.data, self.reply) if modelled and whole else ()
+        return self.has_head_of(seen) and all(seen[at] == self.reply[at] or at in own for at in range(8, 40 if whole else 8))
+
+
+class Shown:
+    """What a history shows behind a script that was carried out first. A model gives of messages and frames what each message is answered, as
+    (reply, wants an answer, is accepted) or None where it has a fault, and of each frame its fate by each version: (GEM port, bytes), or the
+    reason of its drop. The event "x" is a reply that was wrong, and is taken for what it can be."""
+
+    def __init__(self, events, model, options, start=()):
         self.events, self.options = events, options
         self.modelled, self.unordered = "--modelled" in options, "--unordered" in options
         self.frames = []
@@ -171,10 +198,23 @@ class Shown:
                 self.frames.append(Frame(len(self.frames), place, event[1], event[2]))
             elif event[0] in ("g", "d", "l"):
                 self.frames[event[1]].place = place
-        sent = [(place, event[1]) for place, event in enumerate(events) if event[0] == "o"]
-        answers, self.fates = model([data for _, data in sent], [(frame.port, frame.data.data) for frame in self.frames])
-        self.asked = [(place, data, *answer) for (place, data), answer in zip(sent, answers) if answer is not None]
-        self.waiting = [asked for asked in self.asked if asked[3]]
+        messages = [(place, event[1]) for place, event in enumerate(events) if event[0] == "o"]
+        again = [here for before, here in zip(messages, messages[1:]) if before[1] == here[1]] if "--repeats" in options else []
+        sent = [*((-1, data) for data in start), *(message for message in messages if message not in again)]
+        answers, fates = model([data for _, data in sent], [(frame.port, frame.data.data) for frame in self.frames])
+        requests = [Request(*message, answer) for message, answer in zip(sent, answers) if answer is not None]
+        begun, self.asked = ([request for request in requests if (request.place < 0) == is_begun] for is_begun in (True, False))
+        # Versions begin behind the script.
+        self.base = sum(1 for request in begun if request.is_accepted)
+        self.fates = [by_version[self.base:] for by_version in fates]
+        self.begun, self.waiting = ([request for request in part if request.wants] for part in (begun, self.asked))
+        # The place of each repeat, and the number of the request that it repeats, if that wants an answer.
+        self.again = [(place, number) for place, data in again for number in [self.waiting_before(place) - 1]
+                      if number >= 0 and self.waiting[number].data == data]
+        self.stands = []
+        for place, event in enumerate(events):
+            if event[0] in ("r", "x"):
+                self.stands.append((place, *(self.standing_of if event[0] == "r" else self.excuse_of)(place, event[1])))
         self.ended = [frame for frame in self.frames if frame.is_judged()]
         self.doubts = [event[3] for event in events if event[0] == "a"]
         for frame in self.frames:
@@ -184,7 +224,51 @@ class Shown:
             frame.fitting = [version for version in range(frame.least, frame.most + 1) if self.is_seen(frame, version)]
 
     def accepted_before(self, place):
-        return sum(1 for asked in self.asked if asked[4] and asked[0] < place)
+        return sum(1 for request in self.asked if request.is_accepted and request.place < place)
+
+    def waiting_before(self, place):
+        """How many requests above a place want an answer."""
+        return sum(1 for request in self.waiting if request.place < place)
+
+    def reached(self, replies, *kinds):
+        """How many requests are answered or left out with the first replies, so many, by those of them that stand for something of some kind."""
+        return max((number + 1 for _, kind, number in self.stands[:replies] if kind in kinds), default=0)
+
+    def next_of(self, replies):
+        """The number of the request that is next to be answered behind so many replies."""
+        return self.reached(replies, ANSWER, REPEAT)
+
+    def answers_again(self, place, seen, number):
+        """Whether a reply at a place answers a repeat of the request of this number, which was answered last."""
+        if number < 0 or number >= self.waiting_before(place):
+            return False
+        repeats = sum(1 for where, repeated in self.again if where < place and repeated == number)
+        replies = sum(1 for _, *stands in self.stands if stands == [REPEAT, number])
+        waiting = self.waiting[number + 1:self.waiting_before(place)]
+        return repeats > replies and self.waiting[number].is_answered_by(seen, self.modelled) and all(
+            request.data[:2] != self.waiting[number].data[:2] for request in waiting)
+
+    def standing_of(self, place, seen):
+        """What a reply at a place stands for, which may be wrong as that."""
+        replies = len(self.stands)
+        number = self.next_of(replies)
+        if self.answers_again(place, seen, number - 1):
+            return REPEAT, number - 1
+        if not self.count_before("o", place):
+            for other in range(self.reached(replies, OF_START), len(self.begun)):
+                if self.begun[other].is_answered_by(seen, self.modelled):
+                    return OF_START, other
+        return ANSWER, number
+
+    def excuse_of(self, place, seen):
+        """For what a wrong reply at a place is taken: the answer to the first request that waits and has its head, nothing where it has the head of
+        an earlier one or none waits, and else the answer to the next."""
+        number, behind = self.next_of(len(self.stands)), self.waiting_before(place)
+        for other in range(number, behind):
+            if self.waiting[other].has_head_of(seen):
+                return ANSWER, other
+        is_early = any(request.has_head_of(seen) for request in [*self.begun, *self.waiting[:number]])
+        return (ABSENT, 0) if is_early or number >= behind else (ANSWER, number)
 
     def count_before(self, kind, place):
         return sum(1 for event in self.events[:place] if event[0] == kind)
@@ -195,8 +279,9 @@ class Shown:
         for before in range(place):
             if self.events[before][0] == "w":
                 number = self.events[before][1]
-                most = max(most, self.count_before("r", before) if number is None else number)
-        return self.accepted_before(self.waiting[most - 1][0] + 1) if 0 < most <= len(self.waiting) else 0
+                replies = sum(1 for where, _, _ in self.stands if where < before)
+                most = max(most, self.next_of(replies if number is None else number))
+        return self.accepted_before(self.waiting[most - 1].place + 1) if 0 < most <= len(self.waiting) else 0
 
     def left_by(self, frame, fate):
         """What would leave of a frame: of its front, the front."""
@@ -223,19 +308,15 @@ class Shown:
                    for frame in (self.frames[number] for number in named))
 
     def request_before(self, place):
-        """The request that a reply at a place answers, if one waits."""
-        number = self.count_before("r", place)
-        return self.waiting[number] if number < len(self.waiting) and self.waiting[number][0] < place else None
+        """The request that a reply at a place answers, if one waits, and a reply to a request of this history."""
+        number = next(number for where, kind, number in self.stands if where == place and kind == ANSWER)
+        return self.waiting[number] if number < self.waiting_before(place) else None
 
     def is_right_reply(self, place):
-        request, seen = self.request_before(place), self.events[place][1]
-        if request is None or len(seen) not in (44, 48):
-            return False
-        _, asked, reply, _, _ = request
-        action, entity = asked[2] & 31, int.from_bytes(asked[4:6], "big")
-        whole = not self.modelled or action == 15 or action in MODELLED_ACTIONS and entity in MODELLED_CLASSES
-        own = own_places(action, entity, asked, reply) if self.modelled and whole else ()
-        return all(seen[at] == reply[at] or at in own for at in range(40 if whole else 8))
+        if (place, ANSWER) not in [(where, kind) for where, kind, _ in self.stands]:
+            return True
+        request = self.request_before(place)
+        return request is not None and request.is_answered_by(self.events[place][1], self.modelled)
 
     def least_versions(self, front):
         """The least version of each frame that ended before a place, or None where one has none."""
@@ -293,15 +374,15 @@ class Shown:
         is_finished = ("e",) in events
         # Replies alone are no evidence of what became of frames, and neither is a line that a frame explains of which too little is known.
         has_judged = bool(self.ended) or any(all(self.frames[number].is_known() for number in named) for named in self.doubts)
-        has_evidence = has_judged if self.frames else replies > 0
-        return {"format": 2, "explained": has_evidence and (is_finished or "--allow-unfinished" in self.options), "finished": is_finished,
+        has_evidence = has_judged if self.frames else any(kind != OF_START for _, kind, _ in self.stands)
+        return {"explained": has_evidence and (is_finished or "--allow-unfinished" in self.options), "finished": is_finished,
                 "evidence": has_evidence, "messages": messages, "accepted": self.accepted_before(len(events)), "replies": replies,
                 "frames": self.counts(), "versions": [] if self.unordered else steps}
 
     def wrong_reply(self, place):
         request = self.request_before(place)
-        return {"reply": {"request_line": request and request[0] + 1, "seen": self.events[place][1].hex(),
-                          "model": request and request[2].hex()}}
+        return {"reply": {"request_line": request and request.place + 1, "seen": self.events[place][1].hex(),
+                          "model": request and request.reply.hex()}}
 
     def of_frame(self, frame, least, most):
         """What is said of a frame and of the versions from one to another."""
@@ -333,22 +414,46 @@ class Shown:
         return None
 
     def judge(self):
-        """What is found, as `judge --json` writes it."""
+        """What is found: the first line that deviates, or that none does."""
         for place in range(len(self.events)):
             wrong = self.wrong_at(place)
             if wrong:
-                return {"format": 2, "explained": False, "line": place + 1, **wrong}
+                return {"line": place + 1, **wrong}
         return self.explained(self.least_versions(len(self.events)))
 
 
-def judge(text, model, options=()):
-    """What is found of a history, as `judge --json` writes it. Raises BadLine."""
-    return Shown(read_history(text), model, options).judge()
+def taken_back(events, line):
+    """The events without what a line claims. A wrong reply is taken for what it can be, and any other line says nothing."""
+    kind, *more = events[line - 1]
+    return [*events[:line - 1], ("x", *more) if kind == "r" else ("",), *events[line:]]
+
+
+def judge(text, model, options=(), start=None):
+    """What is found of a history, as `judge --json` writes it. The messages are those of the script behind --start, if it is given. Raises
+    BadLine."""
+    events = read_history(text)
+    shown = Shown(events, model, options, start or ())
+    front = {"format": 2} if start is None else {"format": 2, "start": shown.base}
+    found = shown.judge()
+    if "line" not in found or "--all" not in options:
+        return {**front, "explained": False, **found}
+    most = int(options[options.index("--most") + 1]) if "--most" in options else MOST_LISTED
+    deviations = []
+    while "line" in found and len(deviations) < most:
+        deviations.append(found)
+        events = taken_back(events, found["line"])
+        found = Shown(events, model, options, start or ()).judge()
+    return {**front, "explained": False, "deviations": deviations, "more": "line" in found}
+
+
+def deviations_in(found):
+    """The deviations that are found, the first or all."""
+    return found.get("deviations", [found] if "line" in found else [])
 
 
 def status_of(found):
     """The status of `judge`: explained, a deviation, or neither."""
-    return 0 if found["explained"] else 3 if "line" in found else 4
+    return 0 if found["explained"] else 3 if deviations_in(found) else 4
 
 
 def left_in_words(left):
@@ -408,31 +513,47 @@ def lines_of_end(found, options):
         yield f"no frame was judged: {sent} were sent" if sent else "nothing was judged: no reply, no frame that ended"
 
 
-def in_words(found, options=()):
-    """The lines that `judge` writes of what is found, by the options of `judge`, but for those of what differs."""
-    if "line" not in found:
-        frames = found["frames"]
-        more = "".join(f" {key} {frames[key]}" for key in ("strays", "doubtful", "lost", "cut") if frames[key])
-        yield f"messages {found['messages']} accepted {found['accepted']} replies {found['replies']}"
-        yield f"frames {sent_in(found)} forwarded {frames['forwarded']} dropped {frames['dropped']} open {frames['open']}{more}"
-        for step in found["versions"]:
-            yield f"port {step['port']} version {step['version']} from frame {step['frame']} line {step['line']}"
-        yield from lines_of_end(found, options)
-        return
-    yield f"deviation at line {found['line']}"
-    if "stray" in found:
-        yield "a frame left that no open frame can be"
-        yield f"seen s {left_in_words(found['stray'])}"
-        return
-    if "one_of" in found:
-        yield from lines_of_one(found["one_of"])
-        return
-    if "frame" in found:
-        yield from lines_of_frame(found["frame"])
-        return
-    reply = found["reply"]
+def lines_of_explained(found, options):
+    """The lines of a history without a deviation."""
+    frames = found["frames"]
+    more = "".join(f" {key} {frames[key]}" for key in ("strays", "doubtful", "lost", "cut") if frames[key])
+    yield f"messages {found['messages']} accepted {found['accepted']} replies {found['replies']}"
+    yield f"frames {sent_in(found)} forwarded {frames['forwarded']} dropped {frames['dropped']} open {frames['open']}{more}"
+    for step in found["versions"]:
+        yield f"port {step['port']} version {step['version']} from frame {step['frame']} line {step['line']}"
+    yield from lines_of_end(found, options)
+
+
+def lines_of_reply(reply):
     asked = reply["request_line"]
     yield "a reply, and no request waits for one" if asked is None else f"reply to the request at line {asked}"
     yield f"seen r {reply['seen']}"
     if asked is not None:
         yield f"model r {reply['model']}"
+
+
+def lines_of_deviation(found):
+    """The lines of a deviation, but for those of what differs."""
+    yield f"deviation at line {found['line']}"
+    if "stray" in found:
+        yield "a frame left that no open frame can be"
+        yield f"seen s {left_in_words(found['stray'])}"
+    elif "one_of" in found:
+        yield from lines_of_one(found["one_of"])
+    elif "frame" in found:
+        yield from lines_of_frame(found["frame"])
+    else:
+        yield from lines_of_reply(found["reply"])
+
+
+def in_words(found, options=(), below=lambda deviation: ()):
+    """The lines that `judge` writes of what is found, by the options of `judge`. What stands below a deviation is given."""
+    if "start" in found:
+        yield f"start {found['start']}"
+    for deviation in deviations_in(found):
+        yield from lines_of_deviation(deviation)
+        yield from below(deviation)
+    if "deviations" in found:
+        yield f"deviations {len(found['deviations'])}{' and more' if found['more'] else ''}"
+    elif "line" not in found:
+        yield from lines_of_explained(found, options)
