@@ -1,5 +1,5 @@
 //! A frame that left, and is one of several.
-ghost use Rattle.std.specs.Prelude.{◌≡◌, ◌≤◌, Some, length, slice_get, true};
+ghost use Rattle.std.specs.Prelude.{◌≡◌, ◌≤◌, IfOk, Some, length, true};
 ghost use Rattle.script_lines.specs.Line.{line_limit};
 ghost use Rattle.bench_history.specs.Among.{are_in_order, digits_in, numbers_in, one_of};
 
@@ -7,6 +7,7 @@ use crate::digits::Digits;
 use crate::extent::Extent;
 use crate::numbers::{Numbers, are_rising};
 use crate::words::{read_seen, space_in};
+use std::alloc::{AllocError, Global};
 use std::marker::Model;
 
 /// A frame as it was seen to leave, and the frames of which it is one, by their numbers. Both are borrowed from the text.
@@ -85,14 +86,16 @@ impl<'a> Among<'a> {
         Numbers::of(self.words())
     }
 
-    /// The least of them.
-    pub(crate) fn least(&self) -> u32
-        ensures least { slice_get self.now.numbers 0 ≡ Some result }
+    /// The same in a vector.
+    pub(crate) fn to_vec(&self, alloc: Global) -> Result<Vec<u32>, AllocError>
+        ensures numbers { IfOk result (λ frames. frames.items ≡ self.now.numbers) }
         ensures order { are_in_order self.now.numbers ≡ true }
     {
-        let Some(least) = Numbers::of(self.words()).take_least() else {
-            unreachable!();
-        };
-        least
+        let mut frames = Vec::new(alloc);
+        let mut numbers = Numbers::of(self.words());
+        while let Some(number) = numbers.take_least() {
+            frames.push(number)?;
+        }
+        Ok(frames)
     }
 }

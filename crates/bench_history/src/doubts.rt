@@ -1,12 +1,12 @@
 //! Frames of which it can't be seen which one left.
 ghost use Rattle.std.specs.Prelude.{◌≡◌, ◌<◌, ◌≤◌, ◌==◌, ◌&&◌, ◌||◌, ◌++◌, ◌^◌, ◌∷◌, [], ℕ, IfOk, List, drop, false, length, map, max, nat_lt, slice_index_or, take, true};
 ghost use Rattle.std.specs.List.{count_by, list_all, list_any};
+ghost use Rattle.bench_history.specs.Among.{are_in_order};
 ghost use Rattle.bench_history.specs.History.{are_among, doubts_in, have_left, is_among};
 ghost use Rattle.bench_history.specs.Doubts.{IsDoubted, last_or, raised, reach_of, reach_on, settles};
 ghost use Rattle.bench_history.specs.declared.doubts.Doubt.{Doubt};
 ghost use Rattle.bench_history.specs.declared.event.Event.{Event};
 
-use crate::among::Among;
 use crate::event::Event;
 use std::alloc::{AllocError, Global};
 
@@ -21,9 +21,9 @@ pub(crate) struct Doubt {
     pub(crate) missing: usize,
 }
 
-/// What is kept of the events that say so.
+/// What is known of frames of which it can't be seen which one left: which are doubtful, and which are used up, since as many left.
 #[derive(Drop)]
-pub(crate) struct Doubts {
+pub struct Doubts {
     alloc: Global,
     /// The frames of each, in order.
     pub(crate) doubts: Vec<Doubt>,
@@ -168,21 +168,9 @@ fn reach_with(doubts: &[Doubt], frames: &[u32]) -> u32
     }
 }
 
-/// The numbers of the frames of which one left.
-fn collected(alloc: Global, among: &Among<'_>) -> Result<Vec<u32>, AllocError>
-    ensures { IfOk result (λ frames. frames.items ≡ among.now.numbers) }
-{
-    let mut frames = Vec::new(alloc);
-    let mut numbers = among.numbers();
-    while let Some(number) = numbers.take_least() {
-        frames.push(number)?;
-    }
-    Ok(frames)
-}
-
 impl Doubts {
-    /// What no event leaves.
-    pub(crate) fn new(alloc: Global) -> Self
+    /// None is doubtful.
+    pub fn new(alloc: Global) -> Self
         ensures { IsDoubted [] result }
     {
         Doubts {
@@ -194,7 +182,7 @@ impl Doubts {
     }
 
     /// Whether the frame of a number is doubtful.
-    pub(crate) fn is_doubtful(&self, number: u32) -> bool
+    pub fn is_doubtful(&self, number: u32) -> bool
         ensures { (named : List (List ℕ)) → IsDoubted named self.now
             → result ≡ list_any (λ frames. is_among frames number) named }
     {
@@ -202,20 +190,23 @@ impl Doubts {
     }
 
     /// Whether it is used up.
-    pub(crate) fn is_used_up(&self, number: u32) -> bool
+    pub fn is_used_up(&self, number: u32) -> bool
         ensures { (named : List (List ℕ)) → IsDoubted named self.now
             → result ≡ list_any (λ frames. is_among frames number && have_left frames named) named }
     {
         matches!(self.used_up.get(number as usize), Some(true))
     }
 
-    /// Adds an event that says that one of several frames left.
-    fn add(&mut self, among: &Among<'_>) -> Result<(), AllocError>
+    /// Adds that one of some frames left, which are named by their numbers, in ascending order.
+    ///
+    /// It takes time in proportion to the frames that are named and those of the doubts that share some with them.
+    pub fn name(&mut self, frames: Vec<u32>) -> Result<(), AllocError>
+        requires { are_in_order frames.items ≡ true }
         ensures { (named : List (List ℕ)) → IsDoubted named self.old
-            → IfOk result (λ _. IsDoubted (named ++ among.now.numbers ∷ []) self.new) }
+            → IfOk result (λ _. IsDoubted (named ++ frames.items ∷ []) self.new) }
     {
-        let frames = collected(self.alloc, among)?;
-        let near = first_near(&self.doubts, among.least());
+        let least = frames[0];
+        let near = first_near(&self.doubts, least);
         let count = count_among(self.doubts.split_at(near).1, &frames);
         raise_from(&mut self.doubts, near, &frames);
         settle(&mut self.used_up, self.doubts.split_at(near).1)?;
@@ -238,7 +229,7 @@ impl Doubts {
             → IfOk result (λ _. IsDoubted (doubts_in (events ++ event.now ∷ [])) self.new) }
     {
         match event {
-            Event::LeftOneOf { among, .. } => self.add(among),
+            Event::LeftOneOf { among, .. } => self.name(among.to_vec(self.alloc)?),
             _ => Ok(()),
         }
     }

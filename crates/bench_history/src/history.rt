@@ -5,6 +5,7 @@ ghost use Rattle.bench_history.specs.History.{IsWhyUnread, history_of};
 use crate::event::Event;
 use crate::fault::HistoryFault;
 use crate::reading::Reading;
+use crate::watch::{Ahead, Nobody, ReadWatch};
 use std::alloc::Global;
 
 /// The events of a history, one for each line, in order: that of line L, which are numbered from 1, is at L - 1.
@@ -39,8 +40,24 @@ pub fn read_history<'a>(alloc: Global, text: &'a [u8]) -> Result<Vec<Event<'a>>,
     ensures events { IfOk result (λ events. history_of text.now ≡ Ok events.items) }
     ensures fault { IfErr result (IsWhyUnread text.now) }
 {
+    read_history_watched(alloc, text, &mut Nobody)
+}
+
+/// Does as [`read_history`] does, and tells meanwhile how far it is.
+pub fn read_history_watched<'a, W: ReadWatch>(
+    alloc: Global,
+    text: &'a [u8],
+    watch: &mut W,
+) -> Result<Vec<Event<'a>>, HistoryFault>
+    ensures events { IfOk result (λ events. history_of text.now ≡ Ok events.items) }
+    ensures fault { IfErr result (IsWhyUnread text.now) }
+{
+    let ahead = Ahead {
+        behind: 0,
+        of: text.len(),
+    };
     let mut reading = Reading::new(alloc);
-    reading.read(text)?;
+    reading.read(text, ahead, watch)?;
     let Reading { events, seen: _ } = reading;
     Ok(events)
 }

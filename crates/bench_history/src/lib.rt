@@ -33,14 +33,17 @@ mod piece;
 mod pieces;
 mod reading;
 mod seen;
+mod watch;
 mod words;
 
 pub use among::Among;
 pub use digits::Digits;
+pub use doubts::Doubts;
 pub use event::Event;
 pub use extent::Extent;
 pub use fault::HistoryFault;
 pub use gem::SeenGem;
-pub use history::read_history;
+pub use history::{read_history, read_history_watched};
 pub use numbers::Numbers;
 pub use pieces::Pieces;
+pub use watch::ReadWatch;

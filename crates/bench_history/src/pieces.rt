@@ -4,6 +4,7 @@ use crate::fault::HistoryFault;
 use crate::joining::joined;
 use crate::piece::Piece;
 use crate::reading::Reading;
+use crate::watch::{Ahead, Nobody, ReadWatch};
 use std::alloc::{AllocError, Global};
 use std::marker::Model;
 
@@ -22,6 +23,15 @@ impl Model for Pieces {
     ghost view = { λ p. text_of p.pieces.items };
 
     ghost invariant = { λ p. AreWhole p.pieces.items };
+}
+
+/// How many bytes of a text pieces hold.
+fn length_of(pieces: &[Piece]) -> usize {
+    let mut length: usize = 0;
+    for piece in pieces {
+        length = length.saturating_add(piece.own().len());
+    }
+    length
 }
 
 impl Pieces {
@@ -55,9 +65,24 @@ impl Pieces {
         ensures events { IfOk result (λ events. history_of self.now ≡ Ok events.items) }
         ensures fault { IfErr result (IsWhyUnread self.now) }
     {
+        self.read_watched(alloc, &mut Nobody)
+    }
+
+    /// Does as [`read`](Self::read) does, and tells meanwhile how far it is.
+    pub fn read_watched<W: ReadWatch>(
+        &self,
+        alloc: Global,
+        watch: &mut W,
+    ) -> Result<Vec<Event<'_>>, HistoryFault>
+        ensures events { IfOk result (λ events. history_of self.now ≡ Ok events.items) }
+        ensures fault { IfErr result (IsWhyUnread self.now) }
+    {
+        let of = length_of(&self.pieces);
+        let mut behind = of;
         let mut reading = Reading::new(alloc);
         'each_piece: for piece in &self.pieces {
-            match reading.read(piece.own()) {
+            behind = behind.saturating_sub(piece.own().len());
+            match reading.read(piece.own(), Ahead { behind, of }, watch) {
                 Ok(()) => {}
                 Err(fault) => return Err(fault),
             }

@@ -9,6 +9,7 @@ use crate::event::Event;
 use crate::fault::HistoryFault;
 use crate::line::read_event;
 use crate::seen::Seen;
+use crate::watch::{Ahead, ReadWatch, tell};
 use script_lines::first_line;
 use std::alloc::Global;
 
@@ -46,7 +47,12 @@ impl<'a> Reading<'a> {
     }
 
     /// Reads the lines of a text that stands behind these events.
-    pub(crate) fn read(&mut self, text: &'a [u8]) -> Result<(), HistoryFault>
+    pub(crate) fn read<W: ReadWatch>(
+        &mut self,
+        text: &'a [u8],
+        ahead: Ahead,
+        watch: &mut W,
+    ) -> Result<(), HistoryFault>
         requires { IsSeen self.old.events.items self.old.seen }
         ensures events { IfOk result (λ _.
             events_from self.old.events.items (lines_of text.now) ≡ Ok self.new.events.items) }
@@ -56,6 +62,7 @@ impl<'a> Reading<'a> {
     {
         let mut rest = text;
         while !rest.is_empty() {
+            tell(watch, self.events.len(), rest.len(), ahead);
             let number = self.events.len() as u64 + 1;
             let (line, behind) = first_line(rest);
             let Some(event) = next_event(line, &self.seen) else {

@@ -21,7 +21,7 @@ use Rattle.bench_judge.specs.declared.judgement.Run.{Run}
 use Rattle.bench_judge.specs.declared.walk.Walk.{Walk}
 use Rattle.bench_judge.proofs.Lists.{read_is}
 use Rattle.bench_judge.proofs.Numbered.{in_rest, is_first}
-use Rattle.bench_judge.proofs.Places.{element_at, get_in_front, get_pushed}
+use Rattle.bench_answers.proofs.Places.{element_at, get_in_front, get_pushed}
 use Rattle.bench_answers.specs.Ground.{Ground}
 
 -- ---- one frame

@@ -50,7 +50,7 @@ module _ (grounds : Ground) (k : ℕ) (all : List Event) (requests : List Reques
   abbrev pub events : List Event
   events = take k all
 
-  may_have : {padded : Bool} (f : EndedFrame) (frame : Frame) (v : ℕ) → IsEnded events f → IsKept grounds events f frame → IsVersionOf grounds padded events f v → MayHave padded all requests frame v
+  pub may_have : {padded : Bool} (f : EndedFrame) (frame : Frame) (v : ℕ) → IsEnded events f → IsKept grounds events f frame → IsVersionOf grounds padded events f v → MayHave padded all requests frame v
   may_have {padded} f frame v is kept version =
       record {
         least = omega (arith, kept.least, version.least);

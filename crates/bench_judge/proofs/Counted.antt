@@ -9,7 +9,7 @@ use Rattle.bench_history.specs.History.{frames_in, has_ended, is_end_of, is_fram
 use Rattle.bench_history.specs.declared.event.Event.{Event}
 use Rattle.bench_judge.specs.Counted.{AreKnown, is_known, is_known_in}
 use Rattle.bench_judge.specs.declared.frame.Frame.{Frame}
-use Rattle.bench_judge.proofs.Places.{take_with}
+use Rattle.bench_answers.proofs.Places.{take_with}
 
 counted : {X : Type 0} (p : X → Bool) (xs : List X) (i : ℕ) (x : X) → slice_get xs i ≡ Some x
     → count_by p (take (i + 1) xs) ≡ count_by p (take i xs) + cond (p x) 1 0

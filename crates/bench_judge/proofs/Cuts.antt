@@ -14,14 +14,14 @@ use Rattle.bench_answers.proofs.Fronts.{most_grows}
 use Rattle.bench_judge.proofs.Fronts.{ended_in_front, ended_of_front}
 use Rattle.bench_answers.specs.Ground.{Ground}
 
-some_is : {A : Type 0} (x y : A) → Some x ≡ Some y → x ≡ y
+pub some_is : {A : Type 0} (x y : A) → Some x ≡ Some y → x ≡ y
 some_is x y is = cc is
 
 not_over : (i j m : ℕ) → nat_lt i m ≡ false → i ≡ j → j < m → ⊥
 not_over i j m over same lt = let le = ltb-false i m over in omega (arith, le, same, lt)
 
 -- an end before a place stays
-kept_end : (m : ℕ) (frame : Frame) (j : ℕ) → frame.ended ≡ Some j → j < m → until m frame ≡ frame
+pub kept_end : (m : ℕ) (frame : Frame) (j : ℕ) → frame.ended ≡ Some j → j < m → until m frame ≡ frame
 kept_end m frame j is lt =
     elim (frame.ended) as (λ o. frame.ended ≡ o → o ≡ Some j → until m frame ≡ frame) [
       | None ↦ λ e bad. absurd (cc bad)
@@ -33,7 +33,7 @@ kept_end m frame j is lt =
     ] refl is
 
 -- what an end says that is left
-left_end : (m : ℕ) (o : Option ℕ) → is_some (end_before m o) ≡ true → (j : ℕ) × (o ≡ Some j) × (j < m)
+pub left_end : (m : ℕ) (o : Option ℕ) → is_some (end_before m o) ≡ true → (j : ℕ) × (o ≡ Some j) × (j < m)
 left_end m None is = absurd (cc is)
 left_end m (Some j) is =
     elim (nat_lt j m) as (λ b. nat_lt j m ≡ b → is_some (cond b (Some j) None) ≡ true → (i : ℕ) × (Some j ≡ Some i) × (i < m)) [
@@ -41,7 +41,7 @@ left_end m (Some j) is =
       | false ↦ λ over h. absurd (cc h)
     ] refl is
 
-with_end_is : (o : Option ℕ) (frame : Frame) → is_some (with_end o frame).ended ≡ is_some o
+pub with_end_is : (o : Option ℕ) (frame : Frame) → is_some (with_end o frame).ended ≡ is_some o
 with_end_is (Some end) frame = refl
 with_end_is None frame = refl
 

@@ -26,7 +26,7 @@ use Rattle.bench_judge.specs.declared.scene.Scene.{Scene}
 use Rattle.bench_judge.proofs.Choices.{entered_as, same_seen}
 use Rattle.bench_judge.proofs.Counted.{frames_front, frames_with}
 use Rattle.bench_answers.proofs.Fronts.{requests_front}
-use Rattle.bench_judge.proofs.Places.{element_at, front_get, get_in_front}
+use Rattle.bench_answers.proofs.Places.{element_at, front_get, get_in_front}
 use Rattle.bench_judge.proofs.Whole.{sent_once}
 use Rattle.bench_answers.specs.Ground.{Ground}
 

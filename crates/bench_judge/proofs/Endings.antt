@@ -14,7 +14,7 @@ use Rattle.bench_history.specs.declared.event.Event.TheVariants.{Entered}
 use Rattle.bench_history.specs.declared.extent.Extent.{Extent}
 use Rattle.bench_answers.specs.Asked.{base, requests_of, version}
 use Rattle.bench_answers.specs.Windows.{least_behind, most_behind}
-use Rattle.bench_judge.specs.Explained.{EndedFrame, IsEnded}
+use Rattle.bench_judge.specs.Explained.{EndedFrame, IsChoice, IsEnded}
 use Rattle.bench_judge.specs.Frames.{AreFrames, AreWithin, IsKeptIn}
 use Rattle.bench_judge.specs.Bounds.{IsLeastLeft, IsMostLeft}
 use Rattle.bench_judge.specs.Cut.{IsFitted, IsTurn, Suits, until}
@@ -25,7 +25,7 @@ use Rattle.bench_judge.specs.declared.judgement.End.{End}
 use Rattle.bench_judge.specs.declared.judgement.Run.{Run}
 use Rattle.bench_judge.specs.Terms.{Terms, ground_in}
 use Rattle.bench_judge.specs.declared.walk.Walk.{Walk}
-use Rattle.bench_judge.proofs.Choices.{BeginWith, fits_of_choice}
+use Rattle.bench_judge.proofs.Choices.{BeginWith, choice_of_fits, fits_of_choice}
 use Rattle.bench_judge.proofs.Cuts.{cut_frames, cut_within}
 use Rattle.bench_judge.proofs.Deviating.{at_least_is, at_most_is}
 use Rattle.bench_answers.proofs.Fronts.{base_within, least_within, most_grows, version_front}
@@ -130,6 +130,11 @@ module _ (terms : Terms) (events : List Event) (walk : Walk) (place : ℕ) (soun
 
     pub not_none : IsFitted terms.settings.padded terms.settings.unordered events requests frames None → ⊥
     not_none none = none turn.before.0 (fits_of_choice (ground_in terms) place events requests begins terms.settings.unordered frames turn.before.0 cut_are turn.before.1)
+
+    -- versions that fit are a choice of the events before the place
+    pub choice_before : (versions : ℕ → ℕ) → Suits terms.settings.padded terms.settings.unordered events requests frames versions
+        → IsChoice (ground_in terms) terms.settings.padded terms.settings.unordered (take place events) versions
+    choice_before versions suits = choice_of_fits (ground_in terms) place events requests begins terms.settings.unordered frames versions cut_are suits.0
 
     pub cut_long : (n : ℕ) → n ≡ f.number → n < length frames
     cut_long n is =

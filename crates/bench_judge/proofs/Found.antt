@@ -15,6 +15,7 @@ use Rattle.bench_judge.specs.Admitted.{AreAdmitted, IsAdmitted}
 use Rattle.bench_judge.specs.Counted.{AreCounts, AreKnown}
 use Rattle.bench_judge.specs.Evidence.{IsEvidence}
 use Rattle.bench_judge.specs.Judged.{IsDeviation, IsExplanation, IsFirstUnexplained, IsWrongAt}
+use Rattle.bench_judge.specs.Known.{IsKnown}
 use Rattle.bench_judge.specs.Walk.{IsWalk}
 use Rattle.bench_judge.specs.declared.frame.Frame.{Frame}
 use Rattle.bench_judge.specs.declared.judgement.Counts.{Counts}
@@ -68,6 +69,12 @@ module _ (terms : Terms) (events : List Event) (walk : Walk) (known : IsWalk ter
   event_deviates wrong found versions is least within at =
       let choice = choice_of found versions is least in
       record { place = walk.walked; line = refl; first = first_refused within (by_number versions, choice.0); wrong = at }
+
+  -- versions that were found of all that was walked are known
+  pub walked_known : (found : Option (Vec ℕ Global)) (versions : Vec ℕ Global) → found ≡ Some versions
+      → IsChosen (ground_in terms) terms.settings.padded terms.settings.unordered (take walk.walked events) found
+      → IsKnown terms events (record { until = walk.walked; versions = versions })
+  walked_known found versions is chosen = (choice_of found versions is chosen).0
 
   -- ended frames were sent by lines with a number
   pub frames_sent : (frames : List Frame) → frames ≡ walk.frames.items → length events < 18446744073709551616 → AreSent frames

@@ -8,7 +8,7 @@ use Rattle.bench_history.specs.Line.{event_of}
 use Rattle.bench_history.specs.declared.event.Event.{Event}
 use Rattle.bench_history.proofs.Sound.{sound_if_it_follows}
 use Rattle.bench_judge.specs.Walk.{AreInOrder, AreSound}
-use Rattle.bench_judge.proofs.Places.{get_pushed}
+use Rattle.bench_answers.proofs.Places.{get_pushed}
 
 -- an event that may stand behind others
 in_order_more : (before : List Event) (event : Event) → may_follow before event ≡ true → AreInOrder before → AreInOrder (before ++ event ∷ [])

@@ -11,6 +11,7 @@ pub mod Doubtful
 pub mod Endings
 pub mod Found
 pub mod Fronts
+pub mod Held
 pub mod InOrder
 pub mod Joined
 pub mod Least
@@ -20,7 +21,6 @@ pub mod Lists
 pub mod Nearest
 pub mod Numbered
 pub mod OneOn
-pub mod Places
 pub mod Queues
 pub mod Raised
 pub mod Risen

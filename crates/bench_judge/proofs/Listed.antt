@@ -14,7 +14,7 @@ use Rattle.bench_judge.specs.declared.judgement.Deviation.{Deviation}
 use Rattle.bench_judge.specs.declared.judgement.Deviations.{Deviations}
 use Rattle.bench_judge.specs.declared.judgement.Explanation.{Explanation}
 use Rattle.bench_judge.specs.declared.judgement.Findings.TheVariants.{Explained, Deviates}
-use Rattle.bench_judge.proofs.Places.{element_at, get_pushed}
+use Rattle.bench_answers.proofs.Places.{element_at, get_pushed}
 use Rattle.bench_judge.proofs.Raised.{no_events}
 use Rattle.bench_judge.proofs.TakenBack.{explained_without, place_behind, sound_without, unexplained}
 

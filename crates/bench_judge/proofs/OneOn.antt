@@ -19,7 +19,7 @@ use Rattle.bench_judge.specs.Terms.{Terms, ground_in}
 use Rattle.bench_judge.specs.Scene.{AreAdmittedUpTo, AreFramesOf, IsScene, ended_by}
 use Rattle.bench_judge.specs.declared.frame.Frame.{Frame}
 use Rattle.bench_judge.specs.declared.scene.Scene.{Scene}
-use Rattle.bench_judge.proofs.Places.{element_at}
+use Rattle.bench_answers.proofs.Places.{element_at}
 use Rattle.bench_judge.proofs.Sightings.{IsSentFrame, frames_ended, frames_more, frames_same}
 
 -- ---- what is admitted

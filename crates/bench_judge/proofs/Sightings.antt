@@ -11,7 +11,7 @@ use Rattle.bench_sight.specs.Sight.{is_enough}
 use Rattle.bench_answers.specs.Windows.{least_behind, most_behind}
 use Rattle.bench_judge.specs.Scene.{AreFramesOf, IsEndOf, IsFrameOf, ended_by}
 use Rattle.bench_judge.specs.declared.frame.Frame.{Frame}
-use Rattle.bench_judge.proofs.Places.{get_pushed, get_written}
+use Rattle.bench_answers.proofs.Places.{get_pushed, get_written}
 use Rattle.bench_judge.proofs.Counted.{ended_with, frames_with}
 use Rattle.bench_answers.specs.Ground.{Ground}
 

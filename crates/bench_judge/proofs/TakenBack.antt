@@ -20,7 +20,7 @@ use Rattle.bench_judge.specs.declared.judgement.Wrong.{Wrong}
 use Rattle.bench_judge.specs.declared.judgement.Wrong.TheVariants as wrong
 use Rattle.bench_judge.proofs.Fronts.{ended_in_front, ended_of_front, explained_front, version_in_front, version_of_front}
 use Rattle.bench_judge.proofs.Lists.{front_has, in_front}
-use Rattle.bench_judge.proofs.Places.{get_written}
+use Rattle.bench_answers.proofs.Places.{get_written}
 
 -- ---- they stay sound
 

@@ -24,7 +24,7 @@ use Rattle.bench_judge.specs.declared.frame.Frame.{Frame}
 use Rattle.bench_judge.specs.Terms.{Terms}
 use Rattle.bench_judge.proofs.Counted.{frames_front, frames_with}
 use Rattle.bench_answers.proofs.Fronts.{most_grows}
-use Rattle.bench_judge.proofs.Places.{element_at, front_get, get_in_front}
+use Rattle.bench_answers.proofs.Places.{element_at, front_get, get_in_front}
 use Rattle.bench_answers.specs.Ground.{Ground}
 
 -- ---- a frame is sent once, and ends once

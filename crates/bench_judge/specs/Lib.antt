@@ -6,6 +6,7 @@ pub mod Explained
 pub mod Frames
 pub mod Sweep
 pub mod Walk
+pub mod Known
 pub mod Scene
 pub mod Cut
 pub mod Bounds

@@ -7,6 +7,7 @@ ghost use Rattle.bench_judge.specs.Terms.{terms_of};
 
 use crate::doubt::{Doubtful, Latest, is_one_of};
 use crate::frame::Case;
+use crate::known::Known;
 use crate::scene::Scene;
 use crate::terms::Terms;
 use bench_history::Event;
@@ -35,6 +36,7 @@ pub(crate) fn is_admitted(
                 events,
                 requests: scene.answers.requests(),
                 frames: &scene.frames,
+                known: &Known::nothing(alloc),
                 padded: terms.settings.padded,
                 unordered: terms.settings.unordered,
             };

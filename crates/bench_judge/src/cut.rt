@@ -1,11 +1,13 @@
 //! What the events before a place show of frames and of their versions.
 ghost use Rattle.std.specs.Prelude.{◌≡◌, ◌≤◌, IfOk, map, take};
 ghost use Rattle.bench_judge.specs.Cut.{IsChosen, until};
+ghost use Rattle.bench_judge.specs.Known.{IsKnown};
 ghost use Rattle.bench_judge.specs.Terms.{ground_in, terms_of};
 ghost use Rattle.bench_judge.specs.Walk.{IsWalk};
 
 use crate::fitting::versions_of;
 use crate::frame::{Case, Frame};
+use crate::known::Known;
 use crate::terms::Terms;
 use crate::walk::Walk;
 use crate::watch::Watch;
@@ -48,11 +50,13 @@ pub(crate) fn choice_until<W: Watch>(
     events: &[Event<'_>],
     walk: &Walk,
     terms: &Terms<'_>,
+    known: &Known,
     place: usize,
     hint: &mut usize,
     watch: &mut W,
 ) -> Result<Option<Vec<usize>>, AllocError>
     requires walked { IsWalk (terms_of terms.now) events.now walk.now }
+    requires known { IsKnown (terms_of terms.now) events.now known.now }
     requires within { place ≤ walk.now.walked }
     ensures { IfOk result (IsChosen (ground_in (terms_of terms.now)) terms.now.settings.padded
         terms.now.settings.unordered (take place events.now)) }
@@ -62,6 +66,7 @@ pub(crate) fn choice_until<W: Watch>(
         events,
         requests: &walk.requests,
         frames: &frames,
+        known,
         padded: terms.settings.padded,
         unordered: terms.settings.unordered,
     };

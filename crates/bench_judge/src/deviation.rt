@@ -4,6 +4,7 @@ ghost use Rattle.bench_history.specs.History.{is_end_of};
 ghost use Rattle.bench_history.specs.declared.event.Event.TheVariants.{Entered, Replied};
 ghost use Rattle.bench_judge.specs.Cut.{IsSomeWalk, IsTurn};
 ghost use Rattle.bench_history.specs.declared.extent.Extent.{Extent as TheExtent};
+ghost use Rattle.bench_judge.specs.Known.{IsKnown};
 ghost use Rattle.bench_judge.specs.Judged.{IsCandidate, IsEndAs, IsWrongAt, IsWrongFrame};
 ghost use Rattle.bench_judge.specs.Terms.{Terms as TheTerms, ground_in, terms_of};
 ghost use Rattle.bench_judge.specs.declared.judgement.Candidate.{Candidate as TheCandidate};
@@ -14,6 +15,7 @@ use crate::cut::frames_until;
 use crate::fitting::versions_of;
 use crate::frame::Case;
 use crate::judgement::{Candidate, End, Wrong, WrongFrame, WrongOneOf, WrongReply};
+use crate::known::Known;
 use crate::runs::runs;
 use crate::terms::Terms;
 use crate::walk::Walk;
@@ -69,20 +71,27 @@ fn sent_by<'a>(event: &Event<'a>) -> (Extent, Digits<'a>)
     }
 }
 
-/// What is said of the frame that ends at a place, where the events before it have a choice of versions, and none with the one there.
+/// What is said of the frame that ends at a place, where the events before it have a choice of versions, and none with the one there; and
+/// such a choice.
 pub(crate) fn wrong_frame<'a>(
     alloc: Global,
     events: &[Event<'a>],
     walk: &Walk,
     terms: &Terms<'_>,
+    known: &Known,
     place: usize,
-) -> Result<WrongFrame<'a>, AllocError>
+) -> Result<(WrongFrame<'a>, Vec<usize>), AllocError>
     requires sound { AreSound events.now }
     requires walked { IsWalk (terms_of terms.now) events.now walk.now }
     requires within { place < walk.now.walked }
     requires turn { IsTurn (ground_in (terms_of terms.now)) terms.now.settings.padded
         terms.now.settings.unordered events.now place }
-    ensures { IfOk result (IsWrongFrame (terms_of terms.now) events.now place) }
+    requires known { IsKnown (terms_of terms.now) events.now known.now }
+    ensures frame { IfOk result (λ found. IsWrongFrame (terms_of terms.now) events.now place found.0) }
+    ensures versions { IfOk result (λ found. IsKnown (terms_of terms.now) events.now (record {
+      until = place;
+      versions = found.1;
+    })) }
 {
     let number = ended_by(&events[place]);
     let frame = walk.frames[number];
@@ -91,6 +100,7 @@ pub(crate) fn wrong_frame<'a>(
         events,
         requests: &walk.requests,
         frames: &frames,
+        known,
         padded: terms.settings.padded,
         unordered: terms.settings.unordered,
     };
@@ -106,7 +116,7 @@ pub(crate) fn wrong_frame<'a>(
     let from = at_least.saturating_sub(base);
     let to = at_most.saturating_sub(base);
     let runs = runs(alloc, &walk.requests, base, frame.port, bytes, from, to)?;
-    Ok(WrongFrame {
+    let wrong = WrongFrame {
         number,
         port: frame.port,
         sent_line: frame.sent + 1,
@@ -116,7 +126,8 @@ pub(crate) fn wrong_frame<'a>(
         at_least: from,
         at_most: to,
         runs,
-    })
+    };
+    Ok((wrong, versions))
 }
 
 /// What is said of a wrong reply, which comes behind the events that were walked.

@@ -8,11 +8,13 @@ ghost use Rattle.bench_judge.specs.Walk.{AreSound};
 
 use crate::fault::JudgeFault;
 use crate::judgement::{Deviations, Findings, Judgement};
-use crate::judging::judge_events;
+use crate::judging::{Judged, judge_events};
+use crate::known::Known;
+use crate::reading::{events_in, events_of};
 use crate::settings::JudgeSettings;
 use crate::terms::Terms;
 use crate::watch::Watch;
-use bench_history::{Event, HistoryFault, Pieces, read_history};
+use bench_history::{Event, Pieces};
 use omci_msg::Request;
 use std::alloc::{AllocError, Global};
 
@@ -43,9 +45,15 @@ fn find_all<'a, W: Watch>(
     ensures { IfOk result (IsFindings (terms_of terms.now) most events.entry.items) }
 {
     let mut events = events;
+    let mut known = Known::nothing(alloc);
     let mut list = Vec::new(alloc);
     'each_deviation: loop {
-        match judge_events(alloc, &events, terms, watch)? {
+        let Judged {
+            judgement,
+            known: next,
+        } = judge_events(alloc, &events, terms, &known, watch)?;
+        known = next;
+        match judgement {
             Judgement::Explained(explanation) if list.is_empty() => {
                 return Ok(Findings::Explained(explanation));
             }
@@ -71,8 +79,9 @@ fn find_all<'a, W: Watch>(
 /// answered or left out before has, the reply isn't there. Else it counts as the reply to the next request.
 ///
 /// The list has at most `most` deviations, and [`Deviations::more`] says whether it was cut. An explained history is
-/// [`Findings::Explained`], whatever `most` is. Each deviation takes as much time as a judgement, and so does the search behind the last
-/// one. Memory is as that of a judgement.
+/// [`Findings::Explained`], whatever `most` is. For each deviation the events are walked and the versions gone through as for a judgement,
+/// and once more behind the last one; but a frame before the last deviation is not compared again with what was seen of it, where it may
+/// have the version that was found for it. Memory is as that of a judgement.
 ///
 /// [`JudgeFault::BadLine`] comes exactly where a line is bad, with the number of the first; [`JudgeFault::NoMemory`] where a request for
 /// memory is refused.
@@ -87,11 +96,7 @@ pub fn judge_all<'a, W: Watch>(
     ensures found { IfOk result (AreFindings settings.now start.now most history.now) }
     ensures fault { IfErr result (IsWhyUnjudged history.now) }
 {
-    let events = match read_history(alloc, history) {
-        Ok(events) => events,
-        Err(HistoryFault::BadLine(number)) => return Err(JudgeFault::BadLine(number)),
-        Err(HistoryFault::NoMemory) => return Err(JudgeFault::NoMemory),
-    };
+    let events = events_of(alloc, history, watch)?;
     let terms = Terms {
         settings: *settings,
         start,
@@ -114,11 +119,7 @@ pub fn judge_all_pieces<'a, W: Watch>(
     ensures found { IfOk result (AreFindings settings.now start.now most history.now) }
     ensures fault { IfErr result (IsWhyUnjudged history.now) }
 {
-    let events = match history.read(alloc) {
-        Ok(events) => events,
-        Err(HistoryFault::BadLine(number)) => return Err(JudgeFault::BadLine(number)),
-        Err(HistoryFault::NoMemory) => return Err(JudgeFault::NoMemory),
-    };
+    let events = events_in(alloc, history, watch)?;
     let terms = Terms {
         settings: *settings,
         start,

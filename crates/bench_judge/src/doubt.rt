@@ -2,12 +2,13 @@
 //! only where none of the frames may have that one all versions are gone through.
 ghost use Rattle.std.specs.Prelude.{Some, Decides, IfOk};
 ghost use Rattle.bench_history.specs.declared.event.Event.TheVariants.{Left as TheLeft};
-ghost use Rattle.bench_judge.specs.Doubt.{IsLatest, IsSomeAt, IsSomeOf, LeavesSo, MayBeAt};
+ghost use Rattle.bench_judge.specs.Doubt.{IsLatest, IsSomeAt, IsSomeOf, MayBeAt};
 
 use crate::fitting::advance;
-use crate::frame::{Case, Frame};
+use crate::frame::Case;
+use crate::seeing::leaves_so;
 use bench_history::{Among, Event, Extent, SeenGem};
-use bench_sight::{Buffers, ends_as};
+use bench_sight::Buffers;
 use forward_plan::Live;
 use std::alloc::{AllocError, Global};
 
@@ -26,30 +27,6 @@ pub(crate) struct Doubtful<'e, 'a> {
     pub(crate) gem: SeenGem,
     pub(crate) extent: Extent,
     pub(crate) among: &'e Among<'a>,
-}
-
-/// Whether by these entities a frame leaves as one was seen to.
-fn leaves_so(
-    live: &Live,
-    padded: bool,
-    events: &[Event<'_>],
-    frame: &Frame,
-    seen: &Event<'_>,
-    buffers: &mut Buffers,
-) -> bool
-    ensures { Decides result (LeavesSo padded events.now frame.now seen.now live.now) }
-{
-    let Some(
-        Event::Entered {
-            port,
-            extent,
-            frame: sent,
-        },
-    ) = events.get(frame.sent)
-    else {
-        return false;
-    };
-    ends_as(live, padded, *port, *extent, sent, seen, buffers)
 }
 
 /// Whether the frame of a number may be the one that was seen, by a version and its entities.

@@ -5,10 +5,12 @@ ghost use Rattle.mib_state.specs.After.{after};
 ghost use Rattle.bench_judge.specs.Alone.{AreHad, AreJoined, IsLate, left_of, version_or};
 ghost use Rattle.bench_judge.specs.Cut.{IsFitted};
 ghost use Rattle.bench_judge.specs.Frames.{AreWithin, Fits};
+ghost use Rattle.bench_judge.specs.Known.{AreHeld};
 ghost use Rattle.bench_judge.specs.Sweep.{NoneFit};
 
 use crate::frame::{Case, Frame};
-use crate::sweep::{may_have, sweep};
+use crate::known::Known;
+use crate::sweep::{may_have_by, sweep};
 use crate::watch::Watch;
 use bench_history::Event;
 use bench_sight::Buffers;
@@ -42,16 +44,22 @@ pub(crate) fn advance(live: &mut Live, requests: &[Request], applied: usize, wan
     applied
 }
 
-/// Tries the last version of the window of a frame.
+/// Tries the version that is known of a frame, or else the last one of its window.
 fn try_last(late: &mut Late, case: &Case<'_, '_>, number: usize)
-    requires { IsLate case.now.padded case.now.events.now case.now.requests.now case.now.frames.now late.old }
+    requires known { AreHeld case.now.padded case.now.events.now case.now.requests.now
+        case.now.frames.now case.now.known.now }
+    requires late { IsLate case.now.padded case.now.events.now case.now.requests.now case.now.frames.now late.old }
     ensures { IsLate case.now.padded case.now.events.now case.now.requests.now case.now.frames.now late.new }
 {
     let Some(frame) = case.frames.get(number) else {
         return;
     };
+    if let Some(version) = case.known.version_of(number, frame) {
+        late.found[number] = Some(version);
+        return;
+    }
     late.applied = advance(&mut late.live, case.requests, late.applied, frame.most);
-    if may_have(
+    if may_have_by(
         &late.live,
         case.padded,
         case.events,
@@ -75,6 +83,8 @@ fn number_ended(event: &Event<'_>) -> Option<u32> {
 
 /// For each frame, by its number, the last version of its window, if it may have that.
 fn last_versions(alloc: Global, case: &Case<'_, '_>) -> Result<Vec<Option<usize>>, AllocError>
+    requires { AreHeld case.now.padded case.now.events.now case.now.requests.now
+        case.now.frames.now case.now.known.now }
     ensures count { IfOk result (λ found. length found.items ≡ length case.now.frames.now) }
     ensures had { IfOk result (λ found. AreHad case.now.padded case.now.events.now case.now.requests.now
         case.now.frames.now found.items) }
@@ -158,7 +168,9 @@ pub(crate) fn versions_alone<W: Watch>(
     hint: &mut usize,
     watch: &mut W,
 ) -> Result<Option<Vec<usize>>, AllocError>
-    requires { AreWithin case.now.requests.now case.now.frames.now }
+    requires within { AreWithin case.now.requests.now case.now.frames.now }
+    requires known { AreHeld case.now.padded case.now.events.now case.now.requests.now
+        case.now.frames.now case.now.known.now }
     ensures { IfOk result (λ found. MatchOption found
         (NoneFit case.now.padded true case.now.events.now case.now.requests.now case.now.frames.now)
         (λ versions. Fits case.now.padded true case.now.events.now case.now.requests.now case.now.frames.now
@@ -170,6 +182,7 @@ pub(crate) fn versions_alone<W: Watch>(
         events: case.events,
         requests: case.requests,
         frames: &left,
+        known: &Known::nothing(alloc),
         padded: case.padded,
         unordered: true,
     };
@@ -187,7 +200,9 @@ pub(crate) fn versions_of<W: Watch>(
     hint: &mut usize,
     watch: &mut W,
 ) -> Result<Option<Vec<usize>>, AllocError>
-    requires { AreWithin case.now.requests.now case.now.frames.now }
+    requires within { AreWithin case.now.requests.now case.now.frames.now }
+    requires known { AreHeld case.now.padded case.now.events.now case.now.requests.now
+        case.now.frames.now case.now.known.now }
     ensures { IfOk result (IsFitted case.now.padded case.now.unordered case.now.events.now case.now.requests.now
         case.now.frames.now) }
 {

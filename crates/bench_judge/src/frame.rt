@@ -1,5 +1,6 @@
 //! What is kept of a frame that was sent, and of all of them.
 
+use crate::known::Known;
 use bench_history::Event;
 use omci_msg::Request;
 
@@ -25,6 +26,8 @@ pub(crate) struct Case<'e, 'a> {
     pub(crate) events: &'e [Event<'a>],
     pub(crate) requests: &'e [Request],
     pub(crate) frames: &'e [Frame],
+    /// Versions that the frames are known to have, so that they needn't be looked at again.
+    pub(crate) known: &'e Known,
     pub(crate) padded: bool,
     pub(crate) unordered: bool,
 }

@@ -2,12 +2,14 @@
 ghost use Rattle.std.specs.Prelude.{◌≡◌, ◌≤◌, ◌<◌, ◌+◌, ℕ, Some, true, false, Decides, IfOk, is_some, length, slice_get, take};
 ghost use Rattle.bench_judge.specs.Cut.{HasChoice, IsGreatestFit, IsTurn};
 ghost use Rattle.bench_judge.specs.Frames.{AreWithin, Fits, FitsLeast};
+ghost use Rattle.bench_judge.specs.Known.{IsKnown};
 ghost use Rattle.bench_judge.specs.Terms.{ground_in, terms_of};
 ghost use Rattle.bench_judge.specs.Walk.{IsWalk};
 ghost use Rattle.bench_judge.specs.declared.frame.Frame.{Frame};
 
 use crate::cut::choice_until;
 use crate::frame::Case;
+use crate::known::Known;
 use crate::sweep::sweep;
 use crate::terms::Terms;
 use crate::walk::Walk;
@@ -43,10 +45,12 @@ pub(crate) fn turn<W: Watch>(
     events: &[Event<'_>],
     walk: &Walk,
     terms: &Terms<'_>,
+    known: &Known,
     hint: usize,
     watch: &mut W,
 ) -> Result<usize, AllocError>
     requires walked { IsWalk (terms_of terms.now) events.now walk.now }
+    requires known { IsKnown (terms_of terms.now) events.now known.now }
     requires none { ¬ (HasChoice (ground_in (terms_of terms.now)) terms.now.settings.padded
         terms.now.settings.unordered (take walk.now.walked events.now)) }
     ensures { IfOk result (λ place. (place < walk.now.walked)
@@ -64,7 +68,7 @@ pub(crate) fn turn<W: Watch>(
         let middle = next_try(low, high, step, hinted_at);
         hinted = hinted.saturating_sub(1);
         let nobody = &mut Nobody;
-        let found = choice_until(alloc, events, walk, terms, middle, &mut hint, nobody)?;
+        let found = choice_until(alloc, events, walk, terms, known, middle, &mut hint, nobody)?;
         if found.is_some() {
             low = middle;
         } else {
@@ -96,6 +100,7 @@ fn fits_from(
         events: case.events,
         requests: case.requests,
         frames: &frames,
+        known: &Known::nothing(alloc),
         padded: case.padded,
         unordered: case.unordered,
     };

@@ -1,8 +1,13 @@
 //! The judgement of a history.
-ghost use Rattle.std.specs.Prelude.{◌≡◌, IfErr, IfOk};
+ghost use Rattle.std.specs.Prelude.{◌≡◌, ◌+◌, IfErr, IfOk, take};
+ghost use Rattle.bench_judge.specs.Cut.{HasChoice};
 ghost use Rattle.bench_judge.specs.Judged.{IsFound, IsJudgement, IsWhyUnjudged};
-ghost use Rattle.bench_judge.specs.Terms.{terms_of};
-ghost use Rattle.bench_judge.specs.Walk.{AreSound};
+ghost use Rattle.bench_judge.specs.Known.{IsKnown};
+ghost use Rattle.bench_judge.specs.declared.fault.JudgeFault.TheVariants.{NoMemory};
+ghost use Rattle.bench_judge.specs.declared.judgement.Deviation.{Deviation as TheDeviation};
+ghost use Rattle.bench_judge.specs.declared.judgement.Judgement.TheVariants.{Deviates as TheDeviates};
+ghost use Rattle.bench_judge.specs.Terms.{ground_in, terms_of};
+ghost use Rattle.bench_judge.specs.Walk.{AreSound, IsWalk};
 
 use crate::counts::{counts, doubtful};
 use crate::cut::choice_until;
@@ -11,24 +16,38 @@ use crate::evidence::{evidence, is_finished};
 use crate::fault::JudgeFault;
 use crate::halving::turn;
 use crate::judgement::{Deviation, Explanation, Judgement, Wrong};
+use crate::known::Known;
+use crate::reading::{events_in, events_of};
 use crate::settings::JudgeSettings;
 use crate::steps::steps;
 use crate::terms::Terms;
-use crate::walk::walk_through;
+use crate::walk::{Walk, walk_through};
 use crate::watch::{Nobody, Stage, Watch};
-use bench_history::{Event, HistoryFault, Pieces, read_history};
+use bench_history::{Event, Pieces};
 use omci_msg::Request;
 use std::alloc::{AllocError, Global};
 
-/// What is found of events.
+/// What is found of events, and versions that the frames may have before the first line that isn't explained.
+#[derive(Drop)]
+pub(crate) struct Judged<'a> {
+    pub(crate) judgement: Judgement<'a>,
+    pub(crate) known: Known,
+}
+
+/// What is found of events, of which something is known.
 pub(crate) fn judge_events<'a, W: Watch>(
     alloc: Global,
     events: &[Event<'a>],
     terms: &Terms<'_>,
+    known: &Known,
     watch: &mut W,
-) -> Result<Judgement<'a>, AllocError>
-    requires { AreSound events.now }
-    ensures { IfOk result (IsFound (terms_of terms.now) events.now) }
+) -> Result<Judged<'a>, AllocError>
+    requires sound { AreSound events.now }
+    requires known { IsKnown (terms_of terms.now) events.now known.now }
+    ensures found { IfOk result (λ judged. IsFound (terms_of terms.now) events.now judged.judgement) }
+    ensures known { IfOk result (λ judged. IsKnown (terms_of terms.now) events.now judged.known) }
+    ensures until { IfOk result (λ judged. (deviation : TheDeviation)
+        → judged.judgement ≡ TheDeviates deviation → deviation.line ≡ judged.known.until + 1) }
 {
     watch.reached(Stage::Read {
         lines: events.len(),
@@ -40,29 +59,94 @@ pub(crate) fn judge_events<'a, W: Watch>(
     });
     let end = walk.walked;
     let mut hint = end;
-    let Some(versions) = choice_until(alloc, events, &walk, terms, end, &mut hint, watch)? else {
-        let place = turn(alloc, events, &walk, terms, hint, watch)?;
-        let frame = wrong_frame(alloc, events, &walk, terms, place)?;
-        return Ok(Judgement::Deviates(Deviation {
-            line: place + 1,
-            wrong: Wrong::Frame(frame),
-        }));
+    let Some(versions) = choice_until(alloc, events, &walk, terms, known, end, &mut hint, watch)?
+    else {
+        return deviates(alloc, events, &walk, terms, known, hint, watch);
     };
     if walk.walked < events.len() {
-        return Ok(Judgement::Deviates(Deviation {
-            line: walk.walked + 1,
-            wrong: wrong_event(alloc, events, walk, terms)?,
-        }));
+        return Ok(Judged {
+            judgement: Judgement::Deviates(Deviation {
+                line: walk.walked + 1,
+                wrong: wrong_event(alloc, events, walk, terms)?,
+            }),
+            known: Known {
+                until: end,
+                versions,
+            },
+        });
     }
     let doubtful = doubtful(alloc, events, walk.frames.len())?;
     let accepted = walk.requests.len() - walk.base;
     let unordered = terms.settings.unordered;
-    Ok(Judgement::Explained(Explanation {
-        counts: counts(events, &walk.frames, accepted, doubtful),
-        steps: steps(alloc, &walk.frames, &versions, unordered, walk.base)?,
-        finished: is_finished(events),
-        evidence: evidence(events, &walk.frames, walk.compared),
-    }))
+    Ok(Judged {
+        judgement: Judgement::Explained(Explanation {
+            counts: counts(events, &walk.frames, accepted, doubtful),
+            steps: steps(alloc, &walk.frames, &versions, unordered, walk.base)?,
+            finished: is_finished(events),
+            evidence: evidence(events, &walk.frames, walk.compared),
+        }),
+        known: Known {
+            until: end,
+            versions,
+        },
+    })
+}
+
+/// What is found of events that were walked, which leave their frames no choice of versions: the first that leaves none.
+fn deviates<'a, W: Watch>(
+    alloc: Global,
+    events: &[Event<'a>],
+    walk: &Walk,
+    terms: &Terms<'_>,
+    known: &Known,
+    hint: usize,
+    watch: &mut W,
+) -> Result<Judged<'a>, AllocError>
+    requires sound { AreSound events.now }
+    requires walked { IsWalk (terms_of terms.now) events.now walk.now }
+    requires known { IsKnown (terms_of terms.now) events.now known.now }
+    requires none { ¬ (HasChoice (ground_in (terms_of terms.now)) terms.now.settings.padded
+        terms.now.settings.unordered (take walk.now.walked events.now)) }
+    ensures found { IfOk result (λ judged. IsFound (terms_of terms.now) events.now judged.judgement) }
+    ensures known { IfOk result (λ judged. IsKnown (terms_of terms.now) events.now judged.known) }
+    ensures until { IfOk result (λ judged. (deviation : TheDeviation)
+        → judged.judgement ≡ TheDeviates deviation → deviation.line ≡ judged.known.until + 1) }
+{
+    let place = turn(alloc, events, walk, terms, known, hint, watch)?;
+    let (frame, versions) = wrong_frame(alloc, events, walk, terms, known, place)?;
+    Ok(Judged {
+        judgement: Judgement::Deviates(Deviation {
+            line: place + 1,
+            wrong: Wrong::Frame(frame),
+        }),
+        known: Known {
+            until: place,
+            versions,
+        },
+    })
+}
+
+/// What is found of the events of a history.
+fn judge_upon<'a, W: Watch>(
+    alloc: Global,
+    events: &[Event<'a>],
+    terms: &Terms<'_>,
+    watch: &mut W,
+) -> Result<Judgement<'a>, JudgeFault>
+    requires { AreSound events.now }
+    ensures found { IfOk result (IsFound (terms_of terms.now) events.now) }
+    ensures fault { IfErr result (λ fault. fault ≡ NoMemory) }
+{
+    let nothing = Known::nothing(alloc);
+    match judge_events(alloc, events, terms, &nothing, watch) {
+        Ok(
+            Judged {
+                judgement,
+                known: _,
+            },
+        ) => Ok(judgement),
+        Err(AllocError) => Err(JudgeFault::NoMemory),
+    }
 }
 
 /// Judges a history: whether a right unit may have behaved so while it was configured.
@@ -122,19 +206,12 @@ pub fn judge_watched<'a, W: Watch>(
     ensures found { IfOk result (IsJudgement settings.now start.now history.now) }
     ensures fault { IfErr result (IsWhyUnjudged history.now) }
 {
-    let events = match read_history(alloc, history) {
-        Ok(events) => events,
-        Err(HistoryFault::BadLine(number)) => return Err(JudgeFault::BadLine(number)),
-        Err(HistoryFault::NoMemory) => return Err(JudgeFault::NoMemory),
-    };
+    let events = events_of(alloc, history, watch)?;
     let terms = Terms {
         settings: *settings,
         start,
     };
-    match judge_events(alloc, &events, &terms, watch) {
-        Ok(judgement) => Ok(judgement),
-        Err(_) => Err(JudgeFault::NoMemory),
-    }
+    judge_upon(alloc, &events, &terms, watch)
 }
 
 /// Does as [`judge_watched`] does, for a history in pieces: its text is what they hold.
@@ -148,17 +225,10 @@ pub fn judge_pieces<'a, W: Watch>(
     ensures found { IfOk result (IsJudgement settings.now start.now history.now) }
     ensures fault { IfErr result (IsWhyUnjudged history.now) }
 {
-    let events = match history.read(alloc) {
-        Ok(events) => events,
-        Err(HistoryFault::BadLine(number)) => return Err(JudgeFault::BadLine(number)),
-        Err(HistoryFault::NoMemory) => return Err(JudgeFault::NoMemory),
-    };
+    let events = events_in(alloc, history, watch)?;
     let terms = Terms {
         settings: *settings,
         start,
     };
-    match judge_events(alloc, &events, &terms, watch) {
-        Ok(judgement) => Ok(judgement),
-        Err(AllocError) => Err(JudgeFault::NoMemory),
-    }
+    judge_upon(alloc, &events, &terms, watch)
 }

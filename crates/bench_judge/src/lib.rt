@@ -16,7 +16,8 @@
 //! its events (frame). A sweep goes once through the versions, with one plan that is followed from version to version, and lets
 //! the next frame of each port take the least that it may have (sweep, seeing). Where a frame finds none, the sweep says where its queue
 //! ended: mostly that is the first line, and two more sweeps show it. Else the line is found by halving, and so is the greatest version
-//! that the frame behind it leaves (halving, bounds). No payload is decoded: digits are compared.
+//! that the frame behind it leaves (halving, bounds). No payload is decoded: digits are compared. Where every deviation is looked for, the
+//! versions that the frames before one were found to have are known for the next, so that their payloads aren't compared again (known).
 #![tactic(auto)]
 
 mod admitting;
@@ -33,7 +34,9 @@ mod frame;
 mod halving;
 mod judgement;
 mod judging;
+mod known;
 mod laws;
+mod reading;
 mod runs;
 mod scene;
 mod seeing;
@@ -53,4 +56,4 @@ pub use judgement::{
 pub use judging::{judge, judge_pieces, judge_watched};
 pub use laws::{law_of_fronts, law_of_least_versions};
 pub use settings::JudgeSettings;
-pub use watch::{Stage, Watch};
+pub use watch::{Nobody, Stage, Watch};

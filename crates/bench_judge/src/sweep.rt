@@ -5,6 +5,7 @@ ghost use Rattle.omci_msg.specs.declared.request.Request.{Request as TheRequest}
 ghost use Rattle.mib_state.specs.After.{after};
 ghost use Rattle.forward_plan.specs.Ports.{port_count};
 ghost use Rattle.bench_judge.specs.Frames.{AreWithin, MayHave};
+ghost use Rattle.bench_judge.specs.Known.{AreHeld};
 ghost use Rattle.bench_history.specs.declared.event.Event.{Event as TheEvent};
 ghost use Rattle.bench_judge.specs.Cut.{IsSwept};
 ghost use Rattle.bench_judge.specs.Sweep.{AreQueuedSoFar, IsSoFar, IsWhole, NoneFit};
@@ -32,7 +33,7 @@ pub(crate) struct SweepState {
 }
 
 /// Whether a frame may have a version, by the entities of that version.
-pub(crate) fn may_have(
+pub(crate) fn may_have_by(
     live: &Live,
     padded: bool,
     events: &[Event<'_>],
@@ -46,6 +47,27 @@ pub(crate) fn may_have(
     frame.least <= version && version <= frame.most && is_seen(live, padded, events, frame, buffers)
 }
 
+/// Whether the frame of a number may have a version, by what is known or by the entities of that version.
+fn may_have(
+    live: &Live,
+    case: &Case<'_, '_>,
+    number: usize,
+    frame: &Frame,
+    version: usize,
+    buffers: &mut Buffers,
+) -> bool
+    requires { AreHeld case.now.padded case.now.events.now case.now.requests.now
+        case.now.frames.now case.now.known.now }
+    ensures { live.now ≡ after (take version case.now.requests.now)
+        → slice_get case.now.frames.now number ≡ Some frame.now
+        → Decides result (MayHave case.now.padded case.now.events.now case.now.requests.now frame.now version) }
+{
+    match case.known.version_of(number, frame) {
+        Some(known) if known == version => true,
+        _ => may_have_by(live, case.padded, case.events, frame, version, buffers),
+    }
+}
+
 /// Gives the frames at the head of a queue a version, one after the other, as long as they may have it. Whether the frame that is at the
 /// head then, if there is one, may have a greater one by its window.
 fn settle(
@@ -57,6 +79,8 @@ fn settle(
 ) -> bool
     requires slot { slot < length sweep.old.waiting.items }
     requires whole { IsWhole case.now.frames.now sweep.old }
+    requires known { AreHeld case.now.padded case.now.events.now case.now.requests.now
+        case.now.frames.now case.now.known.now }
     ensures whole { IsWhole case.now.frames.now sweep.new }
     ensures slots { length sweep.new.waiting.items ≡ length sweep.old.waiting.items }
     ensures so_far { live.now ≡ after (take version case.now.requests.now)
@@ -69,17 +93,10 @@ fn settle(
         case.now.frames.now) }
 {
     'each_head: while let Some(frame) = case.frames.get(sweep.waiting[slot]) {
-        if !may_have(
-            live,
-            case.padded,
-            case.events,
-            frame,
-            version,
-            &mut sweep.buffers,
-        ) {
+        let number = sweep.waiting[slot];
+        if !may_have(live, case, number, frame, version, &mut sweep.buffers) {
             return version < frame.most;
         }
-        let number = sweep.waiting[slot];
         sweep.versions[number] = version;
         sweep.waiting[slot] = sweep.next[number];
     }
@@ -113,6 +130,8 @@ fn settle_all(
     hint: &mut usize,
 ) -> bool
     requires whole { IsWhole case.now.frames.now sweep.old }
+    requires known { AreHeld case.now.padded case.now.events.now case.now.requests.now
+        case.now.frames.now case.now.known.now }
     ensures whole { IsWhole case.now.frames.now sweep.new }
     ensures so_far { live.now ≡ after (take version case.now.requests.now)
         → IsSoFar case.now.padded case.now.unordered case.now.events.now case.now.requests.now
@@ -204,7 +223,9 @@ pub(crate) fn sweep<W: Watch>(
     hint: &mut usize,
     watch: &mut W,
 ) -> Result<Option<Vec<usize>>, AllocError>
-    requires { AreWithin case.now.requests.now case.now.frames.now }
+    requires within { AreWithin case.now.requests.now case.now.frames.now }
+    requires known { AreHeld case.now.padded case.now.events.now case.now.requests.now
+        case.now.frames.now case.now.known.now }
     ensures { IfOk result (IsSwept case.now.padded case.now.unordered case.now.events.now
         case.now.requests.now case.now.frames.now) }
 {

@@ -1,8 +1,10 @@
 //! Who is told how far a judgement is.
 
-/// How far a judgement is. Where every deviation is looked for, the stages come again for each.
+/// How far a judgement is. Where every deviation is looked for, the stages behind the reading come again for each.
 #[derive(Clone, Copy)]
 pub enum Stage {
+    /// The history is read: so many of so many bytes. It is told each 65,536 lines.
+    Reading { bytes: usize, of: usize },
     /// The history was read: so many lines.
     Read { lines: usize },
     /// The events are walked: so many of so many lines. It is told each 65,536 lines.
@@ -25,7 +27,7 @@ pub trait Watch {
 
 /// Nobody is told.
 #[derive(Drop)]
-pub(crate) struct Nobody;
+pub struct Nobody;
 
 impl Watch for Nobody {
     fn reached(&mut self, _stage: Stage) {}

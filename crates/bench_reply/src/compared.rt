@@ -32,15 +32,15 @@ const VALUES_BEGIN: usize = 3;
 
 const VALUES_END: usize = 28;
 
-/// Whether a unit may have another value of an attribute than the model.
-fn is_own(access: Access) -> bool
+/// Whether a unit may have another value of an attribute than the model, by how the attribute is accessed.
+pub fn is_own(access: Access) -> bool
     ensures { result ≡ is_own access }
 {
     access.is_table() || matches!(access, Access::ReadOnly)
 }
 
-/// The number of bytes that the reply to a Get has of an attribute.
-fn returned_width(attribute: &Attribute) -> usize
+/// The number of bytes that the reply to a Get has of an attribute: of a table its size (ITU-T G.988, clause 9.3.13).
+pub fn returned_width(attribute: &Attribute) -> usize
     ensures { result ≡ returned_width attribute.now }
 {
     if attribute.access.is_table() {

@@ -11,6 +11,6 @@ mod compared;
 mod expected;
 mod message;
 
-pub use compared::Compared;
+pub use compared::{Compared, is_own, returned_width};
 pub use expected::{Expected, has_head_of, is_reply_to};
 pub use message::{message_bytes, read_answered, read_asked};

@@ -21,10 +21,10 @@ pub use captures::{
 pub use files::{open_named, read_whole, refuse_twice, report_file, report_unread};
 pub use fronted::Marked;
 pub use outputs::{Output, Taken, create_output};
-pub use pieces::{Capture, History, read_capture, read_history};
+pub use pieces::{Capture, History, HistoryFile, read_capture};
 pub use reports::{report_decoding, report_text, report_value, without_memory};
 pub use script_input::{ScriptInput, open_script};
-pub use several::{OverFile, over_files};
+pub use several::{OverFile, over_files, shown_name};
 pub use traces::{
     Linted, apply_linted, apply_trace, read_trace, report_bad_line, report_until, trace_of,
 };

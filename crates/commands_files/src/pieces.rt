@@ -1,5 +1,6 @@
 //! A large file read by several threads, each into memory of its own.
 use crate::files::{open_named, read_open};
+use crate::written::drop_mark;
 use bench_pcapng::is_pcapng;
 use capture_pieces::{OVERLAP, Pieces};
 use std::alloc::Global;
@@ -9,7 +10,6 @@ use std::os::unix::fs::FileExt;
 use std::rt::Files;
 use std::thread::Threads;
 use std::{io, thread};
-use text_encode::without_mark;
 
 /// From how many bytes on a file is read by several threads.
 const LARGE: u64 = 1 << 23;
@@ -120,27 +120,41 @@ pub enum History {
     Whole(Vec<u8>),
 }
 
-/// Drops the byte order mark in front of a text.
-fn drop_mark(text: &mut Vec<u8>) {
-    let len = text.len();
-    let left = without_mark(text).len().min(len);
-    text.copy_within(len - left..len, 0);
-    text.truncate(left);
+/// The open file of a history.
+#[derive(Drop)]
+pub struct HistoryFile {
+    file: File,
+    is_large: bool,
 }
 
-/// The history in a file. It is opened once too.
-pub fn read_history<R: Files<File = File> + Alloc<A = Global> + Threads + Sync>(
-    rt: &R,
-    path: &str,
-) -> io::Result<History> {
-    let mut file = open_named(rt, path)?;
-    if is_large(&file)? {
-        let mut parts = read_parts(rt, &file)?;
+impl HistoryFile {
+    /// Opens the file. It is opened once too.
+    pub fn open<R: Files<File = File> + Alloc<A = Global>>(
+        rt: &R,
+        path: &str,
+    ) -> io::Result<HistoryFile> {
+        let file = open_named(rt, path)?;
+        Ok(HistoryFile {
+            is_large: is_large(&file)?,
+            file,
+        })
+    }
+
+    /// Whether it may take long to read it.
+    pub fn is_large(&self) -> bool {
+        self.is_large
+    }
+
+    /// The history in it.
+    pub fn read<R: Alloc<A = Global> + Threads + Sync>(&mut self, rt: &R) -> io::Result<History> {
+        if !self.is_large {
+            return Ok(History::Whole(read_open(rt.alloc(), &mut self.file)?));
+        }
+        let mut parts = read_parts(rt, &self.file)?;
         if let Some(first) = parts.first_mut() {
             drop_mark(first);
         }
         let pieces = bench_history::Pieces::join(rt.alloc(), parts)?;
-        return Ok(History::InPieces(pieces));
+        Ok(History::InPieces(pieces))
     }
-    Ok(History::Whole(read_open(rt.alloc(), &mut file)?))
 }

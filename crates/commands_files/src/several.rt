@@ -48,6 +48,11 @@ fn named(alloc: Global, before: &[u8], name: &str, behind: &[u8]) -> Result<Vec<
     Ok(text)
 }
 
+/// A name as it is shown in a line: with each control character as a question mark.
+pub fn shown_name(alloc: Global, name: &str) -> Result<Vec<u8>, AllocError> {
+    named(alloc, b"", name, b"")
+}
+
 /// The front of an object whose first key is the file's.
 fn front_of_object(alloc: Global, name: &str) -> Result<Vec<u8>, AllocError> {
     let mut object = Writer::new(Vec::new(alloc));

@@ -33,19 +33,25 @@ pub fn lines_until(text: &[u8], number: u64) -> &[u8] {
     &text[..text.len().saturating_sub(rest.len())]
 }
 
-/// A text without the byte order mark in front of it.
-fn unmarked(mut text: Vec<u8>) -> Vec<u8> {
+/// Drops the byte order mark in front of a text. Without one nothing is copied.
+pub(crate) fn drop_mark(text: &mut Vec<u8>) {
     let len = text.len();
-    let left = without_mark(&text).len().min(len);
-    text.copy_within(len - left..len, 0);
-    text.truncate(left);
-    text
+    let left = without_mark(text).len().min(len);
+    if left < len {
+        text.copy_within(len - left..len, 0);
+        text.truncate(left);
+    }
 }
 
 /// The script that a text in words asks for, whose mistakes are written to `err`; any other text as it is, but for a byte order mark.
-pub fn script_of<E: Write>(alloc: Global, text: Vec<u8>, err: &mut E) -> Result<Vec<u8>, Status> {
+pub fn script_of<E: Write>(
+    alloc: Global,
+    mut text: Vec<u8>,
+    err: &mut E,
+) -> Result<Vec<u8>, Status> {
     if !is_in_words(&text) {
-        return Ok(unmarked(text));
+        drop_mark(&mut text);
+        return Ok(text);
     }
     let mut script = Vec::new(alloc);
     let mut words: &[u8] = &text;

@@ -5,10 +5,10 @@ use crate::progress::Shown;
 use crate::start::start_of;
 use bench_judge::JudgeFault;
 use command_words::JudgeWords;
-use commands_files::{History, read_history, read_whole, refuse_twice, report_unread};
+use commands_files::{History, HistoryFile, read_whole, refuse_twice, report_unread};
 use std::alloc::Global;
 use std::fs::File;
-use std::io::{ErrorKind, IsTerminal, Read, Write};
+use std::io::{self, ErrorKind, IsTerminal, Read, Write};
 use std::rt::Files;
 use std::thread::Threads;
 use text_writing::{LookFault, Status, report_look};
@@ -41,16 +41,32 @@ fn say_waiting<I: IsTerminal, E: Write>(name: &str, words: &[u8], input: &I, err
     }
 }
 
+/// The history in a file. While a large one is read, a terminal says so.
+fn read_file<R: Files<File = File> + Alloc<A = Global> + Threads + Sync, E: Write + IsTerminal>(
+    rt: &R,
+    path: &str,
+    err: &mut E,
+) -> io::Result<History> {
+    let mut file = HistoryFile::open(rt, path)?;
+    let mut shown = Shown::new(err);
+    if file.is_large() {
+        shown.begin();
+    }
+    let history = file.read(rt);
+    shown.end();
+    history
+}
+
 /// The history that the words name, or the status where it can't be had; why is written to `err`.
 fn history_of<
     R: Files<File = File> + Alloc<A = Global> + Threads + Sync,
     I: Read + IsTerminal,
-    E: Write,
+    E: Write + IsTerminal,
 >(rt: &R, file: Option<&str>, input: &mut I, err: &mut E) -> Result<History, Status> {
     let said = b"reading a history from this terminal, up to its end (Ctrl-D)\n";
     say_waiting(file.unwrap_or(STANDARD_INPUT), said, input, err);
     match file {
-        Some(path) => match read_history(rt, path) {
+        Some(path) => match read_file(rt, path, err) {
             Ok(history) => Ok(history),
             Err(error) => Err(report_unread(&error, b"cannot read history\n", path, err)),
         },

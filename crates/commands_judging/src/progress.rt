@@ -6,6 +6,12 @@ use text_writing::ProgressLine;
 /// The least number of lines of a history that takes long enough to be watched.
 const LONG: usize = 50_000;
 
+/// The least number of bytes of a text that takes long enough to read to be watched.
+const LONG_TEXT: usize = 1 << 23;
+
+/// How many bytes are a megabyte.
+const MEGABYTE: usize = 1_000_000;
+
 /// Into how many parts a stage is cut: the line is written anew with each of them.
 const PARTS: usize = 100;
 
@@ -41,6 +47,15 @@ impl<'e, E: Write + IsTerminal> Shown<'e, E> {
         }
     }
 
+    /// The text of the history is read from its file.
+    pub fn begin(&mut self) {
+        if self.err.is_terminal() {
+            self.line.begin(self.err);
+            let _ = self.err.write_all(b"reading the history");
+            self.line.end(self.err);
+        }
+    }
+
     /// The line is gone.
     pub fn end(&mut self) {
         self.line.remove(self.err);
@@ -49,6 +64,7 @@ impl<'e, E: Write + IsTerminal> Shown<'e, E> {
     /// Whether a stage is to be shown: it is another one than before, or has come to another part.
     fn is_news(&mut self, stage: Stage) -> bool {
         let part = match stage {
+            Stage::Reading { bytes, of } => Some(part_of(bytes, of)),
             Stage::Walking { lines, of } => Some(part_of(lines, of)),
             Stage::Sweeping { versions, of } => Some(part_of(versions, of)),
             Stage::Read { .. } | Stage::Walked { .. } | Stage::Halving { .. } => None,
@@ -63,7 +79,10 @@ impl<'e, E: Write + IsTerminal> Shown<'e, E> {
         match stage {
             Stage::Read { .. } => self.halved = None,
             Stage::Halving { lines } => self.halved = Some(lines),
-            Stage::Walking { .. } | Stage::Walked { .. } | Stage::Sweeping { .. } => {}
+            Stage::Reading { .. }
+            | Stage::Walking { .. }
+            | Stage::Walked { .. }
+            | Stage::Sweeping { .. } => {}
         }
     }
 
@@ -74,6 +93,12 @@ impl<'e, E: Write + IsTerminal> Shown<'e, E> {
             let _ = write!(self.err, "not explained: one of {lines} lines");
         }
         let _ = match stage {
+            Stage::Reading { bytes, of } => write!(
+                self.err,
+                "{} of {} MB: lines",
+                bytes / MEGABYTE,
+                of / MEGABYTE
+            ),
             Stage::Read { lines } => write!(self.err, "{lines} lines: replies"),
             Stage::Walking { lines, of } => write!(self.err, "{lines} of {of} lines: replies"),
             Stage::Walked { frames, requests } => write!(
@@ -92,8 +117,10 @@ impl<'e, E: Write + IsTerminal> Shown<'e, E> {
 
 impl<E: Write + IsTerminal> Watch for Shown<'_, E> {
     fn reached(&mut self, stage: Stage) {
-        if let Stage::Read { lines } = stage {
-            self.shows = lines >= LONG && self.err.is_terminal();
+        match stage {
+            Stage::Reading { of, .. } => self.shows = of >= LONG_TEXT && self.err.is_terminal(),
+            Stage::Read { lines } => self.shows = lines >= LONG && self.err.is_terminal(),
+            _ => {}
         }
         if self.shows {
             self.note(stage);

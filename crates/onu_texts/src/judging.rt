@@ -5,7 +5,7 @@ ghost use Rattle.onu_texts.specs.Judging.{IsFoundIn, IsSaidOf, JudgesBehind, Jud
 
 use crate::room::put;
 use bench_judge::{
-    Deviations, Findings, JudgeFault, JudgeSettings, Judgement, Stage, Watch, judge, judge_all,
+    Deviations, Findings, JudgeFault, JudgeSettings, Judgement, Nobody, judge, judge_all,
 };
 use bench_start::read_start;
 use omci_msg::Request;
@@ -58,14 +58,6 @@ fn settings_in(flags: u32) -> Option<JudgeSettings>
         padded: has_flag(flags, 3),
         repeats: has_flag(flags, 5),
     })
-}
-
-/// Nobody is told how far a judgement is.
-#[derive(Drop)]
-struct Nobody;
-
-impl Watch for Nobody {
-    fn reached(&mut self, _stage: Stage) {}
 }
 
 /// What was found: that a history is explained, or its first deviation; or the first deviations of those that it has.

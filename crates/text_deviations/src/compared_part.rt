@@ -1,23 +1,12 @@
 //! The part of a reply that is compared with the model's.
-use crate::reply_comparison::returned_width;
-use bench_reply::Compared;
-use managed_entity::{Access, layout_of, names};
+use bench_reply::{Compared, is_own, returned_width};
+use managed_entity::{layout_of, names};
 use omci_msg::Reply;
 
 /// Where the values stand among the contents of the reply to a Get, and where they end (ITU-T G.988, annex A).
 const VALUES: usize = 3;
 
 const VALUES_END: usize = 28;
-
-/// Whether a unit may have a value of its own of the attribute at a place of a class.
-fn is_own(class: u16, place: usize) -> bool {
-    match layout_of(class).get(place) {
-        Some(attribute) => {
-            attribute.access.is_table() || matches!(attribute.access, Access::ReadOnly)
-        }
-        None => false,
-    }
-}
 
 /// Puts the model's bytes into contents, from one place to before another.
 fn put_model(contents: &mut [u8; 32], model: &[u8; 32], from: usize, to: usize) {
@@ -33,10 +22,12 @@ fn put_own_values(contents: &mut [u8; 32], model: &[u8; 32], class: u16, mask: u
     let mut from = VALUES;
     for place in 0..16 {
         if names(mask, place)
-            && let Some(width) = returned_width(class, place)
+            && let Some(attribute) = layout_of(class).get(place)
         {
-            let to = from.saturating_add(width).min(VALUES_END);
-            if is_own(class, place) {
+            let to = from
+                .saturating_add(returned_width(attribute))
+                .min(VALUES_END);
+            if is_own(attribute.access) {
                 put_model(contents, model, from, to);
             }
             from = to;

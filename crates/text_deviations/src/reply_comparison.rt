@@ -1,11 +1,9 @@
 //! What tells a reply that was seen from the model's, found.
 use crate::bytes_difference::BytesDifference;
 use crate::reply_difference::ReplyDifference;
+use bench_reply::returned_width;
 use managed_entity::{descriptions_of, layout_of, names};
 use omci_msg::{Action, Reply};
-
-/// How many bytes the size of a table has, which a Get returns in place of its entries (ITU-T G.988, clause 9.3.13).
-const TABLE_SIZE: usize = 4;
 
 /// What tells a reply that was seen from the model's: its head, its result, a mask, an attribute, or other contents.
 pub(crate) fn reply_difference<'j>(
@@ -155,7 +153,7 @@ fn attribute_difference<'j>(seen: &'j Reply, model: &'j Reply) -> Option<ReplyDi
     for place in 0..16 {
         if names(mask, place) {
             let attribute = descriptions_of(model.class).get(place)?;
-            let width = returned_width(model.class, place)?;
+            let width = returned_width(layout_of(model.class).get(place)?);
             if values.get(..width)? != wanted.get(..width)? {
                 return Some(ReplyDifference::Attribute {
                     attribute,
@@ -167,15 +165,6 @@ fn attribute_difference<'j>(seen: &'j Reply, model: &'j Reply) -> Option<ReplyDi
         }
     }
     None
-}
-
-/// How many bytes a Get returns of the attribute at a place of a class, or None where the class hasn't so many.
-pub(crate) fn returned_width(class: u16, place: usize) -> Option<usize> {
-    let attribute = layout_of(class).get(place)?;
-    if attribute.access.is_table() {
-        return Some(TABLE_SIZE);
-    }
-    Some(usize::from(attribute.width))
 }
 
 /// Where the contents differ, by their places from 0.

@@ -3,7 +3,9 @@ use Rattle.bench_history.specs.declared.event.Event.TheVariants.{Entered}
 use Rattle.bench_judge.specs.Cut.{IsFitted, Suits, until}
 use Rattle.bench_judge.specs.Frames.{Fits}
 use Rattle.bench_judge.specs.Judged.{IsEndAs}
-use Rattle.bench_judge.proofs.Endings.{bounded, cut_long, ends, event_is, f, frame_is, most_left, most_within, not_none, number_is, number_within, sent_at, sent_within, wrong_frame_by}
+use Rattle.bench_judge.specs.Known.{AreHeld}
+use Rattle.bench_judge.proofs.Held.{held_until}
+use Rattle.bench_judge.proofs.Endings.{bounded, choice_before, cut_long, ends, event_is, f, frame_is, most_left, most_within, not_none, number_is, number_within, sent_at, sent_within, wrong_frame_by}
 use Rattle.bench_judge.proofs.Found.{base_within_all}
 use Rattle.bench_judge.proofs.Lists.{read_is}
 use Rattle.bench_judge.specs.Terms.{terms_of}
@@ -22,8 +24,8 @@ index-requires c =
     c.ended_by-number.result number in
     omega (arith, under, c.args.walk.now.frames.ok)
 
-pub versions_of-requires : goal.versions_of-requires
-versions_of-requires c =
+pub versions_of-requires-clause-within : goal.versions_of-requires-clause-within
+versions_of-requires-clause-within c =
     bounded (terms_of c.args.terms.now) c.args.events.now c.args.walk.now c.args.place c.requires.sound c.requires.walked c.requires.within c.requires.turn
     c.deref-2.result.now c.deref-3.result.now c.deref-2.ensures.value (c.deref-3.ensures.value ∙ c.in_ok-frames.ensures ∙ ap (map (until c.args.place)) c.deref.ensures.value)
 
@@ -91,8 +93,8 @@ runs-requires c =
     let all = ap (λ l. length l) c.deref-6.ensures.value in
     omega (arith, most, left, same, low, all, c.saturating_sub-to.ensures)
 
-pub overflow_add-result : goal.overflow_add-result
-overflow_add-result c =
+pub overflow_add-wrong : goal.overflow_add-wrong
+overflow_add-wrong c =
     let number = number_is (terms_of c.args.terms.now) c.args.events.now c.args.walk.now c.args.place c.requires.sound c.requires.walked c.requires.within c.requires.turn
     c.index-events-place.result c.ended_by-number.result c.index-events-place.is c.ended_by-number.ensures in
     let frame = frame_is (terms_of c.args.terms.now) c.args.events.now c.args.walk.now c.args.place c.requires.sound c.requires.walked c.requires.within c.requires.turn
@@ -112,8 +114,8 @@ offset_bounds-events-frame c =
     let under : c.index.result.now.sent < length c.args.events.now = omega (arith, before, c.requires.within, c.requires.walked.within) in
     search rules
 
-pub returns : goal.returns
-returns c =
+pub returns-clause-frame : goal.returns-clause-frame
+returns-clause-frame c =
     let number = number_is (terms_of c.args.terms.now) c.args.events.now c.args.walk.now c.args.place c.requires.sound c.requires.walked c.requires.within c.requires.turn
     c.index-events-place.result c.ended_by-number.result c.index-events-place.is c.ended_by-number.ensures in
     let frame = frame_is (terms_of c.args.terms.now) c.args.events.now c.args.walk.now c.args.place c.requires.sound c.requires.walked c.requires.within c.requires.turn
@@ -138,3 +140,19 @@ at_most-requires-clause-fits c =
     let suits : Suits c.args.terms.now.settings.padded c.args.terms.now.settings.unordered c.args.events.now c.deref-2.result.now c.deref-3.result.now (slice_index c.in-Some.versions.items) =
     subst (IsFitted c.args.terms.now.settings.padded c.args.terms.now.settings.unordered c.args.events.now c.deref-2.result.now c.deref-3.result.now) c.in-Some.is c.in_ok-versions.ensures in
     subst (λ l. Fits c.args.terms.now.settings.padded c.args.terms.now.settings.unordered c.args.events.now c.deref-2.result.now c.deref-3.result.now (slice_index l)) (sym c.deref-5.ensures.value) suits.0
+
+pub returns-clause-versions : goal.returns-clause-versions
+returns-clause-versions c =
+    choice_before (terms_of c.args.terms.now) c.args.events.now c.args.walk.now c.args.place c.requires.sound c.requires.walked c.requires.within c.requires.turn
+    c.deref-2.result.now c.deref-3.result.now c.deref-2.ensures.value (c.deref-3.ensures.value ∙ c.in_ok-frames.ensures ∙ ap (map (until c.args.place)) c.deref.ensures.value)
+    (slice_index c.in-Some.versions.items)
+    (subst (IsFitted c.args.terms.now.settings.padded c.args.terms.now.settings.unordered c.args.events.now c.deref-2.result.now c.deref-3.result.now) c.in-Some.is c.in_ok-versions.ensures)
+
+pub versions_of-requires-clause-known : goal.versions_of-requires-clause-known
+versions_of-requires-clause-known c =
+    let walk = c.args.walk.now in
+    let terms = terms_of c.args.terms.now in
+    subst (λ requests. AreHeld terms.settings.padded c.args.events.now requests c.deref-3.result.now c.args.known.now) (sym c.deref-2.ensures.value)
+    (subst (λ frames. AreHeld terms.settings.padded c.args.events.now walk.requests.items frames c.args.known.now)
+    (sym (c.deref-3.ensures.value ∙ c.in_ok-frames.ensures ∙ ap (map (until c.args.place)) c.deref.ensures.value))
+    (held_until terms c.args.events.now walk c.requires.walked c.args.known.now c.requires.known c.args.place))

@@ -1,11 +1,12 @@
+use Rattle.bench_judge.proofs.Held.{nothing_held}
 use Rattle.bench_judge.proofs.Alone.{alone_none, alone_some, alone_within}
 use Rattle.bench_judge.proofs.fitting.versions_alone.Goals as goal
 
-pub sweep-requires : goal.sweep-requires
-sweep-requires g c =
+pub sweep-requires-clause-within : goal.sweep-requires-clause-within
+sweep-requires-clause-within g c =
     let case = c.args.case.now in
     alone_within case.events.now case.requests.now case.frames.now c.in_ok-left.left.items c.deref-2.result.now c.in_ok-found.found.items c.deref.result.now
-    c.in_ok-found.ensures.count c.deref.ensures.value c.deref-2.ensures.value c.in_ok-left.ensures.each c.in_ok-left.ensures.count c.requires
+    c.in_ok-found.ensures.count c.deref.ensures.value c.deref-2.ensures.value c.in_ok-left.ensures.each c.in_ok-left.ensures.count c.requires.within
 
 pub returns-in-Some : goal.returns-in-Some
 returns-in-Some g c =
@@ -22,3 +23,8 @@ returns g c =
     alone_none case.events.now case.requests.now case.frames.now c.in_ok-left.left.items c.deref-2.result.now c.in_ok-found.found.items c.deref.result.now
     c.in_ok-found.ensures.count c.deref.ensures.value c.deref-2.ensures.value c.in_ok-left.ensures.each c.in_ok-left.ensures.count
     c.in_ok-others.field-0 c.in-None.is c.in_ok-others.ensures
+
+pub sweep-requires-clause-known : goal.sweep-requires-clause-known
+sweep-requires-clause-known g c =
+    let case = c.args.case.now in
+    nothing_held case.events.now case.requests.now c.deref-2.result.now c.nothing.result c.nothing.ensures

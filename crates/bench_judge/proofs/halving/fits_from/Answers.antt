@@ -1,6 +1,7 @@
 use Rattle.std.proofs.Common.{◌≡◌, ℕ, List, get_or, set, slice_get, Some, ap, ap₂, ◌∙◌}
 use Rattle.std.proofs.lemmas.Option.{get_or_from_slice_get}
 use Rattle.bench_judge.specs.declared.frame.Frame.{Frame}
+use Rattle.bench_judge.proofs.Held.{nothing_held}
 use Rattle.bench_judge.proofs.Raised.{raised_decides}
 use Rattle.bench_judge.proofs.halving.fits_from.Goals as goal
 
@@ -17,3 +18,8 @@ returns c =
     raised_decides case.padded case.unordered case.events.now case.requests.now case.frames.now c.args.number held.0 held.1 held.2 c.args.from held.3
     c.deref.result.now c.in_ok-sweep.field-0 c.is_some.result
     (c.deref.ensures.value ∙ ap₂ (λ xs (f : Frame). set xs c.args.number (record f { least = c.args.from })) same read) c.in_ok-sweep.ensures c.is_some.ensures
+
+pub sweep-requires-clause-known : goal.sweep-requires-clause-known
+sweep-requires-clause-known c =
+    let case = c.args.case.now in
+    nothing_held case.events.now case.requests.now c.deref.result.now c.nothing.result c.nothing.ensures

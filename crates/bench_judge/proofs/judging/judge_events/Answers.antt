@@ -1,16 +1,10 @@
 use Rattle.std.proofs.Common.{rules, ◌-◌, ◌<◌, arith, length, refl}
-use Rattle.bench_judge.specs.declared.judgement.Wrong.TheVariants.{Frame}
-use Rattle.bench_judge.proofs.Found.{accepted_all, all_explained, base_within_all, compared_all, count_all, frame_deviates, frames_all, known_all, frames_sent, event_deviates}
+use Rattle.bench_judge.proofs.Found.{accepted_all, all_explained, base_within_all, compared_all, count_all, frames_all, known_all, frames_sent, event_deviates, walked_known}
 use Rattle.bench_judge.specs.Terms.{ground_in, terms_of}
 use Rattle.bench_judge.proofs.judging.judge_events.Goals as goal
 
-pub returns-in_default : goal.returns-in_default
-returns-in_default g c =
-    frame_deviates (terms_of c.args.terms.now) c.args.events.now c.in_ok-walk.walk c.in_ok-walk.ensures c.in_ok-place.place (Frame c.in_ok-frame.frame)
-    c.in_ok-place.ensures.0 c.in_ok-place.ensures.1 c.in_ok-frame.ensures
-
-pub returns-then-walk-events : goal.returns-then-walk-events
-returns-then-walk-events g c =
+pub returns-then-walk-events-clause-found : goal.returns-then-walk-events-clause-found
+returns-then-walk-events-clause-found g c =
     event_deviates (terms_of c.args.terms.now) c.args.events.now c.in_ok-walk.walk c.in_ok-walk.ensures c.in_ok-wrong_event.field-0 c.in_ok-versions.field-0 c.in-Some.versions c.in-Some.is
     c.in_ok-versions.ensures c.if-walk-events.true c.in_ok-wrong_event.ensures
 
@@ -19,8 +13,8 @@ steps-requires g c =
     let small : length c.args.events.now < 18446744073709551616 = search rules in
     record { sent = frames_sent (terms_of c.args.terms.now) c.args.events.now c.in_ok-walk.walk c.in_ok-walk.ensures c.deref-2.result.now c.deref-2.ensures.value small }
 
-pub returns : goal.returns
-returns g c =
+pub returns-clause-found : goal.returns-clause-found
+returns-clause-found g c =
     let terms = terms_of c.args.terms.now in
     all_explained terms c.args.events.now c.in_ok-walk.walk c.in_ok-walk.ensures c.counts.result c.in_ok-steps.field-0 c.in_ok-versions.field-0 c.in-Some.versions
     c.if-walk-events.false c.in-Some.is c.in_ok-versions.ensures
@@ -58,3 +52,11 @@ pub overflow_sub-accepted : goal.overflow_sub-accepted
 overflow_sub-accepted g c =
     let low = base_within_all (terms_of c.args.terms.now) c.args.events.now c.in_ok-walk.walk c.in_ok-walk.ensures in
     omega (arith, low, c.len-4.ensures, c.in_ok-walk.walk.requests.ok.0)
+
+pub returns-then-walk-events-clause-known : goal.returns-then-walk-events-clause-known
+returns-then-walk-events-clause-known g c =
+    walked_known (terms_of c.args.terms.now) c.args.events.now c.in_ok-walk.walk c.in_ok-walk.ensures c.in_ok-versions.field-0 c.in-Some.versions c.in-Some.is c.in_ok-versions.ensures
+
+pub returns-clause-known : goal.returns-clause-known
+returns-clause-known g c =
+    walked_known (terms_of c.args.terms.now) c.args.events.now c.in_ok-walk.walk c.in_ok-walk.ensures c.in_ok-versions.field-0 c.in-Some.versions c.in-Some.is c.in_ok-versions.ensures

@@ -3,6 +3,6 @@ use Rattle.bench_judge.specs.Walk.{AreSound}
 use Rattle.bench_judge.proofs.InOrder.{history_is_sound}
 use Rattle.bench_judge.proofs.judging.judge_watched.Goals as goal
 
-pub judge_events-requires : goal.judge_events-requires
-judge_events-requires g c =
-    subst AreSound (sym c.deref.ensures.value) (history_is_sound c.args.history.now c.in-Ok.events.items c.in-Ok.ensures.events)
+pub judge_upon-requires : goal.judge_upon-requires
+judge_upon-requires g c =
+    subst AreSound (sym c.deref.ensures.value) (history_is_sound c.args.history.now c.in_ok-events.events.items c.in_ok-events.ensures.events)

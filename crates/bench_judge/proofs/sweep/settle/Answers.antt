@@ -50,7 +50,7 @@ each_head-preserved c =
           (λ frame is.
           subst (λ (f : Frame). MayHave c.args.case.now.padded c.args.case.now.events.now c.args.case.now.requests.now f v)
           (same_frame frames c.index.result.now (slice_index waiting slot) c.in-Some.frame.now frame head at is)
-          ((c.may_have.ensures c.args.case.now.requests.now at_version).0 c.if-not-may_have.false))
+          ((c.may_have.ensures at_version (ap (slice_get frames) (number ∙ sym head) ∙ at)).0 c.if-not-may_have.false))
           refl (ap (set waiting slot) behind) (ap (λ (n : ℕ). set old.versions.items n v) number);
     }
 
@@ -113,8 +113,9 @@ returns-then-not-may_have-clause-so_far c at_version was =
     let is = inv.so_far at_version was in
     let new : SweepState = record { next = old.next; waiting = old.waiting; versions = old.versions; buffers = c.may_have.new.buffers } in
     let is_new : IsSoFar padded unordered events requests frames v slot new = record { done = is.done; linked = is.linked; waiting = is.waiting; settled = is.settled; tried = is.tried } in
+    let number : c.index-number.result.now ≡ slice_index waiting slot = c.index-number.ensures ∙ get_or_default_zero waiting slot c.index-number.result.now here in
     let may_not : MayHave padded events requests frame v → ⊥ =
-    (λ may. let yes = (c.may_have.ensures requests at_version).1 may in let is_not = c.if-not-may_have.true in absurd (cc (yes, is_not))) in
+    (λ may. let yes = (c.may_have.ensures at_version (ap (slice_get frames) (number ∙ sym head) ∙ at)).1 may in let is_not = c.if-not-may_have.true in absurd (cc (yes, is_not))) in
     elim (leb_tells (suc v) frame.most) [
       | inl goes_on ↦
           subst (λ (b : Bool). MatchBool b (IsSoFar padded unordered events requests frames v (suc slot) new) (NoneFit padded unordered events requests frames)) (sym goes_on.0)

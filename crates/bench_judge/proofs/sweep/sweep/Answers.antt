@@ -35,4 +35,4 @@ returns g c =
     let inv = c.loop-before.invariant in
     let all : c.loop-before.before ≡ length c.args.case.now.requests.now = omega arith in
     let so_far = subst (λ (v : ℕ). IsSoFar c.args.case.now.padded c.args.case.now.unordered c.args.case.now.events.now c.args.case.now.requests.now c.args.case.now.frames.now v (length c.loop-before.sweep.waiting.items) c.loop-before.sweep) all inv.so_far in
-    all_done c.args.case.now.unordered c.args.case.now.events.now c.args.case.now.requests.now c.args.case.now.frames.now c.loop-before.sweep so_far c.requires inv.whole.versions
+    all_done c.args.case.now.unordered c.args.case.now.events.now c.args.case.now.requests.now c.args.case.now.frames.now c.loop-before.sweep so_far c.requires.within inv.whole.versions

@@ -2,7 +2,7 @@ use Rattle.std.proofs.Common.{◌≡◌, ◌∙◌, ◌<◌, Some, ap, sym, refl
 use Rattle.std.proofs.lemmas.Bool.{ltb-true}
 use Rattle.std.proofs.lemmas.Option.{slice_get_read}
 use Rattle.bench_judge.proofs.Doubted.{leaves_decides}
-use Rattle.bench_judge.proofs.doubt.leaves_so.Goals as goal
+use Rattle.bench_judge.proofs.seeing.leaves_so.Goals as goal
 
 pub returns : goal.returns
 returns c =
