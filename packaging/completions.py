@@ -7,8 +7,8 @@ import sys
 sys.dont_write_bytecode = True
 from helps import Helps  # noqa: E402
 
-# Options of `record` that are given once; the others may be given several times.
-RECORD_ONCE = ("--wait", "--lost", "--help")
+# Options of `record` that may be given several times; the others are given once.
+RECORD_OFTEN = ("--omci", "--into", "--out-of", "--tpid", "--skew")
 
 
 def longs(said):
@@ -53,7 +53,7 @@ def zsh_quoted(text):
 
 def zsh_option(name, option):
     action = f":{option.value.lower()}:" + ("_files" if option.takes_file() else " ") if option.value else ""
-    is_repeated = option.value.endswith("=FILE") or name == "record" and option.long not in RECORD_ONCE
+    is_repeated = option.value.endswith("=FILE") or name == "record" and option.long in RECORD_OFTEN
     return f" \\\n            '{'*' if is_repeated else ''}{option.long}[{zsh_quoted(option.help)}]{action}'"
 
 

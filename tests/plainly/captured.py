@@ -8,19 +8,40 @@ def bytes_of(short):
                     for part in short.split("+"))
 
 
+# Which word of a line is bytes.
+BYTES_AT = {"o": 1, "r": 1, "f": 2, "g": 3, "s": 2, "a": 2}
+
+
 def line_of(line):
-    """A line of a history, in which bytes are in short."""
-    if line[0] in "dw":
-        return line
-    front, _, short = line.rpartition(" ")
-    return f"{front} {bytes_of(short).hex()}"
+    """A line of a history, in which bytes are in short. Two dots may stand behind them."""
+    words = line.split(" ")
+    place = BYTES_AT.get(line[0]) if line[1:2] == " " else None
+    if place is not None:
+        short, dots, _ = words[place].partition("..")
+        words[place] = bytes_of(short).hex() + dots
+    return " ".join(words)
 
 
-def said_of(other, unmatched, unwritable):
-    """What `record` says where it passes frames over."""
-    said = [(other, "frames of the management channel hold no OMCI message"),
-            (unmatched, "frames left that no open frame was seen to become"), (unwritable, "frames are longer than a history holds")]
-    return [f"{count} {words}" for count, words in said if count]
+UNWAITED = "without --wait it isn't judged whether what was set by a reply is in force for the frames behind it"
+UNLOST = "without --lost it isn't judged whether a frame left that wasn't seen to leave"
+OTHER = "frames of the management channel hold no OMCI message"
+UNREAD = "frames are unread, since too little of them was stored"
+EARLY = "frames left that may have been sent unseen"
+LEFT_OUT = "frames are left out, since a history can't hold them"
+DOUBT = "frames are matched in doubt"
+STRAYS = "frames are strays, which no open frame can be"
+OPEN = "frames are still open"
+
+
+def place_line(name, words, records):
+    """What is said of records of a file, of which ten are named at most."""
+    named = ", ".join(str(record) for record in records[:10]) + (", .." if len(records) > 10 else "")
+    return f"{name}: {len(records)} {words}: record{'' if len(records) == 1 else 's'} {named}"
+
+
+def unjudged(options):
+    """What is said of options that are missing."""
+    return [said for option, said in (("--wait", UNWAITED), ("--lost", UNLOST)) if option not in options]
 
 
 UNTAGGED = bytes_of("AD+0800+4500")
@@ -111,64 +132,177 @@ FORWARDED = [
     ("nothing is counted", PUSHING, 257, [], {"totals": "frames 0\nbytes 0\n", "packets": [], "drops": []}),
 ]
 
-OMCI, INTO, OUT_OF = "--omci", "--into 257", "--out-of 1024"
+OMCI, INTO, OUT_OF, ANY = "--omci", "--into 257", "--out-of 1024", "--out-of any"
 LAST = 2**64 - 1
-NONE = (0, 0, 0)
 AT_ONCE, A_MILLISECOND = ["--wait", "0", "--lost", "0"], ["--wait", "1", "--lost", "1"]
 
-# What it shows, the options, the frames (their times in nanoseconds, where they were captured, and their bytes in short), the lines of the history,
-# and how many frames are passed over: other ones of the management channel, ones without a match, and ones that are too long.
+# What it shows, the options, the frames (their times in nanoseconds, where they were captured, their bytes in short, and how many bytes they had, if
+# that is more), the lines of the history, and what is said beside what isn't judged. A file is named as what was captured there.
 RECORDED = [
-    ("no frame", AT_ONCE, [], [], NONE),
+    ("no frame", AT_ONCE, [], [], []),
     ("all at one time", AT_ONCE,
      [(5, OUT_OF, "AD+0800+01"), (5, INTO, "AD+0800+01"), (5, INTO, "AD+0800+02"), (5, OMCI, "AD+88b5+0001240a010c0401+0*40"),
       (5, OMCI, "AD+88b5+0001440a010c0401+0*40")],
-     ["o 0001440a010c0401+0*40", "f 257 AD+0800+01", "f 257 AD+0800+02", "r 0001240a010c0401+0*40", "w 1", "g 0 1024 AD+0800+01", "d 1"],
-     NONE),
+     ["o 0001440a010c0401+0*40", "f 257 AD+0800+01", "f 257 AD+0800+02", "r 0001240a010c0401+0*40", "w 1", "g 0 1024 AD+0800+01", "l 1"], []),
     ("waits behind later events", A_MILLISECOND,
      [(1000000, OMCI, "AD+88b5+00022f+0*45"), (1, OMCI, "AD+88b5+00012f+0*45"), (1000001, INTO, "AD+0800"), (1000002, OUT_OF, "AD+0800")],
-     ["r 00012f+0*45", "r 00022f+0*45", "f 257 AD+0800", "w 1", "g 0 1024 AD+0800", "w 2"], NONE),
+     ["r 00012f+0*45", "r 00022f+0*45", "f 257 AD+0800", "w 1", "g 0 1024 AD+0800", "w 2"], []),
     ("at the end of all times", A_MILLISECOND,
      [(LAST, OUT_OF, "AD+0800"), (LAST, INTO, "AD+0800"), (LAST - 1, OMCI, "AD+88b5+00012f+0*45"), (LAST, INTO, "AD+0801")],
-     ["r 00012f+0*45", "f 257 AD+0800", "f 257 AD+0801", "w 1", "g 0 1024 AD+0800", "d 1"], NONE),
+     ["r 00012f+0*45", "f 257 AD+0800", "f 257 AD+0801", "w 1", "g 0 1024 AD+0800", "l 1"], []),
     ("tags come and go", [],
      [(1, INTO, "AD+81000064+0800+01"), (2, INTO, "AD+88a80001+81000002+81000003+0800+02"), (3, INTO, "AD+0800+03"),
       (4, OUT_OF, "AD+88a8e005+81000007+0800+03"), (5, "--out-of 65535", "AD+0800+02"), (6, OUT_OF, "AD+0800+01")],
      ["f 257 AD+81000064+0800+01", "f 257 AD+88a80001+81000002+81000003+0800+02", "f 257 AD+0800+03",
-      "g 2 1024 AD+88a8e005+81000007+0800+03", "g 1 65535 AD+0800+02", "g 0 1024 AD+0800+01"], NONE),
+      "g 2 1024 AD+88a8e005+81000007+0800+03", "g 1 65535 AD+0800+02", "g 0 1024 AD+0800+01"], []),
     ("a type that is set", ["--tpid", "9200", "--tpid", "9100"],
      [(1, INTO, "AD+91000001+92000002+81000003+0800+01"), (2, OUT_OF, "AD+81000005+0800+01")],
-     ["f 257 AD+91000001+92000002+81000003+0800+01", "g 0 1024 AD+81000005+0800+01"], NONE),
-    ("and one that isn't", [], [(1, INTO, "AD+91000001+0800+01"), (2, OUT_OF, "AD+0800+01")], ["f 257 AD+91000001+0800+01"], (0, 1, 0)),
+     ["f 257 AD+91000001+92000002+81000003+0800+01", "g 0 1024 AD+81000005+0800+01"], []),
+    ("and one that isn't", [], [(1, INTO, "AD+91000001+0800+01"), (2, OUT_OF, "AD+0800+01")],
+     ["f 257 AD+91000001+0800+01", "s 1024 AD+0800+01"],
+     [f"out-of1024: 1 {STRAYS}: record 1", f"into257: 1 {OPEN}: record 1"]),
     ("another address, another rest, a tag that is cut, and bytes that are no frame", [],
-     [(1, INTO, "AD+0800+01"), (2, OUT_OF, "020000000001020000000003+0800+01"), (3, OUT_OF, "AD+0800+0100"), (4, OUT_OF, "AD+8100+0800"),
-      (5, OUT_OF, "AD+810001"), (6, "--into 0", "0200"), (7, "--out-of 0", "0200")],
-     ["f 257 AD+0800+01", "f 0 0200", "g 1 0 0200"], (0, 4, 0)),
-    ("the first leaves first, and one too many", [],
+     [(1, INTO, "AD+0800+01"), (1, "--into 0", "0200"), (2, OUT_OF, "020000000001020000000003+0800+01"), (3, OUT_OF, "AD+0800+0100"),
+      (4, OUT_OF, "AD+8100+0800"), (5, OUT_OF, "AD+810001"), (7, "--out-of 0", "0200")],
+     ["f 257 AD+0800+01", "f 0 0200", "s 1024 020000000001020000000003+0800+01", "s 1024 AD+0800+0100", "s 1024 AD+8100+0800", "s 1024 AD+810001",
+      "g 1 0 0200"],
+     [f"out-of1024: 4 {STRAYS}: records 1, 2, 3, 4", f"into257: 1 {OPEN}: record 1"]),
+    ("a frame that leaves twice", [], [(1, INTO, "AD+0800+4500"), (2, OUT_OF, "AD+0800+4500"), (3, OUT_OF, "AD+0800+4500")],
+     ["f 257 AD+0800+4500", "g 0 1024 AD+0800+4500", "s 1024 AD+0800+4500"], [f"out-of1024: 1 {STRAYS}: record 2"]),
+    ("one of two leaves", [], [(1, INTO, "AD+0800+4500"), (2, "--into 258", "AD+0800+4500"), (3, OUT_OF, "AD+0800+4500")],
+     ["f 257 AD+0800+4500", "f 258 AD+0800+4500", "a 1024 AD+0800+4500 0 1"],
+     [f"out-of1024: 1 {DOUBT}: record 1", f"into257: 1 {OPEN}: record 1", f"into258: 1 {OPEN}: record 1"]),
+    ("two of one core leave, and one too many", [],
      [(1, INTO, "AD+0800"), (2, INTO, "AD+81000001+0800"), (3, "--out-of 1", "AD+0800"), (4, "--out-of 2", "AD+0800"),
       (5, "--out-of 3", "AD+0800")],
-     ["f 257 AD+0800", "f 257 AD+81000001+0800", "g 0 1 AD+0800", "g 1 2 AD+0800"], (0, 1, 0)),
-    ("in the last moment", A_MILLISECOND, [(7, INTO, "AD+0800"), (1000007, OUT_OF, "AD+0800")], ["f 257 AD+0800", "g 0 1024 AD+0800"], NONE),
-    ("after it was lost", A_MILLISECOND, [(7, INTO, "AD+0800"), (1000008, OUT_OF, "AD+0800")], ["f 257 AD+0800", "d 0"], (0, 1, 0)),
-    ("the first is lost, and the third too", A_MILLISECOND,
-     [(0, INTO, "AD+0800"), (500000, INTO, "AD+0800"), (600000, INTO, "AD+0800"), (1200000, OUT_OF, "AD+0800")],
-     ["f 257 AD+0800", "f 257 AD+0800", "f 257 AD+0800", "d 0", "g 1 1024 AD+0800", "d 2"], NONE),
+     ["f 257 AD+0800", "f 257 AD+81000001+0800", "a 1 AD+0800 0 1", "a 2 AD+0800 0 1", "s 3 AD+0800"],
+     [f"out-of1: 1 {DOUBT}: record 1", f"out-of2: 1 {DOUBT}: record 1", f"out-of3: 1 {STRAYS}: record 1"]),
+    ("a doubtful frame may be the only one that is left", A_MILLISECOND,
+     [(0, INTO, "AD+0800"), (500000, INTO, "AD+0800"), (600000, OUT_OF, "AD+0800"), (1100000, OUT_OF, "AD+0800")],
+     ["f 257 AD+0800", "f 257 AD+0800", "a 1024 AD+0800 0 1", "a 1024 AD+0800 1"], [f"out-of1024: 2 {DOUBT}: records 1, 2"]),
+    ("in the last moment", A_MILLISECOND, [(7, INTO, "AD+0800"), (1000007, OUT_OF, "AD+0800")], ["f 257 AD+0800", "g 0 1024 AD+0800"], []),
+    ("a late frame is a loss and a stray", A_MILLISECOND,
+     [(5, INTO, "AD+0800"), (6, OUT_OF, "AD+0800"), (7, INTO, "AD+0801"), (1000008, OUT_OF, "AD+0801")],
+     ["f 257 AD+0800", "g 0 1024 AD+0800", "f 257 AD+0801", "l 1", "s 1024 AD+0801"], [f"out-of1024: 1 {STRAYS}: record 2"]),
+    ("a frame isn't lost where a capture begins later", A_MILLISECOND, [(7, INTO, "AD+0800"), (1000008, OUT_OF, "AD+0800")],
+     ["f 257 AD+0800", "s 1024 AD+0800"], [f"out-of1024: 1 {STRAYS}: record 1", f"into257: 1 {OPEN}: record 1"]),
+    ("nor where one ends before", A_MILLISECOND,
+     [(5, INTO, "AD+0800"), (6, OUT_OF, "AD+0800"), (7, INTO, "AD+0801"), (1000006, OUT_OF, "AD+81000001+0800"), (0, "--out-of 7", "AD+0809"),
+      (2000000, "--out-of 7", "AD+0809")],
+     ["f 257 AD+0800", "g 0 1024 AD+0800", "f 257 AD+0801", "s 1024 AD+81000001+0800", "s 7 AD+0809"],
+     [f"out-of7: 1 {EARLY}: record 1", f"out-of1024: 1 {STRAYS}: record 2", f"out-of7: 1 {STRAYS}: record 2", f"into257: 1 {OPEN}: record 2"]),
+    ("the first is lost, and two are in doubt until they would be", A_MILLISECOND,
+     [(0, INTO, "AD+0800"), (500000, INTO, "AD+0800"), (600000, INTO, "AD+0800"), (0, OUT_OF, "AD+0809"), (1200000, OUT_OF, "AD+0800"),
+      (1700000, OUT_OF, "AD+0800")],
+     ["f 257 AD+0800", "f 257 AD+0800", "f 257 AD+0800", "l 0", "a 1024 AD+0800 1 2", "s 1024 AD+0800"],
+     [f"out-of1024: 1 {EARLY}: record 1", f"out-of1024: 1 {DOUBT}: record 2", f"out-of1024: 1 {STRAYS}: record 3"]),
+    ("what leaves soon behind the first frame that is sent is no stray", A_MILLISECOND,
+     [(7, INTO, "AD+0800"), (8, OUT_OF, "AD+0800"), (1000007, OUT_OF, "AD+0801"), (1000008, OUT_OF, "AD+0801")],
+     ["f 257 AD+0800", "g 0 1024 AD+0800", "s 1024 AD+0801"], [f"out-of1024: 1 {EARLY}: record 2", f"out-of1024: 1 {STRAYS}: record 3"]),
+    ("a frame that may have left unread isn't lost", A_MILLISECOND,
+     [(0, INTO, "AD+0800"), (0, OUT_OF, "AD+0809"), (500000, OUT_OF, "AD+0800+0*8", 60), (2000000, OUT_OF, "AD+0808")],
+     ["f 257 AD+0800", "s 1024 AD+0808"],
+     [f"out-of1024: 1 {UNREAD}: record 2", f"out-of1024: 1 {EARLY}: record 1", "1 frames are cut by the capture's snap length",
+      f"out-of1024: 1 {STRAYS}: record 3", f"into257: 1 {OPEN}: record 1"]),
+    ("what may have been sent unread is no stray", A_MILLISECOND,
+     [(0, INTO, "AD+0801"), (1, OUT_OF, "AD+0801"), (2000000, INTO, "AD+0800+0*8", 60), (3000000, OUT_OF, "AD+0800"), (3000001, OUT_OF, "AD+0800")],
+     ["f 257 AD+0801", "g 0 1024 AD+0801", "s 1024 AD+0800"],
+     [f"into257: 1 {UNREAD}: record 2", f"out-of1024: 1 {EARLY}: record 2", "1 frames are cut by the capture's snap length",
+      f"out-of1024: 1 {STRAYS}: record 3"]),
+    ("no GEM port is seen", [],
+     [(1, INTO, "AD+0800+01"), (2, INTO, "AD+0800+02"), (3, INTO, "AD+0800+02"), (4, ANY, "AD+0800+01"), (5, ANY, "AD+0800+02"), (6, ANY, "AD+0800+03")],
+     ["f 257 AD+0800+01", "f 257 AD+0800+02", "f 257 AD+0800+02", "g 0 any AD+0800+01", "a any AD+0800+02 1 2", "s any AD+0800+03"],
+     [f"out-ofany: 1 {DOUBT}: record 2", f"out-ofany: 1 {STRAYS}: record 3", f"into257: 2 {OPEN}: records 2, 3"]),
     ("messages", [],
      [(1, OMCI, "AD+88b5+0001440a+0*44"), (2, OMCI, "AD+88b5+0002440a+0*40"), (3, OMCI, "AD+88b5+0003440a+0*39"),
       (4, OMCI, "AD+88b5+0004240a+0*43"), (5, OMCI, "AD+88b5+0005640a+0*50"), (6, OMCI, "AD+88b6+0006440a+0*44"), (7, OMCI, "AD")],
-     ["o 0001440a+0*44", "o 0002440a+0*40", "r 0004240a+0*40", "r 0005640a+0*44"], (3, 0, 0)),
-    # The longest frame that a history holds has 9,990 bytes.
+     ["o 0001440a+0*44", "o 0002440a+0*40", "r 0004240a+0*40", "r 0005640a+0*44"],
+     [f"omci: 2 {OTHER}: records 6, 7", f"omci: 1 {UNREAD}: record 3"]),
+    # Of a frame over 9,989 bytes a history has a front, and so of one over 5,000 that may be one of several.
     ("long frames", A_MILLISECOND,
-     [(1, INTO, "AD+0800+0*9976"), (2, INTO, "AD+0800+0*9977"), (3, OUT_OF, "AD+81000001+0800+0*9976"), (4, INTO, "AD+0800+0*9976"),
-      (5, "--out-of 65535", "AD+0800+0*9976")],
-     ["f 257 AD+0800+0*9976", "f 257 AD+0800+0*9976", "g 1 65535 AD+0800+0*9976"], (0, 0, 2)),
+     [(1, INTO, "AD+0800+0*9975"), (2, INTO, "AD+0800+0*9976"), (3, OUT_OF, "AD+81000001+0800+0*9976"), (4, "--out-of 65535", "AD+0800+0*9975"),
+      (5, INTO, "AD+0800+01+0*4985"), (6, INTO, "AD+0800+01+0*4985"), (7, OUT_OF, "AD+0800+01+0*4985"), (8, OUT_OF, "AD+81000001+0800+01+0*4985")],
+     ["f 257 AD+0800+0*9975", "f 257 AD+0800+0*9975..", "g 1 1024 AD+81000001+0800+0*9971..", "g 0 65535 AD+0800+0*9975",
+      "f 257 AD+0800+01+0*4985", "f 257 AD+0800+01+0*4985", "a 1024 AD+0800+01+0*4985 2 3", "a 1024 AD+81000001+0800+01+0*4981.. 2 3"],
+     [f"out-of1024: 2 {DOUBT}: records 2, 3"]),
+    ("frames that were cut", [],
+     [(1, INTO, "AD+0800+0*9+01", 60), (2, INTO, "AD+0800+0*9+02", 61), (3, INTO, "AD+0800+0*8", 60), (4, OUT_OF, "AD+81000001+0800+0*9+01+02", 64),
+      (5, OUT_OF, "AD+0800+0*9+02+0*37"), (6, OUT_OF, "AD+0800+0*9", 60), (7, OUT_OF, "AD+0800+0*9+03")],
+     ["f 257 AD+0800+0*9+01..", "f 257 AD+0800+0*9+02..", "g 0 1024 AD+81000001+0800+0*9+01+02..", "g 1 1024 AD+0800+0*9+02+0*37",
+      "s 1024 AD+0800+0*9+03"],
+     [f"into257: 1 {UNREAD}: record 3", f"out-of1024: 1 {UNREAD}: record 3", "5 frames are cut by the capture's snap length",
+      f"out-of1024: 1 {STRAYS}: record 4"]),
+    ("a front may be of several frames", [],
+     [(1, INTO, "AD+0800+0*10+01", 60), (2, INTO, "AD+0800+0*10+02", 60), (3, OUT_OF, "AD+0800+0*10", 60), (4, INTO, "AD+0806+0*11"),
+      (5, OUT_OF, "AD+0806+0*10", 60)],
+     ["f 257 AD+0800+0*10+01..", "f 257 AD+0800+0*10+02..", "a 1024 AD+0800+0*10.. 0 1", "f 257 AD+0806+0*11", "g 2 1024 AD+0806+0*10.."],
+     ["4 frames are cut by the capture's snap length", f"out-of1024: 1 {DOUBT}: record 1", f"into257: 2 {OPEN}: records 1, 2"]),
+    ("a whole frame is longer than its front", [],
+     [(1, INTO, "AD+0800+0*9+01"), (2, OUT_OF, "AD+0800+0*9+01", 60), (3, INTO, "AD+0800+0*9+02", 60), (4, OUT_OF, "AD+0800+0*9+02")],
+     ["f 257 AD+0800+0*9+01", "s 1024 AD+0800+0*9+01..", "f 257 AD+0800+0*9+02..", "s 1024 AD+0800+0*9+02"],
+     ["2 frames are cut by the capture's snap length", f"out-of1024: 2 {STRAYS}: records 1, 2", f"into257: 2 {OPEN}: records 1, 2"]),
+    ("zeros at the end of frames", ["--padded"],
+     [(1, INTO, "AD+0800+4500"), (2, OUT_OF, "AD+0800+4500+0*44"), (3, INTO, "AD+0800+4501+0*44"), (4, OUT_OF, "AD+81000001+0800+4501+00")],
+     ["f 257 AD+0800+4500", "g 0 1024 AD+0800+4500+0*44", "f 257 AD+0800+4501+0*44", "g 1 1024 AD+81000001+0800+4501+00"], []),
+    ("zeros that aren't looked past", [], [(1, INTO, "AD+0800+4500"), (2, OUT_OF, "AD+0800+4500+0*44")],
+     ["f 257 AD+0800+4500", "s 1024 AD+0800+4500+0*44"], [f"out-of1024: 1 {STRAYS}: record 1", f"into257: 1 {OPEN}: record 1"]),
+    # The last four bytes are the check sequence, but for messages; of the third frame one of these four was stored, and of the fourth none.
+    ("check sequences", ["--fcs"],
+     [(1, INTO, "AD+0800+4500+01020304"), (2, OUT_OF, "AD+0800+4500+05060708"), (3, INTO, "AD+0800+0*10+01+05", 29),
+      (4, OUT_OF, "AD+0800+0*10+01", 29), (5, INTO, "AD+0800+0*10+02", 30), (6, OMCI, "AD+88b5+0001440a+0*40")],
+     ["f 257 AD+0800+4500", "g 0 1024 AD+0800+4500", "f 257 AD+0800+0*10+01", "g 1 1024 AD+0800+0*10+01", "f 257 AD+0800+0*10+02..",
+      "o 0001440a+0*40"],
+     ["1 frames are cut by the capture's snap length", f"into257: 1 {OPEN}: record 3"]),
+    ("frames that left before they were sent", [],
+     [(0, INTO, "AD+0800+09"), (3200000, INTO, "AD+0800+01"), (3300000, INTO, "AD+0800+02"), (100000, OUT_OF, "AD+0800+01"),
+      (250000, OUT_OF, "AD+81000001+0800+02"), (300000, OUT_OF, "AD+0800+03")],
+     ["f 257 AD+0800+09", "s 1024 AD+0800+01", "s 1024 AD+81000001+0800+02", "s 1024 AD+0800+03", "f 257 AD+0800+01", "f 257 AD+0800+02"],
+     [f"out-of1024: 3 {STRAYS}: records 1, 2, 3", "out-of1024: 2 frames left up to 3.1 ms before they were sent: are the clocks one? --skew",
+      f"into257: 3 {OPEN}: records 1, 2, 3"]),
+    ("their capture's clock set right", ["--skew", "out-of1024=3.1"],
+     [(0, INTO, "AD+0800+09"), (3200000, INTO, "AD+0800+01"), (3300000, INTO, "AD+0800+02"), (100000, OUT_OF, "AD+0800+01"),
+      (250000, OUT_OF, "AD+81000001+0800+02")],
+     ["f 257 AD+0800+09", "f 257 AD+0800+01", "g 1 1024 AD+0800+01", "f 257 AD+0800+02", "g 2 1024 AD+81000001+0800+02"],
+     [f"into257: 1 {OPEN}: record 1"]),
+    ("the other's, by six digits behind the point", ["--skew", "into257=-0.000003"], [(3, INTO, "AD+0800"), (2, OUT_OF, "AD+0800")],
+     ["f 257 AD+0800", "g 0 1024 AD+0800"], []),
+    ("both", ["--skew", "into257=+1", "--skew", "out-of1024=0.999999"], [(1, INTO, "AD+0800"), (3, OUT_OF, "AD+0800")],
+     ["f 257 AD+0800", "g 0 1024 AD+0800"], []),
+    # A second before; more than a second before; and one of whose core another was sent before.
+    ("frames that didn't leave soon before they were sent, and one that did", [],
+     [(0, INTO, "AD+0800+04"), (1, INTO, "AD+0800+00"), (2000000000, INTO, "AD+0800+01"), (3000000001, INTO, "AD+0800+02"), (4000000000, INTO, "AD+0800+04"),
+      (3, OUT_OF, "AD+0800+04"), (1000000000, OUT_OF, "AD+0800+01"), (2000000000, OUT_OF, "AD+0800+02"), (3999999999, OUT_OF, "AD+0800+04")],
+     ["f 257 AD+0800+04", "f 257 AD+0800+00", "g 0 1024 AD+0800+04", "s 1024 AD+0800+01", "f 257 AD+0800+01", "s 1024 AD+0800+02", "f 257 AD+0800+02",
+      "s 1024 AD+0800+04", "f 257 AD+0800+04"],
+     [f"out-of1024: 3 {STRAYS}: records 2, 3, 4", "out-of1024: 1 frames left up to 1000 ms before they were sent: are the clocks one? --skew",
+      f"into257: 4 {OPEN}: records 2, 3, 4, 5"]),
+    ("by how much clocks differ", [],
+     [(0, INTO, "AD+0800+09"), (1000000, INTO, "AD+0800+01"), (1000000, INTO, "AD+0800+02"), (1000000, INTO, "AD+0800+03"),
+      (950000, "--out-of 1", "AD+0800+01"), (999000, "--out-of 2", "AD+0800+02"), (999999, "--out-of 3", "AD+0800+03")],
+     ["f 257 AD+0800+09", "s 1 AD+0800+01", "s 2 AD+0800+02", "s 3 AD+0800+03", "f 257 AD+0800+01", "f 257 AD+0800+02", "f 257 AD+0800+03"],
+     [*(f"out-of{gem}: 1 {STRAYS}: record 1" for gem in (1, 2, 3)),
+      *(f"out-of{gem}: 1 frames left up to {by} ms before they were sent: are the clocks one? --skew"
+        for gem, by in ((1, "0.05"), (2, "0.001"), (3, "0.000001"))),
+      f"into257: 4 {OPEN}: records 1, 2, 3, 4"]),
+    ("fronts that left before they were sent", [],
+     [(0, INTO, "AD+0806"), (2000000, INTO, "AD+0800+0*9+01", 60), (2000000, INTO, "AD+0800+0*9+02+03"), (1000000, OUT_OF, "AD+81000001+0800+0*9+01+0*36"),
+      (1500000, OUT_OF, "AD+0800+0*9+02", 25)],
+     ["f 257 AD+0806", "s 1024 AD+81000001+0800+0*9+01+0*36", "s 1024 AD+0800+0*9+02..", "f 257 AD+0800+0*9+01..", "f 257 AD+0800+0*9+02+03"],
+     ["2 frames are cut by the capture's snap length", f"out-of1024: 2 {STRAYS}: records 1, 2",
+      "out-of1024: 2 frames left up to 1 ms before they were sent: are the clocks one? --skew", f"into257: 3 {OPEN}: records 1, 2, 3"]),
+    ("padded frames that left before they were sent", ["--padded"],
+     [(0, INTO, "AD+0806"), (2000000, INTO, "AD+0800+4500"), (1000000, OUT_OF, "AD+0800+4500+0*44"), (1000001, OUT_OF, "AD+0800+4501")],
+     ["f 257 AD+0806", "s 1024 AD+0800+4500+0*44", "s 1024 AD+0800+4501", "f 257 AD+0800+4500"],
+     [f"out-of1024: 2 {STRAYS}: records 1, 2", "out-of1024: 1 frames left up to 1 ms before they were sent: are the clocks one? --skew",
+      f"into257: 2 {OPEN}: records 1, 2"]),
 ]
 
-# Port 257 is made. Then two frames without a tag are sent, of which the first leaves as it came, and the second is lost.
+# Port 257 is made. Then three frames without a tag are sent, of which the first and the third leave as they came, and the second is lost.
 LOST = [
     (10, OMCI, "AD+88b5+0001440a010c04010400800103+0*27+0000002800000000"), (11, OMCI, "AD+88b5+0001240a010c0401+0*32+0000002800000000"),
     (20, OMCI, "AD+88b5+0002440a010a05010401050601+0*27+00000028"), (21, OMCI, "AD+88b5+0002240a010a0501+0*32+00000028"),
     (30, OMCI, "AD+88b5+0003440a00820601010105010501050105010501050105010501010001+0*11+00000028"),
     (31, OMCI, "AD+88b5+0003240a00820601+0*32+00000028"), (40, OMCI, "AD+88b5+0004440a00ab0701020101+0*29+00000028"),
     (41, OMCI, "AD+88b5+0004240a00ab0701+0*32+00000028"), (50, INTO, "AD+0800+4500"), (51, OUT_OF, "AD+0800+4500"), (60, INTO, "AD+0800+4501"),
+    (2000000, INTO, "AD+0800+4502"), (2000001, OUT_OF, "AD+0800+4502"),
 ]

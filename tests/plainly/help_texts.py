@@ -226,15 +226,21 @@ Usage: onuctl record [OPTIONS]
 Options:
       --omci <FILE>        Capture of OMCI frames, in one direction or both [example: omci.pcap]
       --into <PORT=FILE>   Capture of the frames sent into a port [example: 257=up.pcap]
-      --out-of <GEM=FILE>  Capture of the frames that left by a GEM port [example: 1024=gem.pcap]
+      --out-of <GEM=FILE>  Capture of the frames that left by a GEM port, or by any=FILE where it doesn't show which; FILE alone is a pcapng file with an interface named 'gem G' for each GEM port G, as forward --out writes it [example: 1024=gem.pcap]
       --tpid <TPID>        Type of tags beside 8100 and 88a8, in hexadecimal digits [example: 9100]
-      --wait <MS>          A reply is in force for frames this long after it, in milliseconds [example: 100]
-      --lost <MS>          A frame that isn't seen to leave in this time was dropped, in milliseconds [example: 1000]
+      --wait <MS>          A reply is in force for frames this long after it, in milliseconds; without it that isn't judged [example: 100]
+      --lost <MS>          A frame that isn't seen to leave in this time is lost, in milliseconds; a time under the unit's longest delay makes of one late frame an l and an s; without it that isn't judged [example: 1000]
+      --skew <FILE=MS>     Add milliseconds to the times of a capture, a decimal number of either sign, where its clock is another [example: gem.pcap=-0.25]
+      --fcs                Take the check sequence off each frame but those of --omci; has no value [example: --fcs]
+      --padded             Compare frames without the zeros that end them, as a wire pads them; has no value [example: --padded]
+      --sources            Say above each line in which record of which file it was seen; has no value [example: --sources]
+      --out <FILE>         Write the history to this file, with the remarks of --sources; it gets its name once it is whole; - is standard output [example: bench.history]
+      --strict             Write nothing where a frame left in doubt, is a stray, left before it was sent, or is still open; has no value [example: --strict]
   -h, --help               Print help
 
-Captures are files in libpcap's classic format or in pcapng. Each of --omci, --into, --out-of and --tpid may be given several times.
+Captures are files in libpcap's classic format or in pcapng. Each of --omci, --into, --out-of, --tpid and --skew may be given several times.
 Status: 0, 1 or 2; onuctl help statuses says when
-Example: onuctl record --omci omci.pcap --into 257=up.pcap --out-of 1024=gem.pcap | onuctl judge""",
+Example: onuctl record --omci omci.pcap --into 257=up.pcap --out-of 1024=gem.pcap --wait 5 --lost 10 | onuctl judge""",
     "encode": """\
 Make a script of a text in words
 

@@ -136,7 +136,7 @@ placed_alike key z x (y ∷ ys) = here (nat_le (key x) (key y)) refl (placed_ali
         ∙ swapped (key z) (key z == key x) (key z == key y) x y (alike key z ys)
         (λ at_x at_y. omega (arith, leb-false (key x) (key y) found, eqb-true (key z) (key x) at_x, eqb-true (key z) (key y) at_y))
 
-in_order_rises : {X : Type 0} (key : X → ℕ) (xs : List X) → Rises key (in_order key xs)
+pub in_order_rises : {X : Type 0} (key : X → ℕ) (xs : List X) → Rises key (in_order key xs)
 in_order_rises key [] = tt
 in_order_rises key (x ∷ xs) = placed_rises key x (in_order key xs) (in_order_rises key xs)
 

@@ -1,16 +1,17 @@
 -- What is written part by part.
 use Rattle.std.proofs.Common.{◌≡◌, ◌≤◌, ◌<◌, ◌+◌, ◌/◌, ◌%◌, ◌++◌, ◌∷◌, [], ℕ, zero, suc, List, Option, Result, Ok, Err, append_assoc, get_or, length, map, slice_index, take, drop, refl, ap, sym, ◌∙◌, arith, length-append, subst}
 use Rattle.std.specs.Prelude.{OnErr, OnOk}
+use Rattle.std.specs.List.{flat_map}
 use Rattle.std.specs.Io.KnownBytes.{Appends}
 use Rattle.std.proofs.KnownBytes.{Appends-trans}
 use Rattle.std.proofs.lemmas.List.{append-nil, take-append-le}
+use Rattle.std.proofs.lemmas.List.Folds.{flat_map-map}
 use Rattle.std.proofs.Math.ListN.{take-append-drop}
 use Rattle.std.proofs.Math.Seq.{drop-cons, take-append-add}
 use Rattle.hex.specs.Hex.{encode_lower, encode_with, lower_digits}
 use Rattle.text_writing.specs.Written.{AppendsPart}
-use Rattle.bench_record.specs.Text.{bytes_of, event_shown, head_of, line_of, tail_of, text_of, timed_shown}
-use Rattle.bench_record.specs.declared.event.RecordedEvent.{RecordedEvent}
-use Rattle.bench_record.specs.declared.event.RecordedEvent.TheVariants as recorded
+use Rattle.bench_record.specs.Text.{line_of, lines_of, text_of, timed_shown}
+use Rattle.bench_history.specs.declared.event.Event.TheVariants.{Ended}
 use Rattle.bench_record.specs.declared.event.TimedEvent.{TimedEvent}
 
 -- a part behind bytes
@@ -77,82 +78,73 @@ pub all_written : (a b : Option (List ℕ)) (rest bytes : List ℕ) → rest ≡
 all_written a b rest bytes is written =
     subst (Appends a b) (sym (append-nil written.front) ∙ ap (λ xs. written.front ++ xs) (sym (ap encode_lower is ∙ no_digits)) ∙ written.whole) written.so_far
 
--- ---- lines
+-- ---- the texts of elements, one by one
 
--- all of a frame stands in its line
-whole_tail : (event : RecordedEvent) → tail_of (event_shown event) ≡ []
-whole_tail (recorded.Sent message) = refl
-whole_tail (recorded.Replied reply) = refl
-whole_tail (recorded.Entered port frame) = refl
-whole_tail (recorded.Left gem number frame) = refl
-whole_tail (recorded.Dropped number) = refl
-whole_tail (recorded.Waited replies) = refl
-
-pub line_is : (event : RecordedEvent) → head_of (event_shown event) ++ (encode_lower (bytes_of (event_shown event)) ++ 10 ∷ []) ≡ line_of (event_shown event)
-line_is event =
-    ap (λ tail. head_of (event_shown event) ++ (encode_lower (bytes_of (event_shown event)) ++ (tail ++ 10 ∷ []))) (sym (whole_tail event))
-
--- with the lines of the events from one on, the whole text is written
-pub record IsTold (before now : Option (List ℕ)) (i : ℕ) (events : List TimedEvent) : Type 0 where
+-- with the texts of the elements from one on, those of all are written
+pub record IsTold (X : Type 0) (text : X → List ℕ) (before now : Option (List ℕ)) (i : ℕ) (xs : List X) : Type 0 where
   pub front : List ℕ
   pub so_far : Appends before now front
-  pub whole : front ++ text_of (map timed_shown (drop i events)) ≡ text_of (map timed_shown events)
+  pub whole : front ++ flat_map text (drop i xs) ≡ flat_map text xs
 
--- the line of one
-abbrev pub line_at : List TimedEvent → ℕ → TimedEvent → List ℕ
-line_at events i d = line_of (event_shown (get_or events i d).event)
-
-next_line : (events : List TimedEvent) (i : ℕ) (d : TimedEvent) → i < length events
-    → text_of (map timed_shown (drop i events)) ≡ line_at events i d ++ text_of (map timed_shown (drop (i + 1) events))
-next_line events i d within =
+next_text : (X : Type 0) (text : X → List ℕ) (xs : List X) (i : ℕ) (d : X) → i < length xs
+    → flat_map text (drop i xs) ≡ text (get_or xs i d) ++ flat_map text (drop (i + 1) xs)
+next_text X text xs i d within =
     let next : suc i ≡ i + 1 = omega arith in
-    ap (λ (xs : List TimedEvent). text_of (map timed_shown xs)) (drop-cons events i d within)
-    ∙ ap (λ n. line_at events i d ++ text_of (map timed_shown (drop n events))) next
+    ap (λ (ys : List X). flat_map text ys) (drop-cons xs i d within) ∙ ap (λ n. text (get_or xs i d) ++ flat_map text (drop n xs)) next
 
-pub none_told : (a b : Option (List ℕ)) (events : List TimedEvent) → Appends a b [] → IsTold a b 0 events
-none_told a b events nothing = record { front = []; so_far = nothing; whole = refl }
+pub none_told : (X : Type 0) (text : X → List ℕ) (a b : Option (List ℕ)) (xs : List X) → Appends a b [] → IsTold X text a b 0 xs
+none_told X text a b xs nothing = record { front = []; so_far = nothing; whole = refl }
 
-pub more_told : (a b c : Option (List ℕ)) (i : ℕ) (events : List TimedEvent) (d : TimedEvent) → i < length events → IsTold a b i events
-    → Appends b c (line_at events i d) → IsTold a c (i + 1) events
-more_told a b c i events d within told more = record {
-  front = told.front ++ line_at events i d;
-  so_far = Appends-trans a b c told.front (line_at events i d) told.so_far more;
+pub more_told : (X : Type 0) (text : X → List ℕ) (a b c : Option (List ℕ)) (i : ℕ) (xs : List X) (d : X) → i < length xs → IsTold X text a b i xs
+    → Appends b c (text (get_or xs i d)) → IsTold X text a c (i + 1) xs
+more_told X text a b c i xs d within told more = record {
+  front = told.front ++ text (get_or xs i d);
+  so_far = Appends-trans a b c told.front (text (get_or xs i d)) told.so_far more;
   whole =
-      append_assoc told.front (line_at events i d) (text_of (map timed_shown (drop (i + 1) events)))
-      ∙ ap (λ xs. told.front ++ xs) (sym (next_line events i d within)) ∙ told.whole;
+      append_assoc told.front (text (get_or xs i d)) (flat_map text (drop (i + 1) xs))
+      ∙ ap (λ (ys : List ℕ). told.front ++ ys) (sym (next_text X text xs i d within)) ∙ told.whole;
 }
 
-pub part_told : (a b c : Option (List ℕ)) (i : ℕ) (events : List TimedEvent) (d : TimedEvent) → i < length events → IsTold a b i events
-    → AppendsPart b c (line_at events i d) → AppendsPart a c (text_of (map timed_shown events))
-part_told a b c i events d within told part =
-    subst (AppendsPart a c) (ap (λ xs. told.front ++ xs) (sym (next_line events i d within)) ∙ told.whole)
-    (part_behind a b c told.front (line_at events i d ++ text_of (map timed_shown (drop (i + 1) events))) told.so_far
-    (part_before b c (line_at events i d) (text_of (map timed_shown (drop (i + 1) events))) part))
+pub part_told : (X : Type 0) (text : X → List ℕ) (a b c : Option (List ℕ)) (i : ℕ) (xs : List X) (d : X) → i < length xs → IsTold X text a b i xs
+    → AppendsPart b c (text (get_or xs i d)) → AppendsPart a c (flat_map text xs)
+part_told X text a b c i xs d within told part =
+    subst (AppendsPart a c) (ap (λ (ys : List ℕ). told.front ++ ys) (sym (next_text X text xs i d within)) ∙ told.whole)
+    (part_behind a b c told.front (text (get_or xs i d) ++ flat_map text (drop (i + 1) xs)) told.so_far
+    (part_before b c (text (get_or xs i d)) (flat_map text (drop (i + 1) xs)) part))
+
+told_whole : (X : Type 0) (text : X → List ℕ) (a b : Option (List ℕ)) (i : ℕ) (xs : List X) → length xs ≤ i → (told : IsTold X text a b i xs)
+    → told.front ≡ flat_map text xs
+told_whole X text a b i xs past told =
+    sym (append-nil told.front) ∙ ap (λ (ys : List X). told.front ++ flat_map text ys) (sym (drop-past i xs past)) ∙ told.whole
+
+pub all_told : (X : Type 0) (text : X → List ℕ) (a b : Option (List ℕ)) (i : ℕ) (xs : List X) → length xs ≤ i → IsTold X text a b i xs
+    → Appends a b (flat_map text xs)
+all_told X text a b i xs past told = subst (Appends a b) (told_whole X text a b i xs past told) told.so_far
+
+-- a part of what follows
+pub part_last : (X : Type 0) (text : X → List ℕ) (a b c : Option (List ℕ)) (more : List ℕ) (i : ℕ) (xs : List X) → length xs ≤ i → IsTold X text a b i xs
+    → AppendsPart b c more → AppendsPart a c (flat_map text xs ++ more)
+part_last X text a b c more i xs past told part =
+    part_behind a b c (flat_map text xs) more (all_told X text a b i xs past told) part
+
+-- ---- the text of events
 
 -- the line of the end
 abbrev pub last_line : List ℕ
 last_line = 101 ∷ 10 ∷ []
 
-last_is : text_of [] ≡ last_line
+last_is : line_of Ended ≡ last_line
 unfolding encode_with
 last_is = refl
 
--- with that line behind those of all events, the whole text is written
-told_whole : (a b : Option (List ℕ)) (i : ℕ) (events : List TimedEvent) → length events ≤ i → (told : IsTold a b i events)
-    → told.front ++ last_line ≡ text_of (map timed_shown events)
-told_whole a b i events past told =
-    ap (λ xs. told.front ++ xs) (sym last_is)
-    ∙ ap (λ (xs : List TimedEvent). told.front ++ text_of (map timed_shown xs)) (sym (drop-past i events past)) ∙ told.whole
+-- the lines of an event of the program
+abbrev pub lines_at : Option (List (List ℕ)) → TimedEvent → List ℕ
+lines_at names timed = lines_of names (timed_shown timed)
 
-pub all_told : (a b c : Option (List ℕ)) (i : ℕ) (events : List TimedEvent) → length events ≤ i → IsTold a b i events → Appends b c last_line
-    → Appends a c (text_of (map timed_shown events))
-all_told a b c i events past told last =
-    subst (Appends a c) (told_whole a b i events past told) (Appends-trans a b c told.front last_line told.so_far last)
-
-pub last_told : (a b c : Option (List ℕ)) (i : ℕ) (events : List TimedEvent) → length events ≤ i → IsTold a b i events → AppendsPart b c last_line
-    → AppendsPart a c (text_of (map timed_shown events))
-last_told a b c i events past told part =
-    subst (AppendsPart a c) (told_whole a b i events past told) (part_behind a b c told.front last_line told.so_far part)
+pub text_is : (names : Option (List (List ℕ))) (events : List TimedEvent) → flat_map (lines_at names) events ++ last_line ≡ text_of names (map timed_shown events)
+text_is names events =
+    ap (λ (line : List ℕ). flat_map (lines_at names) events ++ line) (sym last_is)
+    ∙ ap (λ (lines : List ℕ). lines ++ line_of Ended) (sym (flat_map-map (lines_of names) timed_shown events))
 
 -- ---- results
 
@@ -167,3 +159,29 @@ err_weaker (Err e) P Q then_so is = then_so is
 pub ok_weaker : {T E : Type 0} (r : Result T E) (P Q : Type 0) → (P → Q) → OnOk r P → OnOk r Q
 ok_weaker (Ok x) P Q then_so is = then_so is
 ok_weaker (Err e) P Q then_so is = tt
+
+-- ---- one text and then another
+
+pub part_first : {T E : Type 0} (r : Result T E) (a b : Option (List ℕ)) (p x y : List ℕ) → p ≡ x → AppendsPart a b p → OnErr r (AppendsPart a b (x ++ y))
+part_first r a b p x y same part = any_err r (AppendsPart a b (x ++ y)) (part_before a b x y (subst (AppendsPart a b) same part))
+
+pub ok_both : {T E : Type 0} (r : Result T E) (a b c : Option (List ℕ)) (p q x y : List ℕ) → p ≡ x → q ≡ y → Appends a b p → OnOk r (Appends b c q)
+    → OnOk r (Appends a c (x ++ y))
+ok_both r a b c p q x y first second done more =
+    ok_weaker r (Appends b c q) (Appends a c (x ++ y))
+    (λ last. Appends-trans a b c x y (subst (Appends a b) first done) (subst (Appends b c) second last)) more
+
+pub err_both : {T E : Type 0} (r : Result T E) (a b c : Option (List ℕ)) (p q x y : List ℕ) → p ≡ x → q ≡ y → Appends a b p → OnErr r (AppendsPart b c q)
+    → OnErr r (AppendsPart a c (x ++ y))
+err_both r a b c p q x y first second done more =
+    err_weaker r (AppendsPart b c q) (AppendsPart a c (x ++ y))
+    (λ part. part_behind a b c x y (subst (Appends a b) first done) (subst (AppendsPart b c) second part)) more
+
+pub ok_as : {T E : Type 0} (r : Result T E) (a c : Option (List ℕ)) (x y : List ℕ) → x ≡ y → OnOk r (Appends a c x) → OnOk r (Appends a c y)
+ok_as r a c x y same done = subst (λ (z : List ℕ). OnOk r (Appends a c z)) same done
+
+pub err_as : {T E : Type 0} (r : Result T E) (a c : Option (List ℕ)) (x y : List ℕ) → x ≡ y → OnErr r (AppendsPart a c x) → OnErr r (AppendsPart a c y)
+err_as r a c x y same done = subst (λ (z : List ℕ). OnErr r (AppendsPart a c z)) same done
+
+pub joined : (a b c d e f g : List ℕ) → (a ++ b) ++ ((((c ++ d) ++ e) ++ f) ++ g) ≡ (((((a ++ b) ++ c) ++ d) ++ e) ++ f) ++ g
+joined a b c d e f g = simp append_assoc

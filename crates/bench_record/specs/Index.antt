@@ -1,96 +1,112 @@
 -- The frames that may still leave, as the program finds them by their cores.
-use Rattle.std.specs.Prelude.{◌≡◌, ◌≤◌, ℕ, zero, suc, ◌+◌, ◌-◌, ◌*◌, ◌&&◌, Bool, true, not, List, [], ◌∷◌, length, filter, map, Option, Some, None, option_map, unwrap_or, if◌then◌else◌, nat_le}
+use Rattle.std.specs.Prelude.{◌≡◌, ◌≤◌, ℕ, ◌-◌, ◌*◌, ◌&&◌, Bool, true, false, List, [], filter, length, map, min, take, Option, Some, None, option_map, unwrap_or, nat_le, nat_lt, slice_get}
+use Rattle.std.specs.List.{list_all, range_with_len}
 use Rattle.std.specs.BTreeMap as tree
 use Rattle.std.specs.Borrow.{Bor}
 use Rattle.std.specs.Cmp.Lexicographic.{slice_cmp}
 use Rattle.std.specs.Ordering.{nat_cmp, ordering_then}
+use Rattle.std.specs.Str.{bytes_eq}
 use Rattle.std.specs.declared.cmp.Ordering.{Ordering}
-use Rattle.bench_record.specs.Cores.{Core, is_same_core}
-use Rattle.bench_record.specs.Recorded.{Seen, SentFrame, leave_at}
+use Rattle.bench_history.specs.Doubts.{IsDoubted}
+use Rattle.bench_history.specs.declared.extent.Extent.{Extent}
+use Rattle.bench_history.specs.declared.extent.Extent.TheVariants.{Whole, Front}
+use Rattle.bench_record.specs.Cores.{Core, without_zeros}
+use Rattle.bench_record.specs.Matching.{Frames, SentFrame, is_open}
+use Rattle.bench_record.specs.Recorded.{PassedOver, Seen}
 use Rattle.bench_record.specs.Text.{timed_shown}
-use Rattle.bench_record.specs.declared.open_frames.OpenFrame.{OpenFrame}
+use Rattle.bench_record.specs.declared.frame_core.FrameCore as given
 use Rattle.bench_record.specs.declared.open_frames.OpenFrames.{OpenFrames}
 use Rattle.bench_record.specs.declared.passed.Passed.{Passed}
-use Rattle.bench_record.specs.declared.walk.KeptFrame.{KeptFrame}
+use Rattle.bench_record.specs.declared.matching.KeptFrame.{KeptFrame}
 use Rattle.bench_record.specs.declared.walk.Walk.{Walk}
+
+-- ---- cores
+
+-- a core, as the program has it
+abbrev pub core_shown : given.FrameCore → Core
+core_shown core = record { padded = core.padded; extent = core.extent; addresses = core.addresses.now; rest = core.rest.now }
+
+-- a front has at least so many bytes behind its tags
+abbrev pub is_long_by : ℕ → Extent → List ℕ → Bool
+is_long_by shortest Whole rest = true
+is_long_by shortest Front rest = nat_le shortest (length rest)
+
+abbrev pub is_long : ℕ → Core → Bool
+is_long shortest core = is_long_by shortest core.extent core.rest
+
+-- the less of a number and of how many bytes are known behind the tags of a frame, if these aren't all
+abbrev pub shorter_by : ℕ → Extent → List ℕ → ℕ
+shorter_by shortest Whole rest = shortest
+shorter_by shortest Front rest = min shortest (length rest)
+
+abbrev pub shorter : ℕ → Core → ℕ
+shorter shortest core = shorter_by shortest core.extent core.rest
 
 -- ---- queues
 
--- a core, as the program has it
+-- as much of a rest as is known of all frames, without the zeros that end it
+abbrev pub key_rest : ℕ → List ℕ → List ℕ
+key_rest shortest rest = without_zeros (take shortest rest)
+
+-- what a queue is found by: the addresses, and that much of the rest
 abbrev pub Key : Type 0
 Key = Bor (List ℕ) × Bor (List ℕ)
-
-abbrev pub core_shown : Key → Core
-core_shown key = record { addresses = key.0.now; rest = key.1.now }
-
--- whether a frame was sent at a time or later
-abbrev pub is_since : ℕ → OpenFrame → Bool
-is_since time waiting = nat_le time waiting.time
-
--- the first of a queue that was sent at a time or later, and what stands behind it
-abbrev pub taken : ℕ → List OpenFrame → Option ℕ × List OpenFrame
-taken time [] = (None, [])
-taken time (waiting ∷ queue) = if nat_le time waiting.time then (Some waiting.number, queue) else taken time queue
-
--- ---- the frames that were sent
-
--- whether a frame has this core, was sent at a time or later, and hasn't left
-abbrev pub is_open : ℕ → Core → SentFrame → Bool
-is_open time core sent = not sent.has_left && nat_le time sent.time && is_same_core sent.core core
-
--- those that pass, with their numbers, the first of which is this
-abbrev pub open_from : ℕ → (SentFrame → Bool) → List SentFrame → List OpenFrame
-open_from n passes [] = []
-open_from n passes (sent ∷ more) =
-    let behind = open_from (n + 1) passes more in
-    if passes sent then record { time = sent.time; number = n } ∷ behind else behind
-
--- with the frame of a number gone, if there is one
-abbrev pub left_by : Option ℕ → List SentFrame → List SentFrame
-left_by (Some n) sent = leave_at n sent
-left_by None sent = sent
-
--- ---- the program's parts
 
 abbrev pub compare_keys : Key → Key → Ordering
 compare_keys x y = ordering_then (slice_cmp nat_cmp x.0.now y.0.now) (slice_cmp nat_cmp x.1.now y.1.now)
 
--- the queue of a core
-abbrev pub queue_of : OpenFrames → Key → List OpenFrame
+abbrev pub has_key : ℕ → Key → Option SentFrame → Bool
+has_key shortest key (Some sent) = bytes_eq sent.core.addresses key.0.now && bytes_eq (key_rest shortest sent.core.rest) key.1.now
+has_key shortest key None = false
+
+-- the queue of a key
+abbrev pub queue_of : OpenFrames → Key → List ℕ
 queue_of index key = unwrap_or (option_map (λ queue. queue.items) (tree.get compare_keys index.queues key)) []
 
--- For each core and each time from one on, the queue has the open frames that were sent since then.
-abbrev pub IsIndex : List SentFrame → ℕ → OpenFrames → Type 0
-IsIndex sent since index =
-    (key : Key) (time : ℕ) → since ≤ time
-    → filter (is_since time) (queue_of index key) ≡ open_from 0 (is_open time (core_shown key)) sent
+-- the open frames of a key, by their numbers
+abbrev pub open_of : Option ℕ → ℕ → ℕ → Frames → Key → List ℕ
+open_of lost time shortest frames key =
+    filter (λ n. is_open lost time frames n && has_key shortest key (slice_get frames.sent n)) (range_with_len 0 (length frames.sent))
+
+-- for each key, and each time from one on, the queue has the open frames of it; others that were sent may stand there too
+pub record IsIndex (lost : Option ℕ) (since shortest : ℕ) (frames : Frames) (index : OpenFrames) : Type 0 where
+  pub within : (key : Key) → list_all (λ n. nat_lt n (length frames.sent)) (queue_of index key) ≡ true
+  pub still_open : (key : Key) (time : ℕ) → since ≤ time → filter (is_open lost time frames) (queue_of index key) ≡ open_of lost time shortest frames key
 
 -- the first time at which a frame can have been sent that isn't lost before this time
 abbrev pub earliest_of : Option ℕ → ℕ → ℕ
 earliest_of (Some lost) time = time - lost * 1000000
 earliest_of None time = 0
 
--- what is kept of a frame that was sent
-abbrev pub kept : SentFrame → KeptFrame
-kept sent = record { time = sent.time; has_left = sent.has_left }
+-- ---- the program's parts
 
--- the frame of a number, if there is one, has left
-abbrev pub marked : ℕ → List KeptFrame → List KeptFrame
-marked n [] = []
-marked zero (sent ∷ more) = record { time = sent.time; has_left = true } ∷ more
-marked (suc n) (sent ∷ more) = sent ∷ marked n more
+-- what is kept of a frame that was sent
+abbrev pub kept_shown : KeptFrame → SentFrame
+kept_shown kept = record { time = kept.time; core = core_shown kept.core; has_left = kept.has_left; hidden_before = kept.hidden_before }
+
+abbrev pub passed_shown : Passed → PassedOver
+passed_shown passed =
+    record { other = passed.other.items; unread = passed.unread.items; early = passed.early.items; unwritable = passed.unwritable.items }
 
 -- this was seen, no frame later than at this time
 pub record IsSeen (lost : Option ℕ) (time : ℕ) (seen : Seen) (walk : Walk) : Type 0 where
-  pub sent : walk.sent.items ≡ map kept seen.sent
-  pub waiting : IsIndex seen.sent (earliest_of lost time) walk.waiting
+  pub sent : map kept_shown walk.sent.items ≡ seen.frames.sent
+  pub waiting : IsIndex lost time walk.shortest seen.frames walk.waiting
+  pub doubts : IsDoubted seen.frames.named walk.doubts
+  pub long : list_all (λ (sent : SentFrame). is_long walk.shortest sent.core) seen.frames.sent ≡ true
   pub replies : walk.replies ≡ seen.replies
   pub events : map timed_shown walk.events.items ≡ seen.events
-  pub passed : walk.passed ≡ seen.passed
+  pub passed : passed_shown walk.passed ≡ seen.passed
+  pub hidden : walk.hidden.items ≡ seen.hidden
+  pub unnumbered : walk.unnumbered ≡ seen.unnumbered
 
--- how many captured frames were passed over
-abbrev pub passed_in : Passed → ℕ
-passed_in passed = passed.other + passed.unmatched + passed.unwritable
+-- a frame of a core can be seen at a time: what was seen before isn't later, and as much is known of it as of all
+pub record CanSee (lost : Option ℕ) (time : ℕ) (core : Core) (walk : Walk) : Type 0 where
+  pub since : ℕ
+  pub seen : Seen
+  pub is : IsSeen lost since seen walk
+  pub within : since ≤ time
+  pub long : is_long walk.shortest core ≡ true
 
 -- the numbers of the frames that were sent have 32 bits
 abbrev pub HasNumbers : Walk → Type 0

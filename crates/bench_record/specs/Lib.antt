@@ -1,7 +1,10 @@
 pub mod Cores
 pub mod Index
+pub mod Matching
 pub mod Messages
 pub mod Moments
 pub mod Order
 pub mod Recorded
+pub mod Spans
 pub mod Text
+pub mod Walk

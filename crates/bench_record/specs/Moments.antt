@@ -2,16 +2,16 @@
 use Rattle.std.specs.Prelude.{ℕ, ◌+◌, ◌*◌, List, Option, Some, None}
 use Rattle.bench_history.specs.declared.event.Event.{Event}
 use Rattle.bench_history.specs.declared.event.Event.TheVariants.{Sent, Replied, Excused, Entered, Left, LeftOneOf, Strayed, Dropped, Lost, Waited, Ended, Nothing}
-use Rattle.bench_history.specs.declared.extent.Extent.TheVariants.{Whole}
-use Rattle.bench_history.specs.declared.gem.SeenGem.TheVariants.{Port}
 use Rattle.bench_record.specs.Messages.{event_of_message, message_of}
 use Rattle.bench_record.specs.declared.captured.CapturedFrame.{CapturedFrame}
+use Rattle.bench_record.specs.declared.captured.Source.{Source}
 use Rattle.bench_record.specs.declared.captured.Tap.{Tap}
 use Rattle.bench_record.specs.declared.captured.Tap.TheVariants.{Omci, Into, OutOf}
 
--- an event at a time
+-- an event at a time, and where it was seen; a wait and a loss weren't seen in any frame
 pub record Timed : Type 0 where
   pub time : ℕ
+  pub source : Option Source
   pub event : Event
 
 -- at one time: messages that were sent, frames that were sent, replies, waits, frames that leave, frames that don't, and the end
@@ -40,11 +40,16 @@ abbrev pub rank_of_message : Option (List ℕ) → ℕ
 rank_of_message (Some message) = rank_of (event_of_message message)
 rank_of_message None = 0
 
--- the rank of what a frame shows that was captured there; it doesn't depend on the numbers
+-- the rank of what a frame shows that was captured there
 abbrev pub rank_at : Tap → List ℕ → ℕ
 rank_at Omci frame = rank_of_message (message_of frame)
-rank_at (Into port) frame = rank_of (Entered port Whole frame)
-rank_at (OutOf gem) frame = rank_of (Left (Port gem) Whole 0 frame)
+rank_at (Into port) frame = 1
+rank_at (OutOf gem) frame = 4
 
-abbrev pub moment_of_frame : CapturedFrame → ℕ
-moment_of_frame captured = moment captured.time (rank_at captured.tap captured.bytes.now)
+-- a captured frame, and where it stands in captures
+pub record Sourced : Type 0 where
+  pub source : Source
+  pub frame : CapturedFrame
+
+abbrev pub moment_of_frame : Sourced → ℕ
+moment_of_frame s = moment s.frame.time (rank_at s.frame.tap s.frame.bytes.now)

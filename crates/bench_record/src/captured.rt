@@ -1,14 +1,27 @@
-//! Frames of captures.
+//! Captures, and the frames in them.
 
-/// Where a capture was taken.
+use bench_history::{Extent, SeenGem};
+
+/// On which side of the unit a capture was taken.
+#[derive(Clone, Copy, Debug, PartialEq, Eq)]
+pub enum Side {
+    /// On the management channel.
+    Omci,
+    /// In front of the unit.
+    Into,
+    /// Behind the unit.
+    OutOf,
+}
+
+/// Where a frame was captured.
 #[derive(Clone, Copy)]
 pub enum Tap {
     /// On the management channel, in one direction or both.
     Omci,
-    /// In front of a port of the unit: its frames are sent into the port.
+    /// In front of a port of the unit: the frame is sent into the port.
     Into { port: u16 },
-    /// Behind a GEM port of the unit: its frames have left by it.
-    OutOf { gem: u16 },
+    /// Behind the unit: the frame has left it, by this GEM port, if the capture shows it.
+    OutOf { gem: SeenGem },
 }
 
 /// A frame of a capture.
@@ -18,6 +31,24 @@ pub struct CapturedFrame<'a> {
     pub time: u64,
     /// Where it was seen.
     pub tap: Tap,
-    /// Its bytes, from the destination's address on.
+    /// Whether the capture has all of it or its first bytes alone.
+    pub extent: Extent,
+    /// Its bytes, from the destination's address on, as far as the capture has them.
     pub bytes: &'a [u8],
+}
+
+/// A capture: its frames in the order in which it has them.
+#[derive(Clone, Copy)]
+pub struct Capture<'a> {
+    pub side: Side,
+    pub frames: &'a [CapturedFrame<'a>],
+}
+
+/// Where a frame stands in captures.
+#[derive(Clone, Copy, Debug, PartialEq, Eq)]
+pub struct Source {
+    /// The number of its capture, from 0.
+    pub capture: usize,
+    /// The number of its record in that, from 1.
+    pub place: usize,
 }

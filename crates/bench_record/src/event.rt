@@ -3,8 +3,11 @@ ghost use Rattle.std.specs.Prelude.{◌≡◌};
 ghost use Rattle.bench_record.specs.Moments.{moment_of, rank_of};
 ghost use Rattle.bench_record.specs.Text.{event_shown, timed_shown};
 
+use crate::captured::Source;
+use bench_history::{Extent, SeenGem};
+
 /// What a line of the history says. The bytes are slices of captured frames.
-#[derive(Clone, Copy)]
+#[derive(Drop)]
 pub enum RecordedEvent<'a> {
     /// A message was sent to the unit.
     Sent {
@@ -17,16 +20,31 @@ pub enum RecordedEvent<'a> {
     /// A frame was sent into a port. Frames are numbered from 0, in the order of these events.
     Entered {
         port: u16,
+        extent: Extent,
         frame: &'a [u8],
     },
-    /// The frame of a number was seen to leave by a GEM port, with these bytes.
+    /// The frame of a number was seen to leave, with these bytes.
     Left {
-        gem: u16,
+        gem: SeenGem,
+        extent: Extent,
         number: u32,
         frame: &'a [u8],
     },
+    /// A frame was seen to leave, with these bytes, and is one of several, by their numbers.
+    LeftOneOf {
+        gem: SeenGem,
+        extent: Extent,
+        frame: &'a [u8],
+        numbers: Vec<u32>,
+    },
+    /// A frame was seen to leave, with these bytes, and none was open that it could be.
+    Strayed {
+        gem: SeenGem,
+        extent: Extent,
+        frame: &'a [u8],
+    },
     /// The frame of a number wasn't seen to leave in time.
-    Dropped {
+    Lost {
         number: u32,
     },
     /// What the unit had been sent up to so many replies is in force.
@@ -36,10 +54,12 @@ pub enum RecordedEvent<'a> {
 }
 
 /// An event and when it took place.
-#[derive(Clone, Copy)]
+#[derive(Drop)]
 pub struct TimedEvent<'a> {
-    /// The time, in nanoseconds. A wait or a drop that would come behind what 64 bits hold comes at the greatest of these times.
+    /// The time, in nanoseconds. A wait or a loss that would come behind what 64 bits hold comes at the greatest of these times.
     pub time: u64,
+    /// Where it was seen. A wait and a loss weren't seen in any frame.
+    pub source: Option<Source>,
     /// What took place.
     pub event: RecordedEvent<'a>,
 }
@@ -54,8 +74,10 @@ impl<'a> RecordedEvent<'a> {
             RecordedEvent::Entered { .. } => 1,
             RecordedEvent::Replied { .. } => 2,
             RecordedEvent::Waited { .. } => 3,
-            RecordedEvent::Left { .. } => 4,
-            RecordedEvent::Dropped { .. } => 5,
+            RecordedEvent::Left { .. }
+            | RecordedEvent::LeftOneOf { .. }
+            | RecordedEvent::Strayed { .. } => 4,
+            RecordedEvent::Lost { .. } => 5,
         }
     }
 }

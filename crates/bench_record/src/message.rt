@@ -1,7 +1,7 @@
 //! Messages of the management channel.
 ghost use Rattle.std.specs.Prelude.{◌≡◌, ◌≤◌, IfSome, length, option_map};
 ghost use Rattle.omci_msg.specs.Message.{acknowledges, type_of};
-ghost use Rattle.bench_record.specs.Messages.{message_of};
+ghost use Rattle.bench_record.specs.Messages.{is_managing, message_of};
 
 use byteorder::{BigEndian, ByteOrder};
 
@@ -13,6 +13,13 @@ const WHOLE: usize = 48;
 
 /// A message's bytes without the last four of its trailer.
 const WITHOUT_CHECK: usize = 44;
+
+/// Whether a frame is of the management channel by its type.
+pub(crate) fn is_managing(frame: &[u8]) -> bool
+    ensures { result ≡ is_managing frame.now }
+{
+    frame.len() >= 14 && BigEndian::read_u16(frame.split_at(12).1) == OMCI_ETHERTYPE
+}
 
 /// The message that a frame holds, without what pads the frame. None where it is shorter than a message, or of another Ethertype.
 pub(crate) fn read_message(frame: &[u8]) -> Option<&[u8]>

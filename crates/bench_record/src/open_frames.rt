@@ -1,44 +1,27 @@
 //! The frames that may still leave, found by their cores.
-ghost use Rattle.std.specs.Prelude.{◌≡◌, ◌≤◌, ◌++◌, ◌∷◌, [], ℕ, List, IfOk, false, length, position};
-ghost use Rattle.bench_record.specs.Index.{IsIndex, core_shown, is_open, left_by, taken};
-ghost use Rattle.bench_record.specs.Recorded.{SentFrame};
 
-use crate::frame_core::FrameCore;
 use std::alloc::{AllocError, Global};
-use std::collections::{BTreeMap, VecDeque};
+use std::collections::BTreeMap;
 
-/// A frame that hasn't left.
-#[derive(Clone, Copy)]
-pub(crate) struct OpenFrame {
-    /// When it was sent.
-    pub(crate) time: u64,
-    pub(crate) number: u32,
-}
+/// What a queue is found by: the addresses, and as much of the rest as is known of all frames.
+pub(crate) type Key<'a> = (&'a [u8], &'a [u8]);
 
-/// The frames that may still leave: for each core, in the order in which they were sent. A frame that is lost is let go when a later
-/// one of its core is looked for.
+/// The frames that may still leave: for each key their numbers, in the order in which they were sent. One that isn't open any more is let
+/// go when another of its key is looked for.
 #[derive(Drop)]
 pub(crate) struct OpenFrames<'a> {
-    queues: BTreeMap<FrameCore<'a>, VecDeque<OpenFrame>>,
+    pub(crate) queues: BTreeMap<Key<'a>, Vec<u32>>,
     alloc: Global,
 }
 
-/// Takes the first frame of a queue that was sent at a time or later, and all in front of it. Its number.
-fn take_first(queue: &mut VecDeque<OpenFrame>, time: u64) -> Option<u32>
-    ensures { (result, queue.new.items) ≡ taken time queue.old.items }
-{
-    while let Some(waiting) = queue.pop_front() {
-        if waiting.time >= time {
-            return Some(waiting.number);
-        }
-    }
-    None
-}
-
 impl<'a> OpenFrames<'a> {
+    ghost use Rattle.std.specs.Prelude.{◌≡◌, ◌++◌, ◌∷◌, [], if◌then◌else◌, IfOk};
+    ghost use Rattle.std.specs.Ordering.{is_eq};
+    ghost use Rattle.bench_record.specs.Index.{Key, compare_keys, queue_of};
+
     /// None at all.
     pub(crate) fn new(alloc: Global) -> Self
-        ensures { (since : ℕ) → IsIndex [] since result }
+        ensures { (key : Key) → queue_of result key ≡ [] }
     {
         OpenFrames {
             queues: BTreeMap::new(alloc),
@@ -46,36 +29,20 @@ impl<'a> OpenFrames<'a> {
         }
     }
 
-    /// Adds a frame behind all others.
-    pub(crate) fn send(&mut self, core: FrameCore<'a>, waiting: OpenFrame) -> Result<(), AllocError>
-        ensures { (sent : List SentFrame) (since : ℕ) → IsIndex sent since self.old
-            → waiting.number ≡ length sent
-            → IfOk result (λ _. IsIndex (sent ++ record {
-              time = waiting.time;
-              core = core_shown core.entry;
-              has_left = false;
-            } ∷ []) since self.new) }
+    /// Adds a frame behind all others of its key.
+    pub(crate) fn send(&mut self, key: Key<'a>, number: u32) -> Result<(), AllocError>
+        ensures { IfOk result (λ _. (other : Key) → queue_of self.new other
+            ≡ (if is_eq (compare_keys key.entry other) then queue_of self.old key.entry
+            ++ number ∷ []
+            else queue_of self.old other)) }
     {
-        if let Some(queue) = self.queues.get_mut(&core) {
-            queue.push_back(waiting)?;
+        if let Some(queue) = self.queues.get_mut(&key) {
+            queue.push(number)?;
             return Ok(());
         }
-        let mut queue = VecDeque::new(self.alloc);
-        queue.push_back(waiting)?;
-        self.queues.insert(core, queue)?;
+        let mut queue = Vec::new(self.alloc);
+        queue.push(number)?;
+        self.queues.insert(key, queue)?;
         Ok(())
-    }
-
-    /// Takes the first frame of a core that was sent at a time or later. Its number. The time is no earlier than in the calls before.
-    pub(crate) fn leave(&mut self, core: FrameCore<'a>, time: u64) -> Option<u32>
-        ensures number { (sent : List SentFrame) (since : ℕ) → IsIndex sent since self.old
-            → since ≤ time → result ≡ position (is_open time (core_shown core.entry)) sent }
-        ensures index { (sent : List SentFrame) (since : ℕ) → IsIndex sent since self.old
-            → since ≤ time → IsIndex (left_by result sent) time self.new }
-    {
-        match self.queues.get_mut(&core) {
-            Some(queue) => take_first(queue, time),
-            None => None,
-        }
     }
 }

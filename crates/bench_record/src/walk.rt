@@ -1,343 +1,660 @@
 //! The walk over captured frames in their order.
-ghost use Rattle.std.specs.Prelude.{◌≡◌};
-ghost use Rattle.bench_record.specs.Index.{earliest_of};
-ghost use Rattle.bench_record.specs.Recorded.{later};
+ghost use Rattle.std.specs.Prelude.{◌≡◌, ◌≤◌, ◌<◌, ◌+◌, ◌++◌, ◌∷◌, ◌||◌, [], ℕ, List, Option, Some, None, IfOk, drop, false, length, map, take, true};
+ghost use Rattle.bench_history.specs.Among.{are_in_order};
+ghost use Rattle.bench_history.specs.Doubts.{IsDoubted};
+ghost use Rattle.bench_record.specs.Index.{CanSee, HasNumbers, IsSeen, core_shown, is_long, kept_shown, passed_shown};
+ghost use Rattle.bench_record.specs.Matching.{Frames, candidates, leave_at};
+ghost use Rattle.bench_record.specs.Messages.{message_of};
+ghost use Rattle.bench_record.specs.Recorded.{Seen, core_in, early, enter, extent_within, hide, is_early, is_missed, is_unread, leave, leave_as, leave_doubtful, leave_unmatched, losses, losses_from, may_be_hidden, may_be_unnumbered, nothing_seen, other, see, see_message, see_reply, seen_in, unread, unwritable, waits, with_events, with_frame, without_number};
+ghost use Rattle.bench_record.specs.Spans.{AreSpans};
+ghost use Rattle.bench_record.specs.Text.{event_shown, timed_shown};
+ghost use Rattle.bench_record.specs.Walk.{sourced_shown, sure_of};
+ghost use Rattle.bench_record.specs.declared.captured.Capture.{Capture as TheCapture};
 
-use crate::captured::{CapturedFrame, Tap};
+use crate::captured::{CapturedFrame, Source, Tap};
 use crate::event::{RecordedEvent, TimedEvent};
 use crate::frame_core::{FrameCore, core_of};
-use crate::message::{is_reply, read_message};
-use crate::open_frames::{OpenFrame, OpenFrames};
+use crate::matching::{KeptFrame, earliest, keep_open, later, with_core};
+use crate::message::{is_managing, is_reply, read_message};
+use crate::open_frames::OpenFrames;
 use crate::passed::Passed;
 use crate::settings::RecordSettings;
+use crate::spans::{Span, is_early, is_watched, latest};
+use bench_history::{Doubts, Extent, SeenGem};
 use std::alloc::{AllocError, Global};
 
-/// The longest frame that a line of a history can spell, in bytes, whatever its numbers are: with `g 4294967295 65535 ` in front, its
-/// digits end at byte 19,999.
-pub const LONGEST_FRAME: usize = 9_990;
+/// The most bytes of a frame that a line spells, whatever its numbers are: with `g 4294967295 65535 ` in front and two dots behind, it has
+/// 19,999 bytes. Of a longer frame a history has a front.
+pub const LONGEST_FRAME: usize = 9_989;
 
-/// What is kept of a frame that was sent.
+/// The same where numbers of frames stand behind it.
+const LONGEST_NAMED: usize = 5_000;
+
+/// How many frames a line names at most.
+const MOST_NAMED: usize = 900;
+
+/// The fewest bytes of a front that are enough to know a frame by.
+const SHORTEST_FRONT: usize = 24;
+
+/// A captured frame, and where it stands in captures.
 #[derive(Clone, Copy)]
-pub(crate) struct KeptFrame {
-    /// When it was sent.
-    time: u64,
-    /// Whether it was seen to leave.
-    has_left: bool,
+pub(crate) struct Sourced<'a> {
+    pub(crate) source: Source,
+    pub(crate) frame: CapturedFrame<'a>,
+}
+
+/// What a history is made by, and when its captures begin and end.
+#[derive(Clone, Copy)]
+pub(crate) struct Given<'s> {
+    pub(crate) settings: RecordSettings<'s>,
+    pub(crate) spans: &'s [Span],
 }
 
 /// What was seen so far.
 #[derive(Drop)]
 pub(crate) struct Walk<'a> {
+    alloc: Global,
     // The frames that were sent, by their numbers.
-    sent: Vec<KeptFrame>,
+    pub(crate) sent: Vec<KeptFrame<'a>>,
     // Those that may still leave.
-    waiting: OpenFrames<'a>,
+    pub(crate) waiting: OpenFrames<'a>,
+    // Those of which it can't be seen which one left.
+    pub(crate) doubts: Doubts,
+    // How many bytes are known behind the tags of each frame, if it isn't shorter.
+    pub(crate) shortest: usize,
     // How many replies were seen.
-    replies: u32,
-    events: Vec<TimedEvent<'a>>,
-    passed: Passed,
+    pub(crate) replies: u32,
+    pub(crate) events: Vec<TimedEvent<'a>>,
+    pub(crate) passed: Passed,
+    // When frames left that are passed over though each may be any that was sent: hidden frames.
+    pub(crate) hidden: Vec<u64>,
+    // When the last frame was sent that is passed over, if one was.
+    pub(crate) unnumbered: Option<u64>,
 }
 
-/// So many milliseconds behind a time, or the greatest time.
-fn later(time: u64, milliseconds: u64) -> u64
-    ensures { result ≡ later time milliseconds }
+/// Whether too little of a frame is known.
+fn is_unread(extent: Extent, frame: &[u8]) -> bool
+    ensures { result ≡ is_unread extent frame.now }
 {
-    time.saturating_add(milliseconds.saturating_mul(1_000_000))
+    extent == Extent::Front && frame.len() < SHORTEST_FRONT
 }
 
-/// The first time at which a frame can have been sent that isn't lost before this time.
-fn earliest(lost: Option<u64>, time: u64) -> u64
-    ensures { result ≡ earliest_of lost time }
+/// What a line shows of a frame: of a longer one a front.
+fn within<'a>(most: usize, extent: Extent, frame: &'a [u8]) -> (Extent, &'a [u8])
+    ensures extent { result.0 ≡ extent_within most extent frame.now }
+    ensures frame { result.1.now ≡ take most frame.now }
 {
-    match lost {
-        Some(lost) => time.saturating_sub(lost.saturating_mul(1_000_000)),
-        None => 0,
+    if frame.len() <= most {
+        return (extent, frame);
+    }
+    (Extent::Front, frame.split_at(most).0)
+}
+
+/// Marks that the frame of a number was seen to leave.
+fn mark(sent: &mut Vec<KeptFrame<'_>>, number: u32)
+    ensures { map kept_shown sent.new.items ≡ leave_at number (map kept_shown sent.old.items) }
+{
+    if let Some(kept) = sent.get_mut(number as usize) {
+        kept.has_left = true;
     }
 }
 
 impl<'a> Walk<'a> {
-    ghost use Rattle.std.specs.Prelude.{◌≤◌, ◌<◌, ◌+◌, ◌^◌, ◌++◌, ◌∷◌, [], ℕ, List, Option, IfOk, drop, false, length, map};
-    ghost use Rattle.bench_record.specs.Index.{HasNumbers, IsSeen, core_shown, kept, marked, passed_in};
-    ghost use Rattle.bench_record.specs.Messages.{message_of};
-    ghost use Rattle.bench_record.specs.Recorded.{Seen, SentFrame, drops, drops_from, enter, leave, nothing_seen, see, see_message, see_reply, with_sent};
-    ghost use Rattle.bench_record.specs.Text.{event_shown, timed_shown};
-
     /// What is seen in front of the first frame.
-    pub(crate) fn new(alloc: Global) -> Self
+    pub(crate) fn new(alloc: Global, shortest: usize) -> Self
         ensures seen { (lost : Option ℕ) → IsSeen lost 0 nothing_seen result }
+        ensures shortest { result.shortest ≡ shortest }
         ensures numbers { HasNumbers result }
-        ensures passed { passed_in result.passed ≡ 0 }
     {
         Walk {
+            alloc,
             sent: Vec::new(alloc),
             waiting: OpenFrames::new(alloc),
+            doubts: Doubts::new(alloc),
+            shortest,
             replies: 0,
             events: Vec::new(alloc),
             passed: Passed {
-                other: 0,
-                unmatched: 0,
-                unwritable: 0,
+                other: Vec::new(alloc),
+                unread: Vec::new(alloc),
+                early: Vec::new(alloc),
+                unwritable: Vec::new(alloc),
             },
+            hidden: Vec::new(alloc),
+            unnumbered: None,
         }
     }
 
-    /// Adds an event.
-    fn add(&mut self, time: u64, event: RecordedEvent<'a>) -> Result<(), AllocError>
-        ensures events { IfOk result (λ _. map timed_shown self.new.events.items
-            ≡ map timed_shown self.old.events.items
-            ++ record { time = time; event = event_shown event.entry } ∷ []) }
+    /// Adds an event that was seen in a captured frame.
+    fn add(&mut self, at: &Sourced<'a>, event: RecordedEvent<'a>) -> Result<(), AllocError>
+        ensures seen { (lost : Option ℕ) (time : ℕ) (seen : Seen) → IsSeen lost time seen self.old
+            → IfOk result (λ _. IsSeen lost time
+            (with_events (seen_in (sourced_shown at.now) (event_shown event.entry)
+            ∷ []) seen) self.new) }
         ensures sent { self.new.sent ≡ self.old.sent }
-        ensures waiting { self.new.waiting ≡ self.old.waiting }
-        ensures replies { self.new.replies ≡ self.old.replies }
-        ensures passed { self.new.passed ≡ self.old.passed }
+        ensures shortest { self.new.shortest ≡ self.old.shortest }
     {
-        self.events.push(TimedEvent { time, event })?;
+        self.events.push(TimedEvent {
+            time: at.frame.time,
+            source: Some(at.source),
+            event,
+        })?;
         Ok(())
     }
 
-    /// Passes over a frame that a history can't hold.
-    fn pass_unwritable(&mut self)
-        requires { passed_in self.old.passed < 2 ^ 63 }
-        ensures passed { self.new.passed ≡ record {
-          other = self.old.passed.other;
-          unmatched = self.old.passed.unmatched;
-          unwritable = self.old.passed.unwritable + 1;
-        } }
+    /// Adds one that wasn't.
+    fn add_unseen(&mut self, time: u64, event: RecordedEvent<'a>) -> Result<(), AllocError>
+        ensures events { IfOk result (λ _. map timed_shown self.new.events.items
+            ≡ map timed_shown self.old.events.items ++ record {
+              time = time;
+              source = None;
+              event = event_shown event.entry;
+            } ∷ []) }
+        ensures doubts { self.new.doubts ≡ self.old.doubts }
+        ensures hidden { self.new.hidden ≡ self.old.hidden }
+        ensures passed { self.new.passed ≡ self.old.passed }
+        ensures seen { (lost : Option ℕ) (now : ℕ) (seen : Seen) → IsSeen lost now seen self.old
+            → IfOk result (λ _. IsSeen lost now (with_events (record {
+              time = time;
+              source = None;
+              event = event_shown event.entry;
+            } ∷ []) seen) self.new) }
         ensures sent { self.new.sent ≡ self.old.sent }
-        ensures waiting { self.new.waiting ≡ self.old.waiting }
-        ensures replies { self.new.replies ≡ self.old.replies }
-        ensures events { self.new.events ≡ self.old.events }
+        ensures shortest { self.new.shortest ≡ self.old.shortest }
     {
-        self.passed.unwritable += 1;
+        self.events.push(TimedEvent {
+            time,
+            source: None,
+            event,
+        })?;
+        Ok(())
     }
 
-    /// Passes over a frame that leaves while none of its core is open.
-    fn pass_unmatched(&mut self)
-        requires { passed_in self.old.passed < 2 ^ 63 }
-        ensures passed { self.new.passed ≡ record {
-          other = self.old.passed.other;
-          unmatched = self.old.passed.unmatched + 1;
-          unwritable = self.old.passed.unwritable;
-        } }
+    /// Passes over a frame of the management channel of another Ethertype.
+    fn pass_other(&mut self, source: Source) -> Result<(), AllocError>
+        ensures seen { (lost : Option ℕ) (time : ℕ) (seen : Seen) → IsSeen lost time seen self.old
+            → IfOk result (λ _. IsSeen lost time (other source seen) self.new) }
         ensures sent { self.new.sent ≡ self.old.sent }
-        ensures waiting { self.new.waiting ≡ self.old.waiting }
-        ensures replies { self.new.replies ≡ self.old.replies }
-        ensures events { self.new.events ≡ self.old.events }
+        ensures shortest { self.new.shortest ≡ self.old.shortest }
     {
-        self.passed.unmatched += 1;
+        self.passed.other.push(source)?;
+        Ok(())
+    }
+
+    /// Passes over a frame of which too little is known.
+    fn pass_unread(&mut self, source: Source) -> Result<(), AllocError>
+        ensures seen { (lost : Option ℕ) (time : ℕ) (seen : Seen) → IsSeen lost time seen self.old
+            → IfOk result (λ _. IsSeen lost time (unread source seen) self.new) }
+        ensures sent { self.new.sent ≡ self.old.sent }
+        ensures shortest { self.new.shortest ≡ self.old.shortest }
+    {
+        self.passed.unread.push(source)?;
+        Ok(())
+    }
+
+    /// Passes over one that leaves so early that its frame may have been sent before a capture began.
+    fn pass_early(&mut self, source: Source) -> Result<(), AllocError>
+        ensures seen { (lost : Option ℕ) (time : ℕ) (seen : Seen) → IsSeen lost time seen self.old
+            → IfOk result (λ _. IsSeen lost time (early source seen) self.new) }
+        ensures sent { self.new.sent ≡ self.old.sent }
+        ensures shortest { self.new.shortest ≡ self.old.shortest }
+    {
+        self.passed.early.push(source)?;
+        Ok(())
+    }
+
+    /// Passes over one that a history can't hold.
+    fn pass_unwritable(&mut self, source: Source) -> Result<(), AllocError>
+        ensures seen { (lost : Option ℕ) (time : ℕ) (seen : Seen) → IsSeen lost time seen self.old
+            → IfOk result (λ _. IsSeen lost time (unwritable source seen) self.new) }
+        ensures sent { self.new.sent ≡ self.old.sent }
+        ensures shortest { self.new.shortest ≡ self.old.shortest }
+    {
+        self.passed.unwritable.push(source)?;
+        Ok(())
+    }
+
+    /// Keeps when a frame left that is passed over though it may be any that was sent.
+    fn hide(&mut self, time: u64) -> Result<(), AllocError>
+        ensures seen { (lost : Option ℕ) (now : ℕ) (seen : Seen) → IsSeen lost now seen self.old
+            → IfOk result (λ _. IsSeen lost now (hide time seen) self.new) }
+        ensures sent { self.new.sent ≡ self.old.sent }
+        ensures shortest { self.new.shortest ≡ self.old.shortest }
+    {
+        self.hidden.push(time)?;
+        Ok(())
+    }
+
+    /// Keeps when a frame was sent that is passed over.
+    fn leave_out(&mut self, time: u64)
+        ensures seen { (lost : Option ℕ) (now : ℕ) (seen : Seen) → IsSeen lost now seen self.old
+            → IsSeen lost now (without_number time seen) self.new }
+        ensures sent { self.new.sent ≡ self.old.sent }
+        ensures shortest { self.new.shortest ≡ self.old.shortest }
+    {
+        self.unnumbered = Some(time);
+    }
+
+    /// Adds the wait for a reply that was seen at a time, if waits are set.
+    fn add_wait(&mut self, wait: Option<u64>, time: u64, replies: u32) -> Result<(), AllocError>
+        ensures seen { (lost : Option ℕ) (now : ℕ) (seen : Seen) → IsSeen lost now seen self.old
+            → IfOk result (λ _. IsSeen lost now (with_events
+            (waits wait time replies) seen) self.new) }
+        ensures sent { self.new.sent ≡ self.old.sent }
+        ensures shortest { self.new.shortest ≡ self.old.shortest }
+    {
+        match wait {
+            Some(wait) => self.add_unseen(later(time, wait), RecordedEvent::Waited { replies }),
+            None => Ok(()),
+        }
     }
 
     /// Sees a reply.
     fn see_reply(
         &mut self,
-        settings: &RecordSettings<'_>,
-        time: u64,
+        given: &Given<'_>,
+        at: &Sourced<'a>,
         reply: &'a [u8],
     ) -> Result<(), AllocError>
-        requires { passed_in self.old.passed < 2 ^ 63 }
-        ensures seen { (since : ℕ) (seen : Seen) → IsSeen settings.now.lost since seen self.old
-            → IfOk result (λ _. IsSeen settings.now.lost since
-            (see_reply settings.now time reply.now seen) self.new) }
+        ensures seen { (time : ℕ) (seen : Seen) → IsSeen given.now.settings.lost time seen self.old
+            → IfOk result (λ _. IsSeen given.now.settings.lost time
+            (see_reply given.now.settings (sourced_shown at.now) reply.now seen) self.new) }
         ensures sent { self.new.sent ≡ self.old.sent }
-        ensures passed { passed_in self.new.passed ≤ passed_in self.old.passed + 1 }
+        ensures shortest { self.new.shortest ≡ self.old.shortest }
     {
         if self.replies == u32::MAX {
-            self.pass_unwritable();
-            return Ok(());
+            return self.pass_unwritable(at.source);
         }
         self.replies += 1;
         let replies = self.replies;
-        self.add(time, RecordedEvent::Replied { reply })?;
-        if let Some(wait) = settings.wait {
-            self.add(later(time, wait), RecordedEvent::Waited { replies })?;
-        }
-        Ok(())
+        self.add(at, RecordedEvent::Replied { reply })?;
+        self.add_wait(given.settings.wait, at.frame.time, replies)
     }
 
     /// Sees a frame of the management channel.
-    fn see_message(
-        &mut self,
-        settings: &RecordSettings<'_>,
-        time: u64,
-        frame: &'a [u8],
-    ) -> Result<(), AllocError>
-        requires { passed_in self.old.passed < 2 ^ 63 }
-        ensures seen { (since : ℕ) (seen : Seen) → IsSeen settings.now.lost since seen self.old
-            → IfOk result (λ _. IsSeen settings.now.lost since
-            (see_message settings.now time (message_of frame.now) seen) self.new) }
+    fn see_message(&mut self, given: &Given<'_>, at: &Sourced<'a>) -> Result<(), AllocError>
+        ensures seen { (time : ℕ) (seen : Seen) → IsSeen given.now.settings.lost time seen self.old
+            → IfOk result (λ _. IsSeen given.now.settings.lost time
+            (see_message given.now.settings (sourced_shown at.now)
+            (message_of at.now.frame.bytes.now) seen)
+            self.new) }
         ensures sent { self.new.sent ≡ self.old.sent }
-        ensures passed { passed_in self.new.passed ≤ passed_in self.old.passed + 1 }
+        ensures shortest { self.new.shortest ≡ self.old.shortest }
     {
-        let Some(message) = read_message(frame) else {
-            self.passed.other += 1;
-            return Ok(());
-        };
-        if is_reply(message) {
-            return self.see_reply(settings, time, message);
+        match read_message(at.frame.bytes) {
+            Some(message) => {
+                if is_reply(message) {
+                    self.see_reply(given, at, message)
+                } else {
+                    self.add(at, RecordedEvent::Sent { message })
+                }
+            }
+            None => {
+                if is_managing(at.frame.bytes) {
+                    self.pass_unread(at.source)
+                } else {
+                    self.pass_other(at.source)
+                }
+            }
         }
-        self.add(time, RecordedEvent::Sent { message })
     }
 
-    /// Keeps a frame that was sent into a port, and tells of it.
+    /// Keeps a frame that was sent into a port.
     fn enter_as(&mut self, number: u32, core: FrameCore<'a>, time: u64) -> Result<(), AllocError>
         requires { number ≡ length self.old.sent.items }
         ensures seen { (lost : Option ℕ) (since : ℕ) (seen : Seen) → IsSeen lost since seen self.old
-            → IfOk result (λ _. IsSeen lost since (with_sent (seen.sent ++ record {
+            → is_long self.old.shortest (core_shown core.entry) ≡ true
+            → IfOk result (λ _. IsSeen lost since (with_frame (record {
               time = time;
               core = core_shown core.entry;
               has_left = false;
-            } ∷ []) seen) self.new) }
+              hidden_before = length seen.hidden;
+            }) seen) self.new) }
         ensures sent { IfOk result (λ _. length self.new.sent.items ≡ number + 1) }
-        ensures passed { self.new.passed ≡ self.old.passed }
+        ensures shortest { self.new.shortest ≡ self.old.shortest }
     {
         self.sent.push(KeptFrame {
             time,
+            core,
             has_left: false,
+            hidden_before: self.hidden.len(),
         })?;
-        self.waiting.send(core, OpenFrame { time, number })
+        self.waiting.send(core.key(self.shortest), number)
     }
 
     /// Sees a frame that is sent into a port.
-    fn enter(
-        &mut self,
-        tpids: &[u16],
-        time: u64,
-        port: u16,
-        frame: &'a [u8],
-    ) -> Result<(), AllocError>
-        requires numbers { HasNumbers self.old }
-        requires passed { passed_in self.old.passed < 2 ^ 63 }
-        ensures seen { (lost : Option ℕ) (since : ℕ) (seen : Seen) → IsSeen lost since seen self.old
-            → IfOk result (λ _. IsSeen lost since (enter tpids.now time port frame.now seen) self.new) }
+    fn enter(&mut self, given: &Given<'_>, at: &Sourced<'a>, port: u16) -> Result<(), AllocError>
+        requires { HasNumbers self.old }
+        ensures seen { (time : ℕ) (seen : Seen) → IsSeen given.now.settings.lost time seen self.old
+            → is_long self.old.shortest (core_in given.now.settings at.now.frame) ≡ true
+            → IfOk result (λ _. IsSeen given.now.settings.lost time
+            (enter given.now.settings (sourced_shown at.now) port seen) self.new) }
         ensures numbers { IfOk result (λ _. HasNumbers self.new) }
-        ensures passed { passed_in self.new.passed ≤ passed_in self.old.passed + 1 }
+        ensures shortest { self.new.shortest ≡ self.old.shortest }
     {
-        let Ok(number) = u32::try_from(self.sent.len()) else {
-            self.pass_unwritable();
-            return Ok(());
-        };
-        if frame.len() > LONGEST_FRAME {
-            self.pass_unwritable();
-            return Ok(());
+        let CapturedFrame {
+            time,
+            tap: _,
+            extent,
+            bytes,
+        } = at.frame;
+        if is_unread(extent, bytes) {
+            self.leave_out(time);
+            return self.pass_unread(at.source);
         }
-        self.enter_as(number, core_of(tpids, frame), time)?;
-        self.add(time, RecordedEvent::Entered { port, frame })
+        let Ok(number) = u32::try_from(self.sent.len()) else {
+            self.leave_out(time);
+            return self.pass_unwritable(at.source);
+        };
+        let settings = &given.settings;
+        self.enter_as(
+            number,
+            core_of(settings.tpids, settings.padded, extent, bytes),
+            time,
+        )?;
+        let (extent, frame) = within(LONGEST_FRAME, extent, bytes);
+        self.add(
+            at,
+            RecordedEvent::Entered {
+                port,
+                extent,
+                frame,
+            },
+        )
     }
 
-    /// Marks the frame of a number, if there is one, as one that has left.
-    fn mark(&mut self, number: u32)
-        ensures sent { self.new.sent.items ≡ marked number self.old.sent.items }
-        ensures len { length self.new.sent.items ≡ length self.old.sent.items }
-        ensures waiting { self.new.waiting ≡ self.old.waiting }
-        ensures replies { self.new.replies ≡ self.old.replies }
-        ensures events { self.new.events ≡ self.old.events }
-        ensures passed { self.new.passed ≡ self.old.passed }
+    /// The open frames that one of a core may be which leaves at a time, by their numbers.
+    fn candidates(
+        &mut self,
+        lost: Option<u64>,
+        time: u64,
+        core: &FrameCore<'a>,
+    ) -> Result<Vec<u32>, AllocError>
+        ensures found { (since : ℕ) (seen : Seen) → IsSeen lost since seen self.old → since ≤ time
+            → is_long self.old.shortest (core_shown core.now) ≡ true
+            → IfOk result (λ found. found.items
+            ≡ candidates lost time (core_shown core.now) seen.frames) }
+        ensures seen { (since : ℕ) (seen : Seen) → IsSeen lost since seen self.old → since ≤ time
+            → IsSeen lost time seen self.new }
+        ensures sent { self.new.sent ≡ self.old.sent }
+        ensures shortest { self.new.shortest ≡ self.old.shortest }
     {
-        if let Some(sent) = self.sent.get_mut(number as usize) {
-            sent.has_left = true;
+        match self.waiting.queues.get_mut(&core.key(self.shortest)) {
+            Some(queue) => {
+                keep_open(queue, &self.sent, &self.doubts, earliest(lost, time));
+                with_core(self.alloc, queue, &self.sent, core)
+            }
+            None => Ok(Vec::new(self.alloc)),
+        }
+    }
+
+    /// Whether a frame that leaves at a time may be one that was sent and passed over.
+    fn may_be_unnumbered(&self, lost: Option<u64>, time: u64) -> bool
+        ensures { result ≡ may_be_unnumbered lost self.now.unnumbered time }
+    {
+        match self.unnumbered {
+            Some(sent) => time <= latest(lost, sent),
+            None => false,
+        }
+    }
+
+    /// Whether it may be one that isn't among the frames: it was sent before a capture began, or passed over.
+    fn may_be_another(&self, given: &Given<'_>, time: u64) -> bool
+        ensures { (captures : List TheCapture) → AreSpans captures given.now.spans.now
+            → result ≡ (is_early given.now.settings.lost captures time
+            || may_be_unnumbered given.now.settings.lost self.now.unnumbered time) }
+    {
+        let lost = given.settings.lost;
+        is_early(given.spans, lost, time) || self.may_be_unnumbered(lost, time)
+    }
+
+    /// Sees a frame that leaves while none is open that it could be.
+    fn leave_unmatched(
+        &mut self,
+        given: &Given<'_>,
+        at: &Sourced<'a>,
+        gem: SeenGem,
+    ) -> Result<(), AllocError>
+        ensures seen { (captures : List TheCapture) (time : ℕ) (seen : Seen)
+            → AreSpans captures given.now.spans.now
+            → IsSeen given.now.settings.lost time seen self.old
+            → IfOk result (λ _. IsSeen given.now.settings.lost time
+            (leave_unmatched given.now.settings captures
+            (sourced_shown at.now) gem seen) self.new) }
+        ensures sent { self.new.sent ≡ self.old.sent }
+        ensures shortest { self.new.shortest ≡ self.old.shortest }
+    {
+        if self.may_be_another(given, at.frame.time) {
+            return self.pass_early(at.source);
+        }
+        let (extent, frame) = within(LONGEST_FRAME, at.frame.extent, at.frame.bytes);
+        self.add(at, RecordedEvent::Strayed { gem, extent, frame })
+    }
+
+    /// Sees that one of several leaves, or one that is doubtful.
+    fn leave_doubtful(
+        &mut self,
+        at: &Sourced<'a>,
+        gem: SeenGem,
+        numbers: Vec<u32>,
+    ) -> Result<(), AllocError>
+        requires { are_in_order numbers.items ≡ true }
+        ensures seen { (lost : Option ℕ) (time : ℕ) (seen : Seen) → IsSeen lost time seen self.old
+            → IfOk result (λ _. IsSeen lost time
+            (leave_doubtful (sourced_shown at.now) gem numbers.items seen) self.new) }
+        ensures sent { self.new.sent ≡ self.old.sent }
+        ensures shortest { self.new.shortest ≡ self.old.shortest }
+    {
+        if numbers.len() > MOST_NAMED {
+            self.hide(at.frame.time)?;
+            return self.pass_unwritable(at.source);
+        }
+        self.doubts.name(Vec::from_slice(self.alloc, &numbers)?)?;
+        let (extent, frame) = within(LONGEST_NAMED, at.frame.extent, at.frame.bytes);
+        self.add(
+            at,
+            RecordedEvent::LeftOneOf {
+                gem,
+                extent,
+                frame,
+                numbers,
+            },
+        )
+    }
+
+    /// Sees that the frame of a number leaves.
+    fn leave_as(&mut self, at: &Sourced<'a>, gem: SeenGem, number: u32) -> Result<(), AllocError>
+        ensures seen { (lost : Option ℕ) (time : ℕ) (seen : Seen) → IsSeen lost time seen self.old
+            → IfOk result (λ _. IsSeen lost time (leave_as number
+            (sourced_shown at.now) gem seen) self.new) }
+        ensures count { length self.new.sent.items ≡ length self.old.sent.items }
+        ensures shortest { self.new.shortest ≡ self.old.shortest }
+    {
+        mark(&mut self.sent, number);
+        let (extent, frame) = within(LONGEST_FRAME, at.frame.extent, at.frame.bytes);
+        self.add(
+            at,
+            RecordedEvent::Left {
+                gem,
+                extent,
+                number,
+                frame,
+            },
+        )
+    }
+
+    /// The one of some frames, where it is one and isn't doubtful.
+    fn sure_of(&self, numbers: &[u32]) -> Option<u32>
+        ensures { (named : List (List ℕ)) → IsDoubted named self.now.doubts
+            → result ≡ sure_of named numbers.now }
+    {
+        match numbers {
+            [number] => {
+                if self.doubts.is_doubtful(*number) {
+                    None
+                } else {
+                    Some(*number)
+                }
+            }
+            _ => None,
         }
     }
 
     /// Sees a frame that leaves.
-    fn leave(
-        &mut self,
-        settings: &RecordSettings<'_>,
-        time: u64,
-        gem: u16,
-        frame: &'a [u8],
-    ) -> Result<(), AllocError>
-        requires numbers { HasNumbers self.old }
-        requires passed { passed_in self.old.passed < 2 ^ 63 }
-        ensures seen { (since : ℕ) (seen : Seen) → IsSeen settings.now.lost since seen self.old
-            → since ≤ time → IfOk result (λ _. IsSeen settings.now.lost time
-            (leave settings.now time gem frame.now seen) self.new) }
-        ensures numbers { HasNumbers self.new }
-        ensures passed { passed_in self.new.passed ≤ passed_in self.old.passed + 1 }
+    fn leave(&mut self, given: &Given<'_>, at: &Sourced<'a>, gem: SeenGem) -> Result<(), AllocError>
+        requires { CanSee given.now.settings.lost at.now.frame.time
+            (core_in given.now.settings at.now.frame) self.old }
+        ensures seen { (captures : List TheCapture) (since : ℕ) (seen : Seen)
+            → AreSpans captures given.now.spans.now
+            → IsSeen given.now.settings.lost since seen self.old
+            → since ≤ at.now.frame.time
+            → is_long self.old.shortest (core_in given.now.settings at.now.frame) ≡ true
+            → IfOk result (λ _. IsSeen given.now.settings.lost at.now.frame.time
+            (leave given.now.settings captures (sourced_shown at.now) gem seen) self.new) }
+        ensures count { IfOk result (λ _. length self.new.sent.items ≡ length self.old.sent.items) }
+        ensures shortest { self.new.shortest ≡ self.old.shortest }
     {
-        let core = core_of(settings.tpids, frame);
-        let Some(number) = self.waiting.leave(core, earliest(settings.lost, time)) else {
-            self.pass_unmatched();
-            return Ok(());
-        };
-        self.mark(number);
-        if frame.len() > LONGEST_FRAME {
-            self.pass_unwritable();
-            return Ok(());
+        let frame = &at.frame;
+        if is_unread(frame.extent, frame.bytes) {
+            self.hide(frame.time)?;
+            return self.pass_unread(at.source);
         }
-        self.add(time, RecordedEvent::Left { gem, number, frame })
+        let settings = &given.settings;
+        let core = core_of(settings.tpids, settings.padded, frame.extent, frame.bytes);
+        let numbers = self.candidates(settings.lost, frame.time, &core)?;
+        if numbers.is_empty() {
+            return self.leave_unmatched(given, at, gem);
+        }
+        match self.sure_of(&numbers) {
+            Some(number) => self.leave_as(at, gem, number),
+            None => self.leave_doubtful(at, gem, numbers),
+        }
     }
 
     /// Sees a captured frame. It was seen no earlier than those before it.
-    pub(crate) fn see(
-        &mut self,
-        settings: &RecordSettings<'_>,
-        captured: &CapturedFrame<'a>,
-    ) -> Result<(), AllocError>
+    pub(crate) fn see(&mut self, given: &Given<'_>, at: &Sourced<'a>) -> Result<(), AllocError>
         requires numbers { HasNumbers self.old }
-        requires passed { passed_in self.old.passed < 2 ^ 63 }
-        ensures seen { (since : ℕ) (seen : Seen) → IsSeen settings.now.lost since seen self.old
-            → since ≤ captured.now.time → IfOk result (λ _. IsSeen settings.now.lost captured.now.time
-            (see settings.now captured.now seen) self.new) }
+        requires seen { CanSee given.now.settings.lost at.now.frame.time
+            (core_in given.now.settings at.now.frame) self.old }
+        ensures seen { (captures : List TheCapture) (since : ℕ) (seen : Seen)
+            → AreSpans captures given.now.spans.now
+            → IsSeen given.now.settings.lost since seen self.old
+            → since ≤ at.now.frame.time
+            → is_long self.old.shortest (core_in given.now.settings at.now.frame) ≡ true
+            → IfOk result (λ _. IsSeen given.now.settings.lost at.now.frame.time
+            (see given.now.settings captures (sourced_shown at.now) seen) self.new) }
         ensures numbers { IfOk result (λ _. HasNumbers self.new) }
-        ensures passed { passed_in self.new.passed ≤ passed_in self.old.passed + 1 }
+        ensures shortest { self.new.shortest ≡ self.old.shortest }
     {
-        let time = captured.time;
-        let frame = captured.bytes;
-        match captured.tap {
-            Tap::Omci => self.see_message(settings, time, frame),
-            Tap::Into { port } => self.enter(settings.tpids, time, port, frame),
-            Tap::OutOf { gem } => self.leave(settings, time, gem, frame),
+        match at.frame.tap {
+            Tap::Omci => self.see_message(given, at),
+            Tap::Into { port } => self.enter(given, at, port),
+            Tap::OutOf { gem } => self.leave(given, at, gem),
         }
     }
 
-    /// Adds the drop of the frame of a number, so long after its sending, if it hasn't left.
-    fn drop_one(&mut self, number: usize, lost: u64) -> Result<(), AllocError>
+    /// Whether a frame that was sent may be a hidden one: the next of these left before it was lost.
+    fn may_be_hidden(&self, sent: &KeptFrame<'_>, lost: u64) -> bool
+        ensures { result ≡ may_be_hidden lost self.now.hidden.items (kept_shown sent.now) }
+    {
+        match self.hidden.get(sent.hidden_before) {
+            Some(time) => *time <= later(sent.time, lost),
+            None => false,
+        }
+    }
+
+    /// Whether a frame is told as lost: it wasn't seen to leave, isn't doubtful and isn't a hidden one, and would have been captured.
+    fn is_missed(&self, spans: &[Span], number: u32, sent: &KeptFrame<'_>, lost: u64) -> bool
+        ensures { (captures : List TheCapture) (named : List (List ℕ)) → AreSpans captures spans.now
+            → IsDoubted named self.now.doubts
+            → result ≡ is_missed lost captures self.now.hidden.items named number
+            (kept_shown sent.now) }
+    {
+        !sent.has_left
+            && !self.doubts.is_doubtful(number)
+            && !self.may_be_hidden(sent, lost)
+            && is_watched(spans, lost, sent.time)
+    }
+
+    /// Adds the loss of the frame of a number, if it is missed.
+    fn lose_one(&mut self, spans: &[Span], number: usize, lost: u64) -> Result<(), AllocError>
         requires within { number < length self.old.sent.items }
         requires numbers { HasNumbers self.old }
-        ensures events { (sent : List SentFrame) → self.old.sent.items ≡ map kept sent
+        ensures events { (captures : List TheCapture) (frames : Frames)
+            → AreSpans captures spans.now
+            → map kept_shown self.old.sent.items ≡ frames.sent
+            → IsDoubted frames.named self.old.doubts
             → IfOk result (λ _. map timed_shown self.new.events.items
-            ++ drops_from lost (number + 1) (drop (number + 1) sent)
-            ≡ map timed_shown self.old.events.items ++ drops_from lost number (drop number sent)) }
+            ++ losses_from lost captures self.old.hidden.items frames.named (number + 1)
+            (drop (number + 1) frames.sent)
+            ≡ map timed_shown self.old.events.items
+            ++ losses_from lost captures self.old.hidden.items frames.named number
+            (drop number frames.sent)) }
+        ensures hidden { self.new.hidden ≡ self.old.hidden }
         ensures sent { self.new.sent ≡ self.old.sent }
+        ensures doubts { self.new.doubts ≡ self.old.doubts }
         ensures passed { self.new.passed ≡ self.old.passed }
     {
         let sent = self.sent[number];
-        if sent.has_left {
-            return Ok(());
-        }
         let number = number as u32;
-        self.add(later(sent.time, lost), RecordedEvent::Dropped { number })
-    }
-
-    /// Adds the drops of all frames that haven't left, so long after their sending.
-    fn drop_all(&mut self, lost: u64) -> Result<(), AllocError>
-        requires { HasNumbers self.old }
-        ensures events { (sent : List SentFrame) → self.old.sent.items ≡ map kept sent
-            → IfOk result (λ _. map timed_shown self.new.events.items
-            ≡ map timed_shown self.old.events.items ++ drops_from lost 0 sent) }
-        ensures passed { IfOk result (λ _. self.new.passed ≡ self.old.passed) }
-    {
-        for number in 0..self.sent.len() {
-            self.drop_one(number, lost)?;
+        if self.is_missed(spans, number, &sent, lost) {
+            return self.add_unseen(later(sent.time, lost), RecordedEvent::Lost { number });
         }
         Ok(())
     }
 
-    /// The events, those of drops behind all others, and what was passed over.
+    /// Adds the losses of all frames that are missed.
+    fn lose_all(&mut self, spans: &[Span], lost: u64) -> Result<(), AllocError>
+        requires { HasNumbers self.old }
+        ensures events { (captures : List TheCapture) (frames : Frames)
+            → AreSpans captures spans.now
+            → map kept_shown self.old.sent.items ≡ frames.sent
+            → IsDoubted frames.named self.old.doubts
+            → IfOk result (λ _. map timed_shown self.new.events.items
+            ≡ map timed_shown self.old.events.items
+            ++ losses_from lost captures self.old.hidden.items frames.named 0 frames.sent) }
+        ensures passed { IfOk result (λ _. self.new.passed ≡ self.old.passed) }
+    {
+        for number in 0..self.sent.len() {
+            self.lose_one(spans, number, lost)?;
+        }
+        Ok(())
+    }
+
+    /// Adds the losses of all frames that are missed, if a time is set after which a frame is lost.
+    fn lose(&mut self, given: &Given<'_>) -> Result<(), AllocError>
+        requires { HasNumbers self.old }
+        ensures events { (captures : List TheCapture) (frames : Frames)
+            → AreSpans captures given.now.spans.now
+            → map kept_shown self.old.sent.items ≡ frames.sent
+            → IsDoubted frames.named self.old.doubts
+            → IfOk result (λ _. map timed_shown self.new.events.items
+            ≡ map timed_shown self.old.events.items
+            ++ losses given.now.settings.lost captures self.old.hidden.items frames) }
+        ensures passed { IfOk result (λ _. self.new.passed ≡ self.old.passed) }
+    {
+        match given.settings.lost {
+            Some(lost) => self.lose_all(given.spans, lost),
+            None => Ok(()),
+        }
+    }
+
+    /// The events, those of losses behind all others, and what was passed over.
     pub(crate) fn finish(
         mut self,
-        lost: Option<u64>,
+        given: &Given<'_>,
     ) -> Result<(Vec<TimedEvent<'a>>, Passed), AllocError>
         requires { HasNumbers self }
-        ensures events { (since : ℕ) (seen : Seen) → IsSeen lost since seen self.entry
+        ensures events { (captures : List TheCapture) (since : ℕ) (seen : Seen)
+            → AreSpans captures given.now.spans.now
+            → IsSeen given.now.settings.lost since seen self.entry
             → IfOk result (λ ends. map timed_shown ends.0.items
-            ≡ seen.events ++ drops lost seen.sent) }
-        ensures passed { (since : ℕ) (seen : Seen) → IsSeen lost since seen self.entry
-            → IfOk result (λ ends. ends.1 ≡ seen.passed) }
+            ≡ seen.events ++ losses given.now.settings.lost captures seen.hidden seen.frames) }
+        ensures passed { (since : ℕ) (seen : Seen)
+            → IsSeen given.now.settings.lost since seen self.entry
+            → IfOk result (λ ends. passed_shown ends.1 ≡ seen.passed) }
     {
-        if let Some(lost) = lost {
-            self.drop_all(lost)?;
-        }
+        self.lose(given)?;
         Ok((self.events, self.passed))
     }
 }

@@ -259,8 +259,16 @@ abbrev pub of_captures : App
 of_captures =
     with_rule (with_rule (with_rule (new_app (codes "record")) (several (codes "omci"))) (several (codes "into"))) (several (codes "out-of"))
 
+-- what says which types begin a tag, and how long is waited
+abbrev pub by_times : App
+by_times = with_rule (with_rule (with_rule of_captures (several (codes "tpid"))) (milliseconds (codes "wait"))) (milliseconds (codes "lost"))
+
+-- what says how the frames of captures are read
+abbrev pub by_captures : App
+by_captures = with_rule (with_rule (with_rule by_times (several (codes "skew"))) (flag (codes "fcs"))) (flag (codes "padded"))
+
 abbrev pub recording : App
-recording = with_rule (with_rule (with_rule of_captures (several (codes "tpid"))) (milliseconds (codes "wait"))) (milliseconds (codes "lost"))
+recording = with_rule (with_rule (with_rule by_captures (flag (codes "sources"))) out) (flag (codes "strict"))
 
 -- the program alone, which shows its help where no word follows
 abbrev pub alone : App

@@ -162,6 +162,12 @@ pub record IsRecord (rows : List Row) (words : RecordWords) : Type 0 where
   pub tpids : AreTexts (codes "tpid") rows words.tpids.items
   pub wait : IsOptionalNumber (codes "wait") rows words.wait
   pub lost : IsOptionalNumber (codes "lost") rows words.lost
+  pub skews : AreTexts (codes "skew") rows words.skews.items
+  pub fcs : IsFlag (codes "fcs") rows words.fcs
+  pub padded : IsFlag (codes "padded") rows words.padded
+  pub sources : IsFlag (codes "sources") rows words.sources
+  pub out : first_of (codes "out") rows ≡ option_map (λ (name : _). name.now) words.out
+  pub strict : IsFlag (codes "strict") rows words.strict
 
 -- those behind `decode`
 pub record IsDecode (rows : List Row) (words : DecodeWords) : Type 0 where

@@ -4,11 +4,13 @@
 mod numbered;
 mod reading;
 mod report;
+mod skewed;
 mod words;
 
-pub use numbered::{NumberedFile, read_numbered, read_tpid};
+pub use numbered::{LeftBy, LeftFile, NumberedFile, read_left, read_numbered, read_tpid};
 pub use reading::{complaint, read_matches};
 pub use report::report_words;
+pub use skewed::{SkewedFile, read_skewed};
 pub use words::{
     DecodeWords, EncodeWords, ExplainWords, ForwardWords, FrameWords, GraphWords, JudgeWords,
     LintWords, MibWords, RecordWords, ReplayWords, RulesWords, RunWords, TraceWords, TracesWords,

@@ -369,6 +369,12 @@ fn read_record<'a>(
         tpids: texts_of(alloc, given, "tpid")?,
         wait,
         lost,
+        skews: texts_of(alloc, given, "skew")?,
+        fcs: given.get_flag("fcs"),
+        padded: given.get_flag("padded"),
+        sources: given.get_flag("sources"),
+        out: given.get_str("out"),
+        strict: given.get_flag("strict"),
     }))
 }
 

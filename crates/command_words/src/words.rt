@@ -212,19 +212,33 @@ pub struct ForwardWords<'a> {
 }
 
 /// The captures that `record` makes a history of, and how. A capture of one port stands as the number of the port, `=`, and the file;
-/// [`read_numbered`](crate::read_numbered) takes such a text apart.
+/// [`read_numbered`](crate::read_numbered) takes such a text apart, [`read_left`](crate::read_left) one of frames that left, and
+/// [`read_skewed`](crate::read_skewed) one of how a clock deviates.
 #[derive(Drop)]
 pub struct RecordWords<'a> {
     /// The files with OMCI frames.
     pub omci: Vec<&'a str>,
     /// The numbers of ports, each with the file of the frames that were sent into it.
     pub into: Vec<&'a str>,
-    /// The numbers of GEM ports, each with the file of the frames that left by it.
+    /// The numbers of GEM ports, or `any`, each with the file of the frames that left by it; or files alone, whose interfaces name the GEM
+    /// ports.
     pub out_of: Vec<&'a str>,
     /// The types of tags beside those of IEEE 802.1Q, each in hexadecimal digits.
     pub tpids: Vec<&'a str>,
     /// How many milliseconds behind a reply a wait for it stands, or None for no waits.
     pub wait: Option<u32>,
-    /// After how many milliseconds a frame that wasn't seen to leave was dropped, or None where none is said to be.
+    /// After how many milliseconds a frame that wasn't seen to leave is lost, or None where none is said to be.
     pub lost: Option<u32>,
+    /// Files, each with the milliseconds that are added to its times.
+    pub skews: Vec<&'a str>,
+    /// Whether each frame ends in its check sequence.
+    pub fcs: bool,
+    /// Whether zeros that end a frame are looked past where frames are compared.
+    pub padded: bool,
+    /// Whether remarks say where each event was seen.
+    pub sources: bool,
+    /// The file for the history, `-` or None for standard output.
+    pub out: Option<&'a str>,
+    /// Whether a frame that left in doubt, a stray, or a frame that is still open is an error.
+    pub strict: bool,
 }

@@ -1,10 +1,8 @@
-//! The commands over captures: `forward`, and `record`, which makes a history of them.
+//! The command `forward`: which frames of a capture leave, with which tags and in which GEM port.
 //!
-//! What becomes of frames is found by the crate `bench_forward`, and a history by `bench_record`.
+//! What becomes of frames is found by the crate `bench_forward`.
 #![tactic(auto)]
 
 mod forwarding;
-mod recording;
 
 pub use forwarding::forward;
-pub use recording::record;

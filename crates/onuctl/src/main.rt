@@ -2,10 +2,11 @@
 #![tactic(auto)]
 
 use command_line::{Words, read_words, report_words, usual_words};
-use commands_captures::{forward, record};
+use commands_captures::forward;
 use commands_files::Unread;
 use commands_judging::judge_history;
 use commands_looking::{draw_graph, explain_frame, lint, show_mib, show_rules};
+use commands_recording::record;
 use commands_running::run;
 use commands_scripts::{decode_script, encode_text, replay_script, show_topic, topic_of};
 use std::alloc::{AllocError, Global};

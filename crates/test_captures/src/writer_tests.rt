@@ -1,7 +1,8 @@
 //! Writers that fail, or take no more, of frames that are forwarded and of histories.
 use bench_capture::FrameReader;
 use bench_forward::{ForwardFault, Forwarded, Outputs, forward_frames};
-use bench_record::{RecordedEvent, TimedEvent, write_history};
+use bench_history::{Extent, SeenGem};
+use bench_record::{RecordedEvent, Source, TimedEvent, write_history};
 use forward_plan::Live;
 use omci_msg::read;
 use std::alloc::{AllocError, Global};
@@ -115,51 +116,144 @@ fn a_writer_of_dropped_frames_fails_in_its_header(rt: HostRuntime) {
     same!(&rt; taken(&rt, &outputs.dropped), &FRONT[..30]);
 }
 
-/// An event of each kind.
-const EACH: [TimedEvent<'static>; 6] = [
+/// An event of each kind but one, and fronts.
+const EACH: [TimedEvent<'static>; 9] = [
     TimedEvent {
         time: 0,
+        source: Some(Source {
+            capture: 0,
+            place: 1,
+        }),
         event: RecordedEvent::Sent {
             message: &[0x00, 0xff],
         },
     },
     TimedEvent {
         time: 1,
+        source: Some(Source {
+            capture: 0,
+            place: 2,
+        }),
         event: RecordedEvent::Replied { reply: &[0x1a] },
     },
     TimedEvent {
         time: 2,
+        source: None,
         event: RecordedEvent::Waited { replies: u32::MAX },
     },
     TimedEvent {
-        time: 3,
+        time: 3_000_000_004,
+        source: Some(Source {
+            capture: 1,
+            place: 12,
+        }),
         event: RecordedEvent::Entered {
             port: 65535,
+            extent: Extent::Whole,
             frame: &[],
         },
     },
     TimedEvent {
-        time: 4,
+        time: 4_000_000_000,
+        source: None,
+        event: RecordedEvent::Entered {
+            port: 0,
+            extent: Extent::Front,
+            frame: &[0x02],
+        },
+    },
+    TimedEvent {
+        time: 5_000_000_000,
+        source: Some(Source {
+            capture: 2,
+            place: 1,
+        }),
         event: RecordedEvent::Left {
-            gem: 7,
+            gem: SeenGem::Port(7),
+            extent: Extent::Whole,
             number: u32::MAX,
             frame: &[0xc0, 0x0b],
         },
     },
     TimedEvent {
-        time: 5,
-        event: RecordedEvent::Dropped { number: 0 },
+        time: u64::MAX,
+        source: Some(Source {
+            capture: 1,
+            place: 13,
+        }),
+        event: RecordedEvent::Left {
+            gem: SeenGem::Any,
+            extent: Extent::Front,
+            number: 0,
+            frame: &[0xc0],
+        },
+    },
+    TimedEvent {
+        time: u64::MAX,
+        source: None,
+        event: RecordedEvent::Strayed {
+            gem: SeenGem::Any,
+            extent: Extent::Front,
+            frame: &[0x0b],
+        },
+    },
+    TimedEvent {
+        time: u64::MAX,
+        source: None,
+        event: RecordedEvent::Lost { number: 0 },
     },
 ];
 
-const EACH_TEXT: &[u8] = b"o 00ff\nr 1a\nw 4294967295\nf 65535 \ng 4294967295 7 c00b\nd 0\ne\n";
+const EACH_TEXT: &[u8] =
+    b"o 00ff\nr 1a\nw 4294967295\nf 65535 \nf 0 02..\ng 4294967295 7 c00b\ng 0 any c0..\ns any 0b..\nl 0\ne\n";
 
 #[test]
 fn each_event_has_a_line_and_a_write_that_fails_ends_them(rt: HostRuntime) {
     let mut sink = Sink::new(rt.alloc(), 3, 1_000, true);
-    same!(rt; write_history(&EACH, &mut sink), Ok(()));
+    same!(rt; write_history(&EACH, None, &mut sink), Ok(()));
     same!(rt; sink.bytes.as_slice(), EACH_TEXT);
     let mut sink = Sink::new(rt.alloc(), 3, 20, true);
-    same!(rt; write_history(&EACH, &mut sink), Err(WriteFault));
+    same!(rt; write_history(&EACH, None, &mut sink), Err(WriteFault));
     same!(rt; sink.bytes.as_slice(), &EACH_TEXT[..20]);
+}
+
+/// The third capture has no name here.
+const SOURCES_TEXT: &[u8] =
+    b"# omci.pcap record 1 0.000000000 s\no 00ff\n# omci.pcap record 2 0.000000001 s\nr 1a\nw 4294967295\n\
+# in.pcap record 12 3.000000004 s\nf 65535 \nf 0 02..\n#  record 1 5.000000000 s\ng 4294967295 7 c00b\n\
+# in.pcap record 13 18446744073.709551615 s\ng 0 any c0..\ns any 0b..\nl 0\ne\n";
+
+#[test]
+fn a_remark_stands_above_each_event_that_was_seen(rt: HostRuntime) {
+    let names: [&[u8]; 2] = [b"omci.pcap", b"in.pcap"];
+    let mut sink = Sink::new(rt.alloc(), 3, 1_000, true);
+    same!(rt; write_history(&EACH, Some(&names), &mut sink), Ok(()));
+    same!(rt; sink.bytes.as_slice(), SOURCES_TEXT);
+}
+
+/// A frame that left and is one of three.
+fn one_of_three(alloc: Global) -> Result<Vec<TimedEvent<'static>>, AllocError> {
+    let mut events = Vec::new(alloc);
+    events.push(TimedEvent {
+        time: 6,
+        source: None,
+        event: RecordedEvent::LeftOneOf {
+            gem: SeenGem::Port(65535),
+            extent: Extent::Front,
+            frame: &[0x2a],
+            numbers: vec![in alloc; 0, 7, u32::MAX]?,
+        },
+    })?;
+    Ok(events)
+}
+
+#[test]
+fn the_frames_that_one_may_be_stand_behind_it(rt: HostRuntime) {
+    let events = one_of_three(rt.alloc()).expect(&rt, "events");
+    let mut sink = Sink::new(rt.alloc(), 3, 1_000, true);
+    same!(rt; write_history(&events, None, &mut sink), Ok(()));
+    same!(rt; sink.bytes.as_slice(), b"a 65535 2a.. 0 7 4294967295\ne\n".as_slice());
+    let mut sink = Sink::new(rt.alloc(), 3, 14, false);
+    same!(rt; write_history(&events, None, &mut sink), Err(WriteFault));
+    same!(rt; sink.bytes.as_slice(), b"a 65535 2a.. 0".as_slice());
 }

@@ -1,19 +1,50 @@
-use Rattle.std.proofs.Common.{◌≡◌, ◌∙◌, ◌++◌, ◌∷◌, [], List, false, length, ap, sym, arith}
-use Rattle.std.proofs.lemmas.List.{length-map, map-append}
+use Rattle.std.proofs.Common.{◌≡◌, ◌∙◌, ◌&&◌, ◌++◌, ◌∷◌, [], List, ℕ, true, false, if◌then◌else◌, length, map, ap, arith, sym, refl}
+use Rattle.std.specs.List.{list_all}
+use Rattle.std.specs.Ordering.{is_eq}
+use Rattle.std.specs.Str.{bytes_eq}
+use Rattle.std.proofs.lemmas.Bool.{and_from}
+use Rattle.std.proofs.lemmas.Grind.{common_steps}
+use Rattle.std.proofs.lemmas.List.{map_push}
+use Rattle.std.proofs.lemmas.List.Folds.{list_all-append}
 use Rattle.std.proofs.lemmas.Result.{IfOk-weaker}
-use Rattle.bench_record.specs.Index.{core_shown, earliest_of, kept}
-use Rattle.bench_record.specs.Recorded.{SentFrame}
-use Rattle.bench_record.specs.declared.walk.KeptFrame.{KeptFrame}
+use Rattle.bench_record.specs.Index.{Key, compare_keys, core_shown, has_key, is_long, kept_shown, queue_of}
+use Rattle.bench_record.specs.Matching.{SentFrame}
+use Rattle.std.specs.Prelude.{Some}
+use Rattle.bench_record.proofs.Indexes.{same_keys, sent_index}
+use Rattle.bench_record.proofs.Walks.{same_count}
 use Rattle.bench_record.proofs.walk.Walk.enter_as.Goals as goal
 
 pub returns-clause-seen : goal.returns-clause-seen
-returns-clause-seen c = λ lost since seen is.
-    let x : SentFrame = record { time = c.args.time; core = core_shown c.args.core; has_left = false } in
-    let number : c.args.number ≡ length seen.sent = omega (arith, c.requires, ap (λ (xs : List KeptFrame). length xs) is.sent, length-map seen.sent kept) in
-    IfOk-weaker c.send.result _ _ (λ done index. record {
-      sent = c.in_ok-push.ensures.items ∙ ap (λ xs. xs ++ kept x ∷ []) is.sent ∙ sym (map-append kept seen.sent (x ∷ []));
-      waiting = index;
+returns-clause-seen c = λ lost since seen is long.
+    let core = core_shown c.args.core in
+    let x : SentFrame = record { time = c.args.time; core = core; has_left = false; hidden_before = length seen.hidden } in
+    let shortest = c.args.self.now.shortest in
+    let key : Key = c.key.result in
+    let number : c.args.number ≡ length seen.frames.sent = c.requires ∙ sym (same_count lost since seen c.args.self.now is) in
+    let has : (other : Key) → has_key shortest other (Some x) ≡ is_eq (compare_keys key other) =
+    λ other.
+    sym (same_keys key other
+    ∙ ap (λ (xs : List ℕ). bytes_eq xs other.0.now && bytes_eq key.1.now other.1.now) c.key.ensures.addresses
+    ∙ ap (λ (xs : List ℕ). bytes_eq core.addresses other.0.now && bytes_eq xs other.1.now) c.key.ensures.rest) in
+    let count : c.len.result ≡ length c.args.self.now.hidden.items = grind (arith, common_steps) in
+    let hidden : c.len.result ≡ length seen.hidden = count ∙ ap (λ (xs : List ℕ). length xs) is.hidden in
+    let all_long = λ (sent : SentFrame). is_long shortest sent.core in
+    IfOk-weaker c.send.result _ _ (λ done sends. record {
+      sent =
+          ap (λ xs. map kept_shown xs) c.in_ok-push.ensures.items ∙ map_push kept_shown c.args.self.now.sent.items _
+          ∙ ap (λ n. map kept_shown c.args.self.now.sent.items ++ record { time = c.args.time; core = core; has_left = false; hidden_before = n } ∷ []) hidden
+          ∙ ap (λ (xs : List SentFrame). xs ++ x ∷ []) is.sent;
+      waiting =
+          sent_index lost shortest seen.frames x since key c.args.self.now.waiting c.send.new.self
+          (λ other. sends other ∙ ap (λ n. if is_eq (compare_keys key other) then queue_of c.args.self.now.waiting key ++ n ∷ [] else queue_of c.args.self.now.waiting other) number)
+          has is.waiting;
+      doubts = is.doubts;
+      long =
+          list_all-append all_long seen.frames.sent (x ∷ [])
+          ∙ and_from (list_all all_long seen.frames.sent) (all_long x && true) is.long (and_from (all_long x) true long refl);
       replies = is.replies;
       events = is.events;
       passed = is.passed;
-    }) (c.send.ensures seen.sent (earliest_of lost since) is.waiting number)
+      hidden = is.hidden;
+      unnumbered = is.unnumbered;
+    }) c.send.ensures

@@ -2,6 +2,6 @@ use Rattle.command_line.proofs.grammar.record.recording.Goals as goal
 
 pub returns : goal.returns
 returns c =
-    let with_tpid = c.with_arg-with_tpid.ensures _ _ c.of_captures.ensures c.several-tpid.ensures.rule c.several-tpid.ensures.local in
-    let with_wait = c.with_arg-with_wait.ensures _ _ with_tpid c.milliseconds-wait.ensures.rule c.milliseconds-wait.ensures.local in
-    c.with_arg.ensures _ _ with_wait c.milliseconds-lost.ensures.rule c.milliseconds-lost.ensures.local
+    let with_sources = c.with_arg-with_sources.ensures _ _ c.by_captures.ensures c.flag-sources.ensures.rule c.flag-sources.ensures.local in
+    let with_out = c.with_arg-with_out.ensures _ _ with_sources c.out.ensures.rule c.out.ensures.local in
+    c.with_arg.ensures _ _ with_out c.flag-strict.ensures.rule c.flag-strict.ensures.local

@@ -1,0 +1,219 @@
+//! What a lab has to know of a history that was made of captures: what in it is in doubt, and what it leaves open.
+ghost use Rattle.std.specs.Prelude.{◌≡◌};
+ghost use Rattle.bench_history.specs.Among.{are_in_order, ascend_from};
+
+use crate::clocks::{Ahead, frames_ahead};
+use bench_history::Doubts;
+use bench_record::{Capture, RecordSettings, RecordedEvent, Recording, Source, TimedEvent};
+use std::alloc::{AllocError, Global};
+
+/// Frames of which something is to be said, by where they were seen; all but those that left before they were sent in order of their records.
+#[derive(Drop)]
+pub(crate) struct Findings {
+    /// Those of the management channel that are of another Ethertype.
+    pub(crate) other: Vec<Source>,
+    /// Those of which too little is known.
+    pub(crate) unread: Vec<Source>,
+    /// Those that left, and may have been sent unseen.
+    pub(crate) early: Vec<Source>,
+    /// Those that a history can't hold.
+    pub(crate) unwritable: Vec<Source>,
+    /// Those that left and may be one of several, or one that is doubtful.
+    pub(crate) doubtful: Vec<Source>,
+    /// Those that left, and that no open frame can be.
+    pub(crate) strays: Vec<Source>,
+    /// Those that left before any of their core was sent.
+    pub(crate) ahead: Vec<Ahead>,
+    /// Those that were sent, and neither left nor are lost.
+    pub(crate) open: Vec<Source>,
+}
+
+impl Findings {
+    /// Whether something in the history is in doubt, a stray or open, or left out for want of room.
+    pub(crate) fn leave_doubt(&self) -> bool {
+        !self.unwritable.is_empty()
+            || !self.doubtful.is_empty()
+            || !self.strays.is_empty()
+            || !self.ahead.is_empty()
+            || !self.open.is_empty()
+    }
+}
+
+/// A frame that was sent.
+#[derive(Clone, Copy)]
+struct Sent {
+    source: Source,
+    time: u64,
+    /// Whether it was seen to leave, or is lost.
+    has_ended: bool,
+}
+
+/// What is found so far.
+#[derive(Drop)]
+struct Finder {
+    alloc: Global,
+    // By their numbers.
+    sent: Vec<Sent>,
+    doubts: Doubts,
+    doubtful: Vec<Source>,
+    strays: Vec<Source>,
+}
+
+/// Whether numbers ascend from one on.
+fn ascend_from(least: u64, numbers: &[u32]) -> bool
+    ensures { result ≡ ascend_from least numbers.now }
+{
+    match numbers {
+        [] => true,
+        [first, rest @ ..] => {
+            u64::from(*first) >= least && ascend_from(u64::from(*first) + 1, rest)
+        }
+    }
+}
+
+/// Whether there are numbers, and they ascend.
+fn are_in_order(numbers: &[u32]) -> bool
+    ensures { result ≡ are_in_order numbers.now }
+{
+    match numbers {
+        [] => false,
+        [first, rest @ ..] => ascend_from(u64::from(*first) + 1, rest),
+    }
+}
+
+impl Finder {
+    fn new(alloc: Global) -> Self {
+        Finder {
+            alloc,
+            sent: Vec::new(alloc),
+            doubts: Doubts::new(alloc),
+            doubtful: Vec::new(alloc),
+            strays: Vec::new(alloc),
+        }
+    }
+
+    /// Notes that the frame of a number left, or is lost.
+    fn end(&mut self, number: u32) {
+        if let Some(sent) = self.sent.get_mut(number as usize) {
+            sent.has_ended = true;
+        }
+    }
+
+    /// Notes that one of some frames left.
+    fn doubt(&mut self, source: Source, numbers: &[u32]) -> Result<(), AllocError> {
+        self.doubtful.push(source)?;
+        let frames = Vec::from_slice(self.alloc, numbers)?;
+        if are_in_order(&frames) {
+            self.doubts.name(frames)?;
+        }
+        Ok(())
+    }
+
+    /// Notes an event that was seen in a captured frame.
+    fn see(
+        &mut self,
+        time: u64,
+        source: Source,
+        event: &RecordedEvent<'_>,
+    ) -> Result<(), AllocError> {
+        match event {
+            RecordedEvent::Entered { .. } => {
+                self.sent.push(Sent {
+                    source,
+                    time,
+                    has_ended: false,
+                })?;
+            }
+            RecordedEvent::Left { number, .. } => self.end(*number),
+            RecordedEvent::LeftOneOf { numbers, .. } => self.doubt(source, numbers)?,
+            RecordedEvent::Strayed { .. } => self.strays.push(source)?,
+            _ => {}
+        }
+        Ok(())
+    }
+
+    /// Notes an event.
+    fn note(&mut self, timed: &TimedEvent<'_>) -> Result<(), AllocError> {
+        match timed.source {
+            Some(source) => self.see(timed.time, source, &timed.event),
+            None => {
+                if let RecordedEvent::Lost { number } = &timed.event {
+                    self.end(*number);
+                }
+                Ok(())
+            }
+        }
+    }
+
+    /// Whether the frame of a number is open at a time: it neither left nor is lost or used up, and where it is doubtful its time isn't up.
+    fn is_open(&self, number: u32, sent: &Sent, lost: Option<u64>, time: u64) -> bool {
+        if sent.has_ended || self.doubts.is_used_up(number) {
+            return false;
+        }
+        match lost {
+            Some(lost) if self.doubts.is_doubtful(number) => {
+                sent.time.saturating_add(lost.saturating_mul(1_000_000)) > time
+            }
+            _ => true,
+        }
+    }
+
+    /// The frames that are open at a time.
+    fn open_at(&self, lost: Option<u64>, time: u64) -> Result<Vec<Source>, AllocError> {
+        let mut open = Vec::new(self.alloc);
+        for (number, sent) in self.sent.iter().enumerate() {
+            let Ok(number) = u32::try_from(number) else {
+                break;
+            };
+            if self.is_open(number, sent, lost, time) {
+                open.push(sent.source)?;
+            }
+        }
+        Ok(open)
+    }
+}
+
+/// The greatest time of the frames of captures.
+fn last_time(captures: &[Capture<'_>]) -> u64 {
+    let mut last = 0;
+    for capture in captures {
+        for frame in capture.frames {
+            last = frame.time.max(last);
+        }
+    }
+    last
+}
+
+/// Frames in order of their records.
+fn in_order(alloc: Global, frames: &[Source]) -> Result<Vec<Source>, AllocError> {
+    let mut frames = Vec::from_slice(alloc, frames)?;
+    frames.sort_by_key(|source| source.place)?;
+    Ok(frames)
+}
+
+/// What is to be said of a history that was made of captures.
+pub(crate) fn find(
+    alloc: Global,
+    captures: &[Capture<'_>],
+    settings: &RecordSettings<'_>,
+    recording: &Recording<'_>,
+) -> Result<Findings, AllocError> {
+    let mut finder = Finder::new(alloc);
+    for timed in &recording.events {
+        finder.note(timed)?;
+    }
+    let mut left = Vec::from_slice(alloc, &finder.strays)?;
+    left.extend_from_slice(&recording.passed.early)?;
+    let open = finder.open_at(settings.lost, last_time(captures))?;
+    let passed = &recording.passed;
+    Ok(Findings {
+        other: in_order(alloc, &passed.other)?,
+        unread: in_order(alloc, &passed.unread)?,
+        early: in_order(alloc, &passed.early)?,
+        unwritable: in_order(alloc, &passed.unwritable)?,
+        doubtful: in_order(alloc, &finder.doubtful)?,
+        strays: in_order(alloc, &finder.strays)?,
+        ahead: frames_ahead(alloc, captures, settings, &left)?,
+        open: in_order(alloc, &open)?,
+    })
+}
