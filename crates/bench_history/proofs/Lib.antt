@@ -1,6 +1,7 @@
 pub mod Added
 pub mod Doubting
 mod Examples
+pub mod Placed
 pub mod Reaching
 pub mod Spelled
 pub mod Steps

@@ -1,5 +1,5 @@
 //! Frames of which it can't be seen which one left.
-ghost use Rattle.std.specs.Prelude.{◌≡◌, ◌<◌, ◌≤◌, ◌==◌, ◌&&◌, ◌||◌, ◌++◌, ◌^◌, ◌∷◌, [], ℕ, IfOk, List, drop, false, length, map, max, nat_lt, slice_index_or, take, true};
+ghost use Rattle.std.specs.Prelude.{◌≡◌, ◌<◌, ◌≤◌, ◌==◌, ◌&&◌, ◌||◌, ◌++◌, ◌^◌, ◌∷◌, [], ℕ, IfOk, List, drop, false, is_some, length, map, max, nat_lt, position, slice_index_or, take, true};
 ghost use Rattle.std.specs.List.{count_by, list_all, list_any};
 ghost use Rattle.bench_history.specs.Among.{are_in_order};
 ghost use Rattle.bench_history.specs.History.{are_among, doubts_in, have_left, is_among};
@@ -33,18 +33,41 @@ pub struct Doubts {
     pub(crate) used_up: Vec<bool>,
 }
 
-/// Whether a frame is one of some.
-fn is_among(frames: &[u32], number: u32) -> bool
-    ensures { result ≡ is_among frames.now number }
+/// The first place of a frame among some.
+fn place_of(frames: &[u32], number: u32) -> Option<usize>
+    ensures { result ≡ position (λ n. n == number) frames.now }
 {
-    frames.iter().any(|frame| *frame == number)
+    frames.iter().position(|frame| *frame == number)
 }
 
-/// Whether frames are all among some.
+/// The place behind a frame among some. It is looked for from a place on first.
+fn place_behind(frames: &[u32], from: usize, number: u32) -> Option<usize>
+    ensures { is_some result ≡ is_among frames.now number }
+{
+    let (front, behind) = frames.split_at(from.min(frames.len()));
+    if let Some(place) = place_of(behind, number) {
+        return Some(front.len().saturating_add(place).saturating_add(1));
+    }
+    match place_of(front, number) {
+        Some(place) => Some(place.saturating_add(1)),
+        None => None,
+    }
+}
+
+/// Whether some frames are all among others. Where both ascend, it takes time in proportion to the others.
 fn are_among(frames: &[u32], some: &[u32]) -> bool
     ensures { result ≡ are_among frames.now some.now }
 {
-    some.iter().all(|number| is_among(frames, *number))
+    let mut from = 0;
+    let mut rest = some;
+    while let [number, more @ ..] = rest {
+        match place_behind(frames, from, *number) {
+            Some(place) => from = place,
+            None => return false,
+        }
+        rest = more;
+    }
+    true
 }
 
 /// Makes room for the flag of a place.

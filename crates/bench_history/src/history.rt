@@ -34,8 +34,8 @@ use std::alloc::Global;
 /// used up once as many `a` lines name only frames among them as they are.
 ///
 /// It takes time in proportion to the text, and memory in proportion to the number of its lines and of the frames that `a` lines name.
-/// An `a` line takes time for each `a` line above it from the first on that names a frame as late as its own first one: the product of
-/// how many frames the two name at most. Lines that name recent frames alone, as those of a recording do, are few.
+/// An `a` line takes time for each `a` line above it from the first on that names a frame as late as its own first one: in proportion to
+/// how many frames the two name. Lines that name recent frames alone, as those of a recording do, are few.
 pub fn read_history<'a>(alloc: Global, text: &'a [u8]) -> Result<Vec<Event<'a>>, HistoryFault>
     ensures events { IfOk result (λ events. history_of text.now ≡ Ok events.items) }
     ensures fault { IfErr result (IsWhyUnread text.now) }
