@@ -1,0 +1,9 @@
+//! Tests of the classes of a port: those of worked configurations, and of drawn ones against drawn frames.
+#![tactic(auto)]
+
+#[cfg(test)]
+mod drawn_tests;
+#[cfg(test)]
+mod plainly;
+#[cfg(test)]
+mod worked_tests;
