@@ -1,12 +1,12 @@
 -- All rows are left where no field was looked at.
-use Rattle.std.proofs.Common.{◌≡◌, ℕ, zero, suc, ◌+◌, ◌<◌, true, List, [], ◌∷◌, ◌++◌, Some, arith, refl, ap, sym, length, take, get_or, ◌∙◌}
+use Rattle.std.proofs.Common.{◌≡◌, ℕ, zero, suc, ◌+◌, ◌<◌, List, [], ◌∷◌, ◌++◌, arith, refl, ap, sym, length, take, ◌∙◌}
 use Rattle.std.specs.Prelude.{filter, slice_get}
 use Rattle.std.proofs.lemmas.List.{take_all}
 use Rattle.std.proofs.lemmas.List.Elements.{filter_map-append}
-use Rattle.frame_classes.specs.declared.field.Values.{Values}
-use Rattle.frame_classes.specs.declared.row.Row.{Row}
-use Rattle.frame_classes.specs.Row.{passes}
-use Rattle.frame_classes.specs.declared.class.Ending.{Ending}
+use Rattle.frame_rows.specs.declared.field.Values.{Values}
+use Rattle.frame_rows.specs.declared.row.Row.{Row}
+use Rattle.frame_rows.specs.Row.{passes}
+use Rattle.frame_rows.specs.declared.class.Ending.{Ending}
 use Rattle.frame_classes.specs.declared.found.Sample.{Sample}
 use Rattle.frame_classes.specs.Splitting.{AreAllFound, AreLeft, IsNear, rows_at}
 

@@ -5,12 +5,12 @@ use Rattle.std.proofs.lemmas.Bool.{ltb-true, true≢false}
 use Rattle.frame_meaning.specs.declared.reason.Reason.{Reason}
 use Rattle.frame_meaning.specs.declared.reason.Reason.TheVariants.{Runt, CutTag, NoRule, RuleDiscard, NoMapper, NullPointer, NoInterwork, NoGem, Direction}
 use Rattle.frame_meaning.specs.Reason.{number_of_reason}
-use Rattle.frame_classes.specs.declared.class.Use.{Use}
-use Rattle.frame_classes.specs.declared.class.Use.TheVariants.{Unread, NoTable, Entry, NoEntry}
-use Rattle.frame_classes.specs.declared.class.Ending.{Ending}
-use Rattle.frame_classes.specs.declared.class.Ending.TheVariants.{Gem, Dropped}
-use Rattle.frame_classes.specs.declared.class.FrameClass.{FrameClass}
-use Rattle.frame_classes.specs.Class.{class_fits, class_number, ending_fits, ending_number, use_fits, use_number}
+use Rattle.frame_rows.specs.declared.class.Use.{Use}
+use Rattle.frame_rows.specs.declared.class.Use.TheVariants.{Unread, NoTable, Entry, NoEntry}
+use Rattle.frame_rows.specs.declared.class.Ending.{Ending}
+use Rattle.frame_rows.specs.declared.class.Ending.TheVariants.{Gem, Dropped}
+use Rattle.frame_rows.specs.declared.class.FrameClass.{FrameClass}
+use Rattle.frame_rows.specs.Class.{class_fits, class_number, ending_fits, ending_number, use_fits, use_number}
 
 -- ---- reasons
 

@@ -1,16 +1,16 @@
 -- The values of one field, one after the other.
-use Rattle.std.proofs.Common.{◌≡◌, ◌⊎◌, inl, inr, ℕ, zero, suc, ◌+◌, ◌<◌, List, [], ◌∷◌, Some, arith, sym, subst, length, get_or, ◌∙◌}
+use Rattle.std.proofs.Common.{◌≡◌, ◌⊎◌, inl, inr, ℕ, zero, suc, List, [], ◌∷◌, Some, arith, sym, subst}
 use Rattle.std.specs.Prelude.{Any, Contains}
-use Rattle.frame_classes.specs.declared.class.Ending.{Ending}
-use Rattle.frame_classes.specs.declared.class.FrameClass.{FrameClass}
-use Rattle.frame_classes.specs.declared.field.Field.{Field}
-use Rattle.frame_classes.specs.declared.field.Values.{Values}
+use Rattle.frame_rows.specs.declared.class.Ending.{Ending}
+use Rattle.frame_rows.specs.declared.class.FrameClass.{FrameClass}
+use Rattle.frame_rows.specs.declared.field.Field.{Field}
+use Rattle.frame_rows.specs.declared.field.Values.{Values}
 use Rattle.frame_classes.specs.declared.found.Sample.{Sample}
-use Rattle.frame_classes.specs.declared.row.Row.{Row}
-use Rattle.frame_classes.specs.Field.{fields}
-use Rattle.frame_classes.specs.Row.{class_by}
+use Rattle.frame_rows.specs.declared.row.Row.{Row}
+use Rattle.frame_rows.specs.Field.{fields}
+use Rattle.frame_rows.specs.Row.{class_by}
 use Rattle.frame_classes.specs.Found.{classes_of}
-use Rattle.frame_classes.specs.Splitting.{AreAllFound, AreMore, IsNear, IsOf, Stands}
+use Rattle.frame_classes.specs.Splitting.{AreAllFound, IsNear, IsOf, Stands}
 
 -- the class of others is there, or one of the values that are left stands for theirs
 pub record AreGoing (endings : List Ending) (rows left : List Row) (least : ℕ) (some : List Field) (field : Field) (values : Values) (samples : List Sample) (rest : List ℕ) : Type 0 where

@@ -1,15 +1,15 @@
 -- The class of one case, kept.
 use Rattle.std.proofs.Common.{◌≡◌, ℕ, List, Option, Some, None, ap, sym, subst, get_or, ◌∙◌}
-use Rattle.std.specs.Prelude.{All, Contains, IsTrue, OnOk, Result, Ok, Err, slice_get}
+use Rattle.std.specs.Prelude.{All, Contains, IsTrue, slice_get}
 use Rattle.std.specs.Option.{option_map}
-use Rattle.frame_classes.specs.declared.class.Ending.{Ending}
-use Rattle.frame_classes.specs.declared.class.FrameClass.{FrameClass}
-use Rattle.frame_classes.specs.declared.field.Values.{Values}
+use Rattle.frame_rows.specs.declared.class.Ending.{Ending}
+use Rattle.frame_rows.specs.declared.class.FrameClass.{FrameClass}
+use Rattle.frame_rows.specs.declared.field.Values.{Values}
 use Rattle.frame_classes.specs.declared.found.Sample.{Sample}
-use Rattle.frame_classes.specs.declared.row.Row.{Row}
-use Rattle.frame_classes.specs.Class.{class_fits}
-use Rattle.frame_classes.specs.Field.{fields}
-use Rattle.frame_classes.specs.Row.{class_by, class_of_row, passes}
+use Rattle.frame_rows.specs.declared.row.Row.{Row}
+use Rattle.frame_rows.specs.Class.{class_fits}
+use Rattle.frame_rows.specs.Field.{fields}
+use Rattle.frame_rows.specs.Row.{class_by, class_of_row, passes}
 use Rattle.frame_classes.specs.Found.{Ascend, classes_of, put_in}
 use Rattle.frame_classes.specs.Splitting.{AreAllFound, AreLeft, AreMore, IsOf, IsSample, rows_at}
 use Rattle.frame_classes.proofs.ClassNumbers.{class_same}
@@ -71,10 +71,3 @@ none_every endings rows least values places before left first =
   where
     none_some : (c : FrameClass) → None ≡ Some c → ⊥
     none_some c e = cc
-
--- ---- of a result
-
--- what follows of two facts where it succeeds
-pub on_ok : {T E : Type 0} (P Q R : Type 0) (result : Result T E) → OnOk result P → OnOk result Q → (P → Q → R) → OnOk result R
-on_ok {T} {E} P Q R (Ok x) p q both = both p q
-on_ok {T} {E} P Q R (Err e) p q both = p

@@ -5,21 +5,21 @@ use Rattle.std.proofs.lemmas.Bool.{eq-eqb, ne_eqb}
 use Rattle.std.proofs.lemmas.List.{set-get_or}
 use Rattle.std.proofs.lemmas.List.Elements.{All-head, All-tail}
 use Rattle.frame_meaning.specs.declared.reason.Reason.TheVariants.{NoMapper}
-use Rattle.frame_classes.specs.declared.class.Ending.{Ending}
-use Rattle.frame_classes.specs.declared.class.Ending.TheVariants.{Dropped}
-use Rattle.frame_classes.specs.declared.class.FrameClass.{FrameClass}
-use Rattle.frame_classes.specs.declared.field.Field.{Field}
-use Rattle.frame_classes.specs.declared.field.Field.TheVariants.{Length, FirstType, SecondType, ThirdType, FirstVid, SecondVid, ThirdVid, FirstPriority, SecondPriority, FirstEligible, SecondEligible}
-use Rattle.frame_classes.specs.declared.field.Values.{Values}
-use Rattle.frame_classes.specs.declared.source.DscpSource.{DscpSource}
-use Rattle.frame_classes.specs.declared.source.Source.{Source}
-use Rattle.frame_classes.specs.declared.source.Source.TheVariants.{Fixed, FirstTag, SecondTag, Dscp}
-use Rattle.frame_classes.specs.declared.row.Ends.{Ends}
-use Rattle.frame_classes.specs.declared.row.Ends.TheVariants as ends
-use Rattle.frame_classes.specs.declared.row.Row.{Row}
-use Rattle.frame_classes.specs.Field.{fields, place_of, type_behind, value_at, vid_behind, with_value}
-use Rattle.frame_classes.specs.Source.{dscp_behind, mapped, priority_by}
-use Rattle.frame_classes.specs.Row.{class_by, class_of_row, dscp_reads, ending_of, ends_read, passes, row_reads, source_reads}
+use Rattle.frame_rows.specs.declared.class.Ending.{Ending}
+use Rattle.frame_rows.specs.declared.class.Ending.TheVariants.{Dropped}
+use Rattle.frame_rows.specs.declared.class.FrameClass.{FrameClass}
+use Rattle.frame_rows.specs.declared.field.Field.{Field}
+use Rattle.frame_rows.specs.declared.field.Field.TheVariants.{Length, FirstType, SecondType, ThirdType, FirstVid, SecondVid, ThirdVid, FirstPriority, SecondPriority, FirstEligible, SecondEligible}
+use Rattle.frame_rows.specs.declared.field.Values.{Values}
+use Rattle.frame_rows.specs.declared.source.DscpSource.{DscpSource}
+use Rattle.frame_rows.specs.declared.source.Source.{Source}
+use Rattle.frame_rows.specs.declared.source.Source.TheVariants.{Fixed, FirstTag, SecondTag, Dscp}
+use Rattle.frame_rows.specs.declared.row.Ends.{Ends}
+use Rattle.frame_rows.specs.declared.row.Ends.TheVariants as ends
+use Rattle.frame_rows.specs.declared.row.Row.{Row}
+use Rattle.frame_rows.specs.Field.{fields, place_of, type_behind, value_at, vid_behind, with_value}
+use Rattle.frame_rows.specs.Source.{dscp_behind, mapped, priority_by}
+use Rattle.frame_rows.specs.Row.{class_by, class_of_row, dscp_reads, ending_of, ends_read, passes, row_reads, source_reads}
 use Rattle.frame_classes.specs.Splitting.{IsNear}
 use Rattle.frame_classes.proofs.Near.{type_before, type_first}
 

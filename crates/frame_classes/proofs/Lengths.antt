@@ -4,20 +4,20 @@ use Rattle.std.specs.Prelude.{All, Any, Contains, IsTrue}
 use Rattle.std.proofs.lemmas.Bool.{eqb-true, leb-false, leb-true, ltb-false, ltb-true, true≢false}
 use Rattle.std.proofs.lemmas.List.{get_or_default}
 use Rattle.std.proofs.Math.Nat.{min-eq_left, min-le_left}
-use Rattle.frame_classes.specs.declared.ask.Ask.{Ask}
-use Rattle.frame_classes.specs.declared.ask.Ask.TheVariants.{Any as Anything, Exactly, Between, TagType, NoTagType, Ethertype}
-use Rattle.frame_classes.specs.declared.field.Field.TheVariants.{Length}
-use Rattle.frame_classes.specs.declared.field.Values.{Values}
-use Rattle.frame_classes.specs.declared.source.Source.{Source}
-use Rattle.frame_classes.specs.declared.source.Source.TheVariants.{Fixed, FirstTag, SecondTag, Dscp}
-use Rattle.frame_classes.specs.declared.row.Ends.{Ends}
-use Rattle.frame_classes.specs.declared.row.Ends.TheVariants as ends
-use Rattle.frame_classes.specs.declared.row.Row.{Row}
-use Rattle.frame_classes.specs.Ask.{admits}
+use Rattle.frame_rows.specs.declared.ask.Ask.{Ask}
+use Rattle.frame_rows.specs.declared.ask.Ask.TheVariants.{Any as Anything, Exactly, Between, TagType, NoTagType, Ethertype}
+use Rattle.frame_rows.specs.declared.field.Field.TheVariants.{Length}
+use Rattle.frame_rows.specs.declared.field.Values.{Values}
+use Rattle.frame_rows.specs.declared.source.Source.{Source}
+use Rattle.frame_rows.specs.declared.source.Source.TheVariants.{Fixed, FirstTag, SecondTag, Dscp}
+use Rattle.frame_rows.specs.declared.row.Ends.{Ends}
+use Rattle.frame_rows.specs.declared.row.Ends.TheVariants as ends
+use Rattle.frame_rows.specs.declared.row.Row.{Row}
+use Rattle.frame_rows.specs.Ask.{admits}
 use Rattle.frame_classes.specs.Choices.{IsTried, are_alike}
-use Rattle.frame_classes.specs.Field.{fields, value_at}
-use Rattle.frame_classes.specs.Fits.{asks_length, ends_fit, is_least, is_most, row_fits}
-use Rattle.frame_classes.specs.Row.{ask_at, ends_read}
+use Rattle.frame_rows.specs.Field.{fields, value_at}
+use Rattle.frame_rows.specs.Fits.{asks_length, ends_fit, is_least, is_most, row_fits}
+use Rattle.frame_rows.specs.Row.{ask_at, ends_read}
 use Rattle.frame_classes.specs.Splitting.{AreChoices, AreLeft, CanBe, IsNear, IsOf, Stands, rows_at}
 use Rattle.frame_classes.proofs.Numbers.{still_left}
 use Rattle.frame_classes.proofs.Standing.{ends_fits_at, fits_at, other_can_be}

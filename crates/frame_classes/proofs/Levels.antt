@@ -1,16 +1,15 @@
 -- One level of the splitting: the rows that are left, and the values so far.
-use Rattle.std.proofs.Common.{◌≡◌, ◌≢◌, ℕ, zero, suc, ◌+◌, ◌<◌, ◌≤◌, ◌==◌, Bool, true, false, ◌&&◌, List, [], ◌∷◌, ◌++◌, Option, Some, None, arith, refl, ap, sym, subst, length, length-take, min, take, get_or, cond, ◌∙◌}
+use Rattle.std.proofs.Common.{◌≡◌, ◌≢◌, ℕ, zero, suc, ◌+◌, ◌<◌, ◌≤◌, Bool, false, ◌&&◌, List, [], ◌∷◌, ◌++◌, Some, None, arith, refl, ap, sym, subst, length, length-take, min, take, get_or, cond, ◌∙◌}
 use Rattle.std.specs.Prelude.{All, filter, slice_get}
-use Rattle.std.proofs.lemmas.Bool.{eqb-false, eqb-true}
 use Rattle.std.proofs.lemmas.List.{get_or-take, get_or_default}
 use Rattle.std.proofs.lemmas.List.Elements.{All-cons, All-nil, All-push}
-use Rattle.frame_classes.specs.declared.field.Field.{Field}
-use Rattle.frame_classes.specs.declared.field.Field.TheVariants.{Length, FirstType, SecondType, ThirdType, FirstVid, SecondVid, ThirdVid, FirstPriority, SecondPriority, FirstEligible, SecondEligible}
-use Rattle.frame_classes.specs.declared.field.Values.{Values}
-use Rattle.frame_classes.specs.declared.row.Row.{Row}
-use Rattle.frame_classes.specs.Field.{end_of, fields, place_of, value_at, with_value}
-use Rattle.frame_classes.specs.Frame.{limit_of}
-use Rattle.frame_classes.specs.Row.{passes, row_admits}
+use Rattle.frame_rows.specs.declared.field.Field.{Field}
+use Rattle.frame_rows.specs.declared.field.Field.TheVariants.{Length, FirstType, SecondType, ThirdType, FirstVid, SecondVid, ThirdVid, FirstPriority, SecondPriority, FirstEligible, SecondEligible}
+use Rattle.frame_rows.specs.declared.field.Values.{Values}
+use Rattle.frame_rows.specs.declared.row.Row.{Row}
+use Rattle.frame_rows.specs.Field.{fields, place_of, value_at, with_value}
+use Rattle.frame_rows.specs.Words.{limit_of}
+use Rattle.frame_rows.specs.Row.{passes, row_admits}
 use Rattle.frame_classes.specs.Choices.{test_at}
 use Rattle.frame_classes.specs.Splitting.{AreLeft, CanBe, IsNear, IsOf, Stands, rows_at}
 use Rattle.frame_classes.proofs.Left.{fields-more, filter-filter, passes-append, rows_at-filter}

@@ -1,6 +1,3 @@
-mod Examples
-pub mod Uses
-pub mod EntryRows
 pub mod Finding
 pub mod Left
 pub mod Near
@@ -9,21 +6,10 @@ pub mod Leaves
 pub mod PutIn
 pub mod ClassNumbers
 pub mod Keeping
-pub mod Priorities
-pub mod ChosenRows
-pub mod Matching
-pub mod Words
-pub mod Reading
-pub mod Faults
-pub mod Ends
-pub mod ClassOf
-pub mod Means
-pub mod Meant
 pub mod SameReads
 pub mod Levels
 pub mod Going
 pub mod AllRows
-pub mod Fitting
 pub mod Written
 pub mod Standing
 pub mod Numbers

@@ -6,22 +6,22 @@ use Rattle.std.proofs.lemmas.Bool.{ltb-false, ltb-true, lt-ltb}
 use Rattle.std.proofs.lemmas.List.{get_or_append_left, get_or-append_right}
 use Rattle.std.proofs.lemmas.List.Elements.{All-from_recursion, All-nil}
 use Rattle.mib_state.specs.Entities.{Entities}
-use Rattle.frame_classes.specs.declared.class.Ending.{Ending}
-use Rattle.frame_classes.specs.declared.class.FrameClass.{FrameClass}
-use Rattle.frame_classes.specs.declared.field.Field.{Field}
-use Rattle.frame_classes.specs.declared.field.Field.TheVariants.{FirstType, SecondType, ThirdType, FirstVid, SecondVid, ThirdVid, FirstPriority, SecondPriority, FirstEligible, SecondEligible}
-use Rattle.frame_classes.specs.declared.field.Values.{Values}
+use Rattle.frame_rows.specs.declared.class.Ending.{Ending}
+use Rattle.frame_rows.specs.declared.class.FrameClass.{FrameClass}
+use Rattle.frame_rows.specs.declared.field.Field.{Field}
+use Rattle.frame_rows.specs.declared.field.Field.TheVariants.{FirstType, SecondType, ThirdType, FirstVid, SecondVid, ThirdVid, FirstPriority, SecondPriority, FirstEligible, SecondEligible}
+use Rattle.frame_rows.specs.declared.field.Values.{Values}
 use Rattle.frame_classes.specs.declared.found.Sample.{Sample}
-use Rattle.frame_classes.specs.declared.row.Row.{Row}
-use Rattle.frame_classes.specs.Class.{class_number, class_of}
+use Rattle.frame_rows.specs.declared.row.Row.{Row}
+use Rattle.frame_rows.specs.Class.{class_number, class_of}
 use Rattle.frame_classes.specs.Classes.{AreClasses, IsExample, IsFrame, classes_in}
-use Rattle.frame_classes.specs.Field.{end_of, fields, place_of, value_at, values_of, word_at}
+use Rattle.frame_rows.specs.Field.{end_of, fields, place_of, value_at, values_of, word_at}
 use Rattle.frame_classes.specs.Found.{Ascend, classes_of, number_of}
-use Rattle.frame_classes.specs.Frame.{limit_of}
-use Rattle.frame_classes.specs.Row.{class_by, row_reads}
-use Rattle.frame_classes.specs.Rows.{Mean}
+use Rattle.frame_rows.specs.Words.{limit_of}
+use Rattle.frame_rows.specs.Row.{class_by, row_reads}
+use Rattle.frame_rows.specs.Rows.{Mean}
 use Rattle.frame_classes.specs.Splitting.{AreAllFound, AreExamplesOf, CanBe, IsExampleOf, IsNear, IsOf, IsSample}
-use Rattle.frame_classes.proofs.Words.{type_fits}
+use Rattle.frame_rows.proofs.Words.{type_fits}
 
 -- ---- one example more
 

@@ -5,23 +5,24 @@ use Rattle.std.specs.List.{list_any}
 use Rattle.std.proofs.lemmas.Bool.{ltb-false, ltb-true, ne_eqb, true≢false}
 use Rattle.std.proofs.lemmas.List.{get_or_append_left, get_or_default, get_or-append_right}
 use Rattle.std.proofs.lemmas.List.Elements.{All-cons, All-from_get_or, All-nil}
-use Rattle.frame_classes.specs.declared.ask.Ask.{Ask}
-use Rattle.frame_classes.specs.declared.ask.Ask.TheVariants.{Any as Anything, Exactly, Between, TagType, NoTagType, Ethertype}
-use Rattle.frame_classes.specs.declared.field.Field.{Field}
-use Rattle.frame_classes.specs.declared.field.Field.TheVariants.{Length}
-use Rattle.frame_classes.specs.declared.field.Values.{Values}
-use Rattle.frame_classes.specs.declared.source.DscpSource.{DscpSource}
-use Rattle.frame_classes.specs.declared.source.Source.{Source}
-use Rattle.frame_classes.specs.declared.source.Source.TheVariants.{Fixed, FirstTag, SecondTag, Dscp}
-use Rattle.frame_classes.specs.declared.row.Ends.{Ends}
-use Rattle.frame_classes.specs.declared.row.Ends.TheVariants as ends
-use Rattle.frame_classes.specs.declared.row.Row.{Row}
-use Rattle.frame_classes.specs.Ask.{admits}
-use Rattle.frame_classes.specs.Choices.{ends_read_all, is_asked, is_read, is_some_value, test_at}
-use Rattle.frame_classes.specs.Field.{end_of, fields, place_of, type_behind, value_at, vid_behind}
-use Rattle.frame_classes.specs.Fits.{asks_number}
-use Rattle.frame_classes.specs.Frame.{limit_of}
-use Rattle.frame_classes.specs.Row.{ask_at, dscp_reads, ends_read, named_by, passes, source_reads}
+use Rattle.frame_rows.specs.declared.ask.Ask.{Ask}
+use Rattle.frame_rows.specs.declared.ask.Ask.TheVariants.{Any as Anything, Exactly, Between, TagType, NoTagType, Ethertype}
+use Rattle.frame_rows.specs.declared.field.Field.{Field}
+use Rattle.frame_rows.specs.declared.field.Field.TheVariants.{Length}
+use Rattle.frame_rows.specs.declared.field.Values.{Values}
+use Rattle.frame_rows.specs.declared.source.DscpSource.{DscpSource}
+use Rattle.frame_rows.specs.declared.source.Source.{Source}
+use Rattle.frame_rows.specs.declared.source.Source.TheVariants.{Fixed, FirstTag, SecondTag, Dscp}
+use Rattle.frame_rows.specs.declared.row.Ends.{Ends}
+use Rattle.frame_rows.specs.declared.row.Ends.TheVariants as ends
+use Rattle.frame_rows.specs.declared.row.Row.{Row}
+use Rattle.frame_rows.specs.Ask.{admits}
+use Rattle.frame_rows.specs.Alike.{ends_read_all}
+use Rattle.frame_classes.specs.Choices.{is_asked, is_read, is_some_value, test_at}
+use Rattle.frame_rows.specs.Field.{end_of, fields, place_of, type_behind, value_at, vid_behind}
+use Rattle.frame_rows.specs.Fits.{asks_number}
+use Rattle.frame_rows.specs.Words.{limit_of}
+use Rattle.frame_rows.specs.Row.{ask_at, dscp_reads, ends_read, named_by, passes, source_reads}
 use Rattle.frame_classes.specs.Splitting.{AreChoices, AreLeft, CanBe, IsNear, IsOf, Stands, rows_at}
 use Rattle.frame_classes.proofs.Near.{type_before}
 use Rattle.frame_classes.proofs.Standing.{all_filtered, field_within, other_can_be, same_stands}

@@ -4,7 +4,7 @@ use Rattle.std.specs.Prelude.{All, Contains, map, slice_index}
 use Rattle.std.specs.List.Sorted.{IsStrictlyIncreasing}
 use Rattle.std.proofs.lemmas.Bool.{eqb-false, eqb-true, ltb-false, ltb-true}
 use Rattle.std.proofs.lemmas.List.Elements.{All-cons, All-head, All-tail}
-use Rattle.frame_classes.specs.declared.class.FrameClass.{FrameClass}
+use Rattle.frame_rows.specs.declared.class.FrameClass.{FrameClass}
 use Rattle.frame_classes.specs.declared.found.Sample.{Sample}
 use Rattle.frame_classes.specs.Found.{Ascend, classes_of, number_of, put_in}
 

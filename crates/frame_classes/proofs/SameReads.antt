@@ -3,20 +3,20 @@ use Rattle.std.proofs.Common.{◌≡◌, ◌≢◌, ℕ, suc, ◌+◌, ◌*◌, 
 use Rattle.std.specs.Prelude.{All}
 use Rattle.std.proofs.lemmas.Bool.{eq-eqb, eqb-true, le-ltb, leb-false, leb-true, lt-ltb, ne_eqb}
 use Rattle.std.proofs.lemmas.List.{get_or-take, set-get_or}
-use Rattle.frame_classes.specs.declared.field.Field.{Field}
-use Rattle.frame_classes.specs.declared.field.Field.TheVariants.{Length, FirstType, SecondType, ThirdType, FirstVid, SecondVid, ThirdVid, FirstPriority, SecondPriority, FirstEligible, SecondEligible}
-use Rattle.frame_classes.specs.declared.field.Values.{Values}
-use Rattle.frame_classes.specs.declared.source.Packet.{Packet}
-use Rattle.frame_classes.specs.declared.source.Packet.TheVariants.{Ipv4, Ipv6, Other}
-use Rattle.frame_classes.specs.declared.source.DscpSource.{DscpSource}
-use Rattle.frame_classes.specs.declared.source.Source.{Source}
-use Rattle.frame_classes.specs.declared.source.Source.TheVariants.{Fixed, FirstTag, SecondTag, Dscp}
-use Rattle.frame_classes.specs.declared.row.Ends.{Ends}
-use Rattle.frame_classes.specs.declared.row.Ends.TheVariants as ends
-use Rattle.frame_classes.specs.declared.row.Row.{Row}
-use Rattle.frame_classes.specs.Field.{fields, place_of, type_behind, value_at, vid_behind, with_value}
-use Rattle.frame_classes.specs.Source.{dscp_behind, dscp_in, packet_of}
-use Rattle.frame_classes.specs.Row.{dscp_reads, ends_read, packet_number, row_reads, source_reads}
+use Rattle.frame_rows.specs.declared.field.Field.{Field}
+use Rattle.frame_rows.specs.declared.field.Field.TheVariants.{Length, FirstType, SecondType, ThirdType, FirstVid, SecondVid, ThirdVid, FirstPriority, SecondPriority, FirstEligible, SecondEligible}
+use Rattle.frame_rows.specs.declared.field.Values.{Values}
+use Rattle.frame_rows.specs.declared.source.Packet.{Packet}
+use Rattle.frame_rows.specs.declared.source.Packet.TheVariants.{Ipv4, Ipv6, Other}
+use Rattle.frame_rows.specs.declared.source.DscpSource.{DscpSource}
+use Rattle.frame_rows.specs.declared.source.Source.{Source}
+use Rattle.frame_rows.specs.declared.source.Source.TheVariants.{Fixed, FirstTag, SecondTag, Dscp}
+use Rattle.frame_rows.specs.declared.row.Ends.{Ends}
+use Rattle.frame_rows.specs.declared.row.Ends.TheVariants as ends
+use Rattle.frame_rows.specs.declared.row.Row.{Row}
+use Rattle.frame_rows.specs.Field.{fields, place_of, type_behind, value_at, vid_behind, with_value}
+use Rattle.frame_rows.specs.Source.{dscp_behind, dscp_in, packet_of}
+use Rattle.frame_rows.specs.Row.{dscp_reads, ends_read, packet_number, row_reads, source_reads}
 use Rattle.frame_classes.proofs.Near.{dscp_reads-same, type_before, type_first, value-with_other, value-with_same}
 
 -- ---- fields before another

@@ -1,16 +1,16 @@
 -- One field further: what stands for other values in it does so for frames.
-use Rattle.std.proofs.Common.{◌≡◌, ◌≢◌, ℕ, zero, suc, ◌+◌, ◌<◌, ◌≤◌, ◌==◌, Bool, true, false, ◌&&◌, List, [], ◌∷◌, ◌++◌, arith, refl, ap, sym, subst, length, get_or, cond, ◌∙◌}
+use Rattle.std.proofs.Common.{◌≡◌, ◌≢◌, ℕ, zero, suc, ◌<◌, ◌≤◌, ◌==◌, Bool, true, false, ◌&&◌, List, [], ◌∷◌, ◌++◌, arith, refl, ap, sym, subst, length, get_or, cond, ◌∙◌}
 use Rattle.std.specs.Prelude.{All, filter}
 use Rattle.std.proofs.lemmas.Bool.{eqb-false, eqb-true, true≢false}
 use Rattle.std.proofs.lemmas.List.{set-set}
 use Rattle.std.proofs.lemmas.List.Elements.{All-head, All-tail, All-push}
-use Rattle.frame_classes.specs.declared.field.Field.{Field}
-use Rattle.frame_classes.specs.declared.field.Field.TheVariants.{Length}
-use Rattle.frame_classes.specs.declared.field.Values.{Values}
-use Rattle.frame_classes.specs.declared.row.Row.{Row}
-use Rattle.frame_classes.specs.Field.{place_of, value_at, vid_behind, with_value}
-use Rattle.frame_classes.specs.Source.{dscp_behind}
-use Rattle.frame_classes.specs.Row.{passes, row_admits, row_reads}
+use Rattle.frame_rows.specs.declared.field.Field.{Field}
+use Rattle.frame_rows.specs.declared.field.Field.TheVariants.{Length}
+use Rattle.frame_rows.specs.declared.field.Values.{Values}
+use Rattle.frame_rows.specs.declared.row.Row.{Row}
+use Rattle.frame_rows.specs.Field.{place_of, value_at, with_value}
+use Rattle.frame_rows.specs.Source.{dscp_behind}
+use Rattle.frame_rows.specs.Row.{passes, row_admits, row_reads}
 use Rattle.frame_classes.specs.Splitting.{IsNear, Stands, StandsFor}
 use Rattle.frame_classes.proofs.Left.{passes-append}
 use Rattle.frame_classes.proofs.Near.{row_reads-later, row_reads-same, value-with_other, value-with_same}

@@ -4,15 +4,15 @@ use Rattle.std.specs.Prelude.{All, Any, Contains, IsTrue}
 use Rattle.std.proofs.lemmas.Bool.{eqb-true}
 use Rattle.std.proofs.lemmas.List.{get_or_default}
 use Rattle.std.proofs.lemmas.List.Elements.{All-contains, All-from_recursion, All-more, All-weaker}
-use Rattle.frame_classes.specs.declared.ask.Ask.{Ask}
-use Rattle.frame_classes.specs.declared.field.Field.{Field}
-use Rattle.frame_classes.specs.declared.field.Field.TheVariants.{Length, FirstType, SecondType, ThirdType, FirstVid, SecondVid, ThirdVid, FirstPriority, SecondPriority, FirstEligible, SecondEligible}
-use Rattle.frame_classes.specs.declared.field.Values.{Values}
-use Rattle.frame_classes.specs.declared.row.Row.{Row}
-use Rattle.frame_classes.specs.Field.{end_of, fields, place_of, value_at}
-use Rattle.frame_classes.specs.Fits.{ask_fits, asks_type, row_fits}
-use Rattle.frame_classes.specs.Frame.{limit_of}
-use Rattle.frame_classes.specs.Row.{ask_at}
+use Rattle.frame_rows.specs.declared.ask.Ask.{Ask}
+use Rattle.frame_rows.specs.declared.field.Field.{Field}
+use Rattle.frame_rows.specs.declared.field.Field.TheVariants.{Length, FirstType, SecondType, ThirdType, FirstVid, SecondVid, ThirdVid, FirstPriority, SecondPriority, FirstEligible, SecondEligible}
+use Rattle.frame_rows.specs.declared.field.Values.{Values}
+use Rattle.frame_rows.specs.declared.row.Row.{Row}
+use Rattle.frame_rows.specs.Field.{end_of, fields, place_of, value_at}
+use Rattle.frame_rows.specs.Fits.{ask_fits, asks_type, row_fits}
+use Rattle.frame_rows.specs.Words.{limit_of}
+use Rattle.frame_rows.specs.Row.{ask_at}
 use Rattle.frame_classes.specs.Splitting.{AreChoices, AreLeft, CanBe, IsNear, IsOf, Stands, rows_at}
 use Rattle.frame_classes.proofs.Numbers.{still_left}
 use Rattle.frame_classes.proofs.Standing.{field_within, fits_at, same_stands}

@@ -8,24 +8,25 @@ use Rattle.tag_view.specs.Tag.{is_tag_type}
 use Rattle.vlan_rule.specs.declared.filter.EthertypeFilter.{EthertypeFilter}
 use Rattle.vlan_rule.specs.declared.filter.EthertypeFilter.TheVariants as ethertype
 use Rattle.vlan_rule.specs.Choice.{has_type}
-use Rattle.frame_classes.specs.declared.ask.Ask.{Ask}
-use Rattle.frame_classes.specs.declared.ask.Ask.TheVariants.{Any, Exactly, Between, TagType, NoTagType, Ethertype}
-use Rattle.frame_classes.specs.declared.field.Field.{Field}
-use Rattle.frame_classes.specs.declared.field.Field.TheVariants.{Length}
-use Rattle.frame_classes.specs.declared.field.Values.{Values}
-use Rattle.frame_classes.specs.declared.source.DscpSource.{DscpSource}
-use Rattle.frame_classes.specs.declared.source.Packet.TheVariants.{Other}
-use Rattle.frame_classes.specs.declared.source.Source.{Source}
-use Rattle.frame_classes.specs.declared.source.Source.TheVariants.{Fixed, FirstTag, SecondTag, Dscp}
-use Rattle.frame_classes.specs.declared.row.Ends.{Ends}
-use Rattle.frame_classes.specs.declared.row.Ends.TheVariants as ends
-use Rattle.frame_classes.specs.declared.row.Row.{Row}
-use Rattle.frame_classes.specs.Ask.{admits}
-use Rattle.frame_classes.specs.Choices.{alike_by, are_alike, is_alike, test_at}
-use Rattle.frame_classes.specs.Field.{place_of, type_behind, value_at, vid_behind}
-use Rattle.frame_classes.specs.Fits.{asks_type}
-use Rattle.frame_classes.specs.Source.{packet_of}
-use Rattle.frame_classes.specs.Row.{ask_at, dscp_reads, ends_read, row_admits, row_reads, source_reads}
+use Rattle.frame_rows.specs.declared.ask.Ask.{Ask}
+use Rattle.frame_rows.specs.declared.ask.Ask.TheVariants.{Any, Exactly, Between, TagType, NoTagType, Ethertype}
+use Rattle.frame_rows.specs.declared.field.Field.{Field}
+use Rattle.frame_rows.specs.declared.field.Field.TheVariants.{Length}
+use Rattle.frame_rows.specs.declared.field.Values.{Values}
+use Rattle.frame_rows.specs.declared.source.DscpSource.{DscpSource}
+use Rattle.frame_rows.specs.declared.source.Packet.TheVariants.{Other}
+use Rattle.frame_rows.specs.declared.source.Source.{Source}
+use Rattle.frame_rows.specs.declared.source.Source.TheVariants.{Fixed, FirstTag, SecondTag, Dscp}
+use Rattle.frame_rows.specs.declared.row.Ends.{Ends}
+use Rattle.frame_rows.specs.declared.row.Ends.TheVariants as ends
+use Rattle.frame_rows.specs.declared.row.Row.{Row}
+use Rattle.frame_rows.specs.Ask.{admits}
+use Rattle.frame_rows.specs.Alike.{alike_by, is_alike}
+use Rattle.frame_classes.specs.Choices.{are_alike, test_at}
+use Rattle.frame_rows.specs.Field.{place_of, type_behind, value_at, vid_behind}
+use Rattle.frame_rows.specs.Fits.{asks_type}
+use Rattle.frame_rows.specs.Source.{packet_of}
+use Rattle.frame_rows.specs.Row.{ask_at, dscp_reads, ends_read, row_admits, row_reads, source_reads}
 use Rattle.frame_classes.specs.Splitting.{Stands, StandsFor, rows_at}
 
 -- ---- a value that is like one that stands for others

@@ -5,26 +5,27 @@ use Rattle.std.specs.Option.{option_and_then}
 use Rattle.std.proofs.lemmas.Bool.{eqb-false, eqb-true, ltb-false, ltb-true, ne_eqb, true≢false}
 use Rattle.std.proofs.lemmas.Option.{same_Some}
 use Rattle.std.proofs.lemmas.List.Elements.{All-cons, All-nil, All-push, All-weaker, Contains-push}
-use Rattle.frame_classes.specs.declared.ask.Ask.{Ask}
-use Rattle.frame_classes.specs.declared.ask.Ask.TheVariants.{Any as Anything, Exactly, Between, TagType, NoTagType, Ethertype}
-use Rattle.frame_classes.specs.declared.field.Field.{Field}
-use Rattle.frame_classes.specs.declared.field.Field.TheVariants.{Length, FirstType, SecondType, ThirdType, FirstVid, SecondVid, ThirdVid, FirstPriority, SecondPriority, FirstEligible, SecondEligible}
-use Rattle.frame_classes.specs.declared.field.Values.{Values}
-use Rattle.frame_classes.specs.declared.source.DscpSource.{DscpSource}
-use Rattle.frame_classes.specs.declared.source.Packet.{Packet}
-use Rattle.frame_classes.specs.declared.source.Packet.TheVariants.{Ipv4, Ipv6, Other}
-use Rattle.frame_classes.specs.declared.source.Source.{Source}
-use Rattle.frame_classes.specs.declared.source.Source.TheVariants.{Fixed, FirstTag, SecondTag, Dscp}
-use Rattle.frame_classes.specs.declared.row.Ends.{Ends}
-use Rattle.frame_classes.specs.declared.row.Ends.TheVariants as ends
-use Rattle.frame_classes.specs.declared.row.Row.{Row}
-use Rattle.frame_classes.specs.Ask.{admits}
-use Rattle.frame_classes.specs.Choices.{IsUnnamed, ends_read_all, is_asked, is_named, is_read, is_some_value, is_value, test_at}
-use Rattle.frame_classes.specs.Field.{end_of, fields, place_of, type_behind, value_at, vid_behind, with_value}
-use Rattle.frame_classes.specs.Fits.{asks_number}
-use Rattle.frame_classes.specs.Frame.{limit_of, packet_before, type_before}
-use Rattle.frame_classes.specs.Source.{bits_by, dscp_behind, dscp_in, has_dscp, mapped, packet_of}
-use Rattle.frame_classes.specs.Row.{ask_at, dscp_reads, ends_read, named_by}
+use Rattle.frame_rows.specs.declared.ask.Ask.{Ask}
+use Rattle.frame_rows.specs.declared.ask.Ask.TheVariants.{Any as Anything, Exactly, Between, TagType, NoTagType, Ethertype}
+use Rattle.frame_rows.specs.declared.field.Field.{Field}
+use Rattle.frame_rows.specs.declared.field.Field.TheVariants.{Length, FirstType, SecondType, ThirdType, FirstVid, SecondVid, ThirdVid, FirstPriority, SecondPriority, FirstEligible, SecondEligible}
+use Rattle.frame_rows.specs.declared.field.Values.{Values}
+use Rattle.frame_rows.specs.declared.source.DscpSource.{DscpSource}
+use Rattle.frame_rows.specs.declared.source.Packet.{Packet}
+use Rattle.frame_rows.specs.declared.source.Packet.TheVariants.{Ipv4, Ipv6, Other}
+use Rattle.frame_rows.specs.declared.source.Source.{Source}
+use Rattle.frame_rows.specs.declared.source.Source.TheVariants.{Fixed, FirstTag, SecondTag, Dscp}
+use Rattle.frame_rows.specs.declared.row.Ends.{Ends}
+use Rattle.frame_rows.specs.declared.row.Ends.TheVariants as ends
+use Rattle.frame_rows.specs.declared.row.Row.{Row}
+use Rattle.frame_rows.specs.Ask.{admits}
+use Rattle.frame_rows.specs.Alike.{ends_read_all}
+use Rattle.frame_classes.specs.Choices.{IsUnnamed, is_asked, is_named, is_read, is_some_value, is_value, test_at}
+use Rattle.frame_rows.specs.Field.{end_of, fields, place_of, type_behind, value_at, vid_behind, with_value}
+use Rattle.frame_rows.specs.Fits.{asks_number}
+use Rattle.frame_rows.specs.Words.{limit_of, packet_before, type_before}
+use Rattle.frame_rows.specs.Source.{bits_by, dscp_behind, dscp_in, has_dscp, mapped, packet_of}
+use Rattle.frame_rows.specs.Row.{ask_at, dscp_reads, ends_read, named_by}
 use Rattle.frame_classes.specs.Splitting.{AreChoices, AreLeft, CanBe, IsNear, IsOf, Stands, rows_at}
 use Rattle.frame_classes.proofs.Near.{value-with_other, value-with_same}
 use Rattle.frame_classes.proofs.Numbers.{none_left, still_left}

@@ -7,15 +7,16 @@ use Rattle.std.proofs.lemmas.Grind.{same_number_lists}
 use Rattle.std.proofs.lemmas.Bool.{lt-ltb, ltb-false, ltb-true}
 use Rattle.std.proofs.lemmas.List.{get_or-take, get_or_append_left, length-replicate}
 use Rattle.std.proofs.lemmas.List.Elements.{All-append, All-cons, All-from_recursion, All-nil, All-replicate, All-take}
-use Rattle.frame_classes.specs.declared.field.Field.TheVariants.{Length, FirstType, SecondType, ThirdType, FirstVid, SecondVid, ThirdVid, FirstPriority, SecondPriority, FirstEligible, SecondEligible}
-use Rattle.frame_classes.specs.declared.field.Values.{Values}
-use Rattle.frame_classes.specs.declared.source.Packet.{Packet}
-use Rattle.frame_classes.specs.declared.source.Packet.TheVariants.{Ipv4, Ipv6, Other}
-use Rattle.frame_classes.specs.Field.{fields, value_at, values_of, word_at}
-use Rattle.frame_classes.specs.Frame.{control_by, first_bits, frame_by, frame_length, head_by, packet_before, words_by}
+use Rattle.frame_rows.specs.declared.field.Field.TheVariants.{Length, FirstType, SecondType, ThirdType, FirstVid, SecondVid, ThirdVid, FirstPriority, SecondPriority, FirstEligible, SecondEligible}
+use Rattle.frame_rows.specs.declared.field.Values.{Values}
+use Rattle.frame_rows.specs.declared.source.Packet.{Packet}
+use Rattle.frame_rows.specs.declared.source.Packet.TheVariants.{Ipv4, Ipv6, Other}
+use Rattle.frame_rows.specs.Field.{fields, value_at, values_of, word_at}
+use Rattle.frame_rows.specs.Words.{control_by, first_bits, packet_before, words_by}
+use Rattle.frame_classes.specs.Frame.{frame_by, frame_length, head_by}
 use Rattle.frame_classes.specs.Classes.{IsFrame}
 use Rattle.frame_classes.specs.Splitting.{IsOf}
-use Rattle.frame_classes.proofs.Words.{type_bytes, word_there}
+use Rattle.frame_rows.proofs.Words.{type_bytes, word_there}
 
 -- ---- bytes
 

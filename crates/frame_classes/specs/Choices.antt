@@ -2,34 +2,18 @@
 use Rattle.std.specs.Prelude.{◌≡◌, ◌≤◌, ◌⊎◌, ℕ, Bool, true, false, List, Option, Some, None, ◌==◌, slice_get}
 use Rattle.std.specs.List.{list_all, list_any}
 use Rattle.std.specs.Option.{option_map_or}
-use Rattle.frame_classes.specs.declared.field.Field.{Field}
-use Rattle.frame_classes.specs.declared.field.Values.{Values}
-use Rattle.frame_classes.specs.declared.source.Packet.{Packet}
-use Rattle.frame_classes.specs.declared.source.Source.{Source}
-use Rattle.frame_classes.specs.declared.source.Source.TheVariants.{Fixed, FirstTag, SecondTag, Dscp}
-use Rattle.frame_classes.specs.declared.row.Ends.{Ends}
-use Rattle.frame_classes.specs.declared.row.Ends.TheVariants as ends
-use Rattle.frame_classes.specs.declared.row.Row.{Row}
-use Rattle.frame_classes.specs.Field.{counted_length, place_of, vid_behind}
-use Rattle.frame_classes.specs.Source.{dscp_in}
-use Rattle.frame_classes.specs.Row.{ask_at, named_by, row_admits, row_reads}
+use Rattle.frame_rows.specs.declared.field.Field.{Field}
+use Rattle.frame_rows.specs.declared.field.Values.{Values}
+use Rattle.frame_rows.specs.declared.source.Packet.{Packet}
+use Rattle.frame_rows.specs.declared.row.Row.{Row}
+use Rattle.frame_rows.specs.Field.{counted_length}
+use Rattle.frame_rows.specs.Source.{dscp_in}
+use Rattle.frame_rows.specs.Alike.{ends_read_all, is_alike}
+use Rattle.frame_rows.specs.Row.{ask_at, named_by}
 
 -- a test of the row at a place, if one stands there
 abbrev pub test_at : (Row → Bool) → Bool → List Row → ℕ → Bool
 test_at test missing rows place = option_map_or test (slice_get rows place) missing
-
--- ---- two values
-
-abbrev pub alike_by : Bool → Bool → ℕ → ℕ → Bool
-alike_by true true one other = one == other
-alike_by true false one other = false
-alike_by false true one other = false
-alike_by false false one other = true
-
--- a row admits both and its frames end alike, or it admits neither
-abbrev pub is_alike : Values → Field → ℕ → ℕ → Row → Bool
-is_alike values field one other row =
-    alike_by (row_admits row field one) (row_admits row field other) (row_reads row values field one) (row_reads row values field other)
 
 abbrev pub are_alike : List Row → List ℕ → Values → Field → ℕ → ℕ → Bool
 are_alike rows left values field one other = list_all (test_at (is_alike values field one other) true rows) left
@@ -49,17 +33,6 @@ is_named rows left field value = list_any (test_at (λ row. is_value value (name
 
 abbrev pub is_asked : List Row → List ℕ → Field → Bool
 is_asked rows left field = list_any (test_at (λ row. is_some_value (named_by (ask_at row field))) false rows) left
-
--- the ending of a row's frames depends on each value of a field that is no type and not the length
-abbrev pub source_reads_all : Source → Field → Bool
-source_reads_all (Fixed priority) field = false
-source_reads_all FirstTag field = place_of field == 7
-source_reads_all SecondTag field = place_of field == 8
-source_reads_all (Dscp source) field = place_of field == place_of (vid_behind source.tags)
-
-abbrev pub ends_read_all : Field → Ends → Bool
-ends_read_all field (ends.Dropped reason) = false
-ends_read_all field (ends.ByPriority source) = source_reads_all source field
 
 abbrev pub is_read : List Row → List ℕ → Field → Bool
 is_read rows left field = list_any (test_at (λ row. ends_read_all field row.ends) false rows) left

@@ -2,8 +2,8 @@
 use Rattle.std.specs.Prelude.{◌≡◌, ◌<◌, ◌≤◌, ◌^◌, ℕ, List, All, Contains, length, map}
 use Rattle.std.specs.List.Sorted.{IsStrictlyIncreasing}
 use Rattle.mib_state.specs.Entities.{Entities}
-use Rattle.frame_classes.specs.declared.class.FrameClass.{FrameClass}
-use Rattle.frame_classes.specs.Class.{class_number, class_of}
+use Rattle.frame_rows.specs.declared.class.FrameClass.{FrameClass}
+use Rattle.frame_rows.specs.Class.{class_number, class_of}
 
 -- a frame of at least so many bytes
 pub record IsFrame (least : ℕ) (bytes : List ℕ) : Type 0 where

@@ -1,9 +1,9 @@
 -- Classes that are found, in their order.
 use Rattle.std.specs.Prelude.{ℕ, List, [], ◌∷◌, if◌then◌else◌, ◌==◌, map, nat_lt}
 use Rattle.std.specs.List.Sorted.{IsStrictlyIncreasing}
-use Rattle.frame_classes.specs.declared.class.FrameClass.{FrameClass}
+use Rattle.frame_rows.specs.declared.class.FrameClass.{FrameClass}
 use Rattle.frame_classes.specs.declared.found.Sample.{Sample}
-use Rattle.frame_classes.specs.Class.{class_number}
+use Rattle.frame_rows.specs.Class.{class_number}
 
 abbrev pub number_of : Sample → ℕ
 number_of sample = class_number sample.class

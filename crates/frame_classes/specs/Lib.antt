@@ -1,14 +1,5 @@
-pub mod Use
-pub mod Class
 pub mod Classes
-pub mod Field
-pub mod Ask
-pub mod Source
 pub mod Frame
-pub mod Row
 pub mod Found
 pub mod Choices
 pub mod Splitting
-pub mod Treatments
-pub mod Rows
-pub mod Fits

@@ -1,19 +1,19 @@
 -- Frames told apart, field by field: which values stand for which others.
 use Rattle.std.specs.Prelude.{◌≡◌, ◌<◌, ◌≤◌, ℕ, true, IsTrue, List, All, Any, Contains, Some, filter, length, min, slice_get, slice_index_or, take}
 use Rattle.std.specs.List.{filter_map}
-use Rattle.frame_classes.specs.declared.class.Ending.{Ending}
-use Rattle.frame_classes.specs.declared.class.FrameClass.{FrameClass}
-use Rattle.frame_classes.specs.declared.field.Field.{Field}
-use Rattle.frame_classes.specs.declared.field.Field.TheVariants.{Length}
-use Rattle.frame_classes.specs.declared.field.Values.{Values}
-use Rattle.frame_classes.specs.declared.row.Row.{Row}
+use Rattle.frame_rows.specs.declared.class.Ending.{Ending}
+use Rattle.frame_rows.specs.declared.class.FrameClass.{FrameClass}
+use Rattle.frame_rows.specs.declared.field.Field.{Field}
+use Rattle.frame_rows.specs.declared.field.Field.TheVariants.{Length}
+use Rattle.frame_rows.specs.declared.field.Values.{Values}
+use Rattle.frame_rows.specs.declared.row.Row.{Row}
 use Rattle.frame_classes.specs.declared.found.Sample.{Sample}
-use Rattle.frame_classes.specs.Class.{class_fits}
+use Rattle.frame_rows.specs.Class.{class_fits}
 use Rattle.frame_classes.specs.Classes.{IsFrame}
-use Rattle.frame_classes.specs.Field.{counted_length, end_of, fields, place_of, value_at, values_of}
-use Rattle.frame_classes.specs.Frame.{limit_of}
+use Rattle.frame_rows.specs.Field.{counted_length, end_of, fields, place_of, value_at, values_of}
+use Rattle.frame_rows.specs.Words.{limit_of}
 use Rattle.frame_classes.specs.Found.{Ascend, classes_of}
-use Rattle.frame_classes.specs.Row.{class_by, passes, row_admits, row_reads}
+use Rattle.frame_rows.specs.Row.{class_by, passes, row_admits, row_reads}
 
 -- ---- values that a frame can have
 

@@ -3,13 +3,11 @@ ghost use Rattle.std.specs.Prelude.{◌≡◌, ◌<◌, ◌≤◌, ◌+◌, ◌^
 ghost use Rattle.std.specs.List.{list_any};
 ghost use Rattle.std.specs.Option.{option_and_then, option_copied};
 ghost use Rattle.arrayvec.specs.ArrayVec.{array_vec_len};
-ghost use Rattle.frame_classes.specs.declared.row.Row.{Row};
-ghost use Rattle.frame_classes.specs.Row.{ask_at, named_by};
+ghost use Rattle.frame_rows.specs.declared.row.Row.{Row};
+ghost use Rattle.frame_rows.specs.Row.{ask_at, named_by};
 
-use crate::field::{Field, LONG, Values};
-use crate::row::Row;
-use crate::source::Packet;
 use arrayvec::ArrayVec;
+use frame_rows::{Field, LONG, Packet, Row, Values};
 
 /// The most values of a field that are looked at for one case: those that rows name, and one beside them for each DSCP.
 pub(crate) const MAX_CHOICES: usize = 200;
@@ -48,12 +46,13 @@ pub(crate) struct Case<'r> {
 
 impl<'r> Case<'r> {
     ghost use Rattle.std.specs.Prelude.{◌&&◌, Any, IfNone, IfSome, IsTrue, Some, true, false, take};
-    ghost use Rattle.frame_classes.specs.declared.field.Field.TheVariants.{Length};
-    ghost use Rattle.frame_classes.specs.Field.{end_of, fields, place_of, value_at};
-    ghost use Rattle.frame_classes.specs.Fits.{asks_length, asks_number, ends_fit, row_fits};
-    ghost use Rattle.frame_classes.specs.Frame.{limit_of};
-    ghost use Rattle.frame_classes.specs.Source.{dscp_in, has_dscp};
-    ghost use Rattle.frame_classes.specs.Choices.{IsTried, IsUnnamed, are_alike, ends_read_all, is_alike, is_asked, is_named, is_read, is_value, test_at};
+    ghost use Rattle.frame_rows.specs.declared.field.Field.TheVariants.{Length};
+    ghost use Rattle.frame_rows.specs.Field.{end_of, fields, place_of, value_at};
+    ghost use Rattle.frame_rows.specs.Fits.{asks_length, asks_number, ends_fit, row_fits};
+    ghost use Rattle.frame_rows.specs.Words.{limit_of};
+    ghost use Rattle.frame_rows.specs.Source.{dscp_in, has_dscp};
+    ghost use Rattle.frame_rows.specs.Alike.{ends_read_all, is_alike};
+    ghost use Rattle.frame_classes.specs.Choices.{IsTried, IsUnnamed, are_alike, is_asked, is_named, is_read, is_value, test_at};
     ghost use Rattle.frame_classes.specs.Splitting.{AreChoices, AreLeft, rows_at};
 
     fn row(&self, place: u8) -> Option<&'r Row>

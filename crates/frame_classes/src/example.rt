@@ -1,12 +1,11 @@
 //! A frame that has a class.
 ghost use Rattle.std.specs.Prelude.{◌≡◌, IfOk, length};
 ghost use Rattle.frame_classes.specs.Classes.{IsFrame};
-ghost use Rattle.frame_classes.specs.Field.{fields, values_of};
+ghost use Rattle.frame_rows.specs.Field.{fields, values_of};
 ghost use Rattle.frame_classes.specs.Splitting.{IsOf};
 ghost use Rattle.frame_classes.specs.Frame.{frame_by, frame_length, head_by};
 
-use crate::class::FrameClass;
-use crate::field::{Field, LONG, Values};
+use frame_rows::{Field, FrameClass, LONG, Values};
 use std::alloc::{AllocError, Global};
 
 /// A class, and the bytes of a frame that has it.

@@ -4,8 +4,7 @@ ghost use Rattle.std.specs.Option.{option_map_or};
 ghost use Rattle.frame_classes.specs.declared.found.Sample.{Sample};
 ghost use Rattle.frame_classes.specs.Found.{Ascend, number_of};
 
-use crate::class::FrameClass;
-use crate::field::Values;
+use frame_rows::{FrameClass, Values};
 use std::alloc::{AllocError, Global};
 
 /// A class with the values of a frame that has it.
@@ -23,7 +22,7 @@ pub(crate) struct Found {
 
 impl Found {
     ghost use Rattle.std.specs.Prelude.{[], IsTrue, OnOk};
-    ghost use Rattle.frame_classes.specs.Class.{class_fits};
+    ghost use Rattle.frame_rows.specs.Class.{class_fits};
     ghost use Rattle.frame_classes.specs.Found.{put_in};
 
     /// None yet.

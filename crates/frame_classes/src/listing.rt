@@ -5,8 +5,8 @@ ghost use Rattle.frame_classes.specs.Splitting.{AreExamplesOf};
 
 use crate::example::{ClassExample, frame_of};
 use crate::found::Found;
-use crate::rows::Rows;
 use crate::splitting::Splitting;
+use frame_rows::Rows;
 use mib_state::Mib;
 use std::alloc::{AllocError, Global};
 

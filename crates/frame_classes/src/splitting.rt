@@ -1,12 +1,10 @@
 //! Frames told apart, field by field.
-ghost use Rattle.frame_classes.specs.declared.field.Values.{Values};
-ghost use Rattle.frame_classes.specs.declared.row.Row.{Row};
+ghost use Rattle.frame_rows.specs.declared.field.Values.{Values};
+ghost use Rattle.frame_rows.specs.declared.row.Row.{Row};
 
 use crate::choices::{Case, Left};
-use crate::field::{Field, Values};
 use crate::found::Found;
-use crate::row::Row;
-use crate::rows::Rows;
+use frame_rows::{Field, Row, Rows, Values};
 use std::alloc::AllocError;
 
 /// The frames of at least so many bytes that come in at a port, told apart by its rows.
@@ -19,9 +17,9 @@ pub(crate) struct Splitting<'r> {
 impl<'r> Splitting<'r> {
     ghost use Rattle.std.specs.Prelude.{◌≡◌, ◌≤◌, [], false, All, IsTrue, OnOk, filter, length, slice_get, take};
     ghost use Rattle.std.specs.Option.{option_copied};
-    ghost use Rattle.frame_classes.specs.Field.{fields};
-    ghost use Rattle.frame_classes.specs.Row.{row_admits};
-    ghost use Rattle.frame_classes.specs.Fits.{row_fits};
+    ghost use Rattle.frame_rows.specs.Field.{fields};
+    ghost use Rattle.frame_rows.specs.Row.{row_admits};
+    ghost use Rattle.frame_rows.specs.Fits.{row_fits};
     ghost use Rattle.frame_classes.specs.Choices.{test_at};
     ghost use Rattle.frame_classes.specs.Splitting.{AreAllFound, AreLeft, AreMore, IsOf, IsSample, rows_at};
     ghost use Rattle.frame_classes.specs.Found.{Ascend};

@@ -1,6 +1,5 @@
-use Rattle.std.proofs.Common.{List, ℕ, [], length}
+use Rattle.std.proofs.Common.{[], length}
 use Rattle.std.specs.Prelude.{map}
-use Rattle.frame_classes.specs.declared.class.FrameClass.{FrameClass}
 use Rattle.frame_classes.specs.declared.example.ClassExample.{ClassExample}
 use Rattle.frame_classes.specs.Classes.{AreClasses}
 use Rattle.frame_classes.specs.Splitting.{AreExamplesOf}

@@ -1,7 +1,7 @@
 use Rattle.std.proofs.Common.{◌≡◌, ◌<◌, List, ℕ, arith, ap, length, refl, subst, sym, ◌∙◌}
 use Rattle.std.specs.Prelude.{map}
 use Rattle.std.proofs.lemmas.List.{get_or_default, map-append}
-use Rattle.frame_classes.specs.declared.class.FrameClass.{FrameClass}
+use Rattle.frame_rows.specs.declared.class.FrameClass.{FrameClass}
 use Rattle.frame_classes.specs.declared.example.ClassExample.{ClassExample}
 use Rattle.frame_classes.specs.declared.found.Sample.{Sample}
 use Rattle.frame_classes.specs.Splitting.{AreExamplesOf, IsExampleOf}

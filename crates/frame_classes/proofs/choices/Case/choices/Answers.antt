@@ -1,6 +1,6 @@
 use Rattle.std.proofs.Common.{◌<◌, arith}
-use Rattle.frame_classes.specs.declared.field.Field.TheVariants.{Length, FirstVid, SecondVid, ThirdVid, FirstPriority, SecondPriority, FirstEligible, SecondEligible}
-use Rattle.frame_classes.specs.Field.{end_of, place_of, value_at}
+use Rattle.frame_rows.specs.declared.field.Field.TheVariants.{Length, FirstVid, SecondVid, ThirdVid, FirstPriority, SecondPriority, FirstEligible, SecondEligible}
+use Rattle.frame_rows.specs.Field.{end_of, place_of, value_at}
 use Rattle.frame_classes.proofs.Lengths.{all_ends_fit}
 use Rattle.frame_classes.proofs.Standing.{absent_choices, asks_numbers, of_three, of_two}
 use Rattle.frame_classes.proofs.choices.Case.choices.Goals as goal

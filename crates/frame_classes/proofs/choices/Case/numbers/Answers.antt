@@ -1,5 +1,5 @@
 use Rattle.std.proofs.Common.{◌≡◌, arith, sym}
-use Rattle.frame_classes.specs.Frame.{limit_of}
+use Rattle.frame_rows.specs.Words.{limit_of}
 use Rattle.frame_classes.proofs.Numbers.{all_along, one_more, one_number}
 use Rattle.frame_classes.proofs.choices.Case.numbers.Goals as goal
 

@@ -1,6 +1,6 @@
 use Rattle.std.proofs.Common.{◌≡◌, ℕ, Option, Some, arith, false, sym, subst}
 use Rattle.std.specs.Prelude.{Any}
-use Rattle.frame_classes.specs.Source.{dscp_in}
+use Rattle.frame_rows.specs.Source.{dscp_in}
 use Rattle.frame_classes.specs.Choices.{IsUnnamed, is_named}
 use Rattle.frame_classes.proofs.Vids.{any_kept, dscp_small, one_more}
 use Rattle.frame_classes.proofs.choices.Case.put_each_dscp.Goals as goal

@@ -1,6 +1,6 @@
 use Rattle.std.proofs.Common.{◌≡◌, ◌^◌, ◌<◌, ◌≤◌, ℕ, false, Some, length}
 use Rattle.std.specs.Prelude.{All, Any}
-use Rattle.frame_classes.specs.Source.{dscp_in}
+use Rattle.frame_rows.specs.Source.{dscp_in}
 use Rattle.frame_classes.specs.Choices.{IsUnnamed, is_named}
 use Rattle.frame_classes.proofs.choices.Case.put_each_dscp.Given as goal
 

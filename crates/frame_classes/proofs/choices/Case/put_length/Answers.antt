@@ -1,5 +1,5 @@
 use Rattle.std.proofs.Common.{◌≡◌, ◌≤◌, arith, inl, inr}
-use Rattle.frame_classes.specs.Field.{counted_length}
+use Rattle.frame_rows.specs.Field.{counted_length}
 use Rattle.frame_classes.proofs.Lengths.{and_so}
 use Rattle.frame_classes.proofs.choices.Case.put_length.Goals as goal
 

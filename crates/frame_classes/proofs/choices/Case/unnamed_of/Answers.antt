@@ -1,6 +1,6 @@
 use Rattle.std.proofs.Common.{◌≡◌, ◌≤◌, ℕ, arith, sym, subst, true}
 use Rattle.frame_classes.specs.Choices.{is_named}
-use Rattle.frame_classes.specs.Source.{bits_by}
+use Rattle.frame_rows.specs.Source.{bits_by}
 use Rattle.frame_classes.proofs.Vids.{bits_found, one_more}
 use Rattle.frame_classes.proofs.choices.Case.unnamed_of.Goals as goal
 

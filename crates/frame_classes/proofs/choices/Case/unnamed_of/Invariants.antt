@@ -1,6 +1,6 @@
 use Rattle.std.proofs.Common.{◌≡◌, ◌<◌, ℕ, true}
 use Rattle.frame_classes.specs.Choices.{is_named}
-use Rattle.frame_classes.specs.Source.{bits_by}
+use Rattle.frame_rows.specs.Source.{bits_by}
 use Rattle.frame_classes.proofs.choices.Case.unnamed_of.Given as goal
 
 -- those that were looked at are named

@@ -1,7 +1,7 @@
 use Rattle.std.proofs.Common.{◌≡◌, ◌<◌, ◌^◌, ◌&&◌, ℕ, false, sym, subst}
 use Rattle.std.specs.Prelude.{Any}
-use Rattle.frame_classes.specs.declared.source.Packet.{Packet}
-use Rattle.frame_classes.specs.Source.{dscp_in, has_dscp}
+use Rattle.frame_rows.specs.declared.source.Packet.{Packet}
+use Rattle.frame_rows.specs.Source.{dscp_in, has_dscp}
 use Rattle.frame_classes.specs.Choices.{IsUnnamed, is_named, is_read}
 use Rattle.frame_classes.proofs.Vids.{by_dscp_choices, by_name_choices, plain_choices}
 use Rattle.frame_classes.proofs.choices.Case.vids.Goals as goal

@@ -1,4 +1,4 @@
-use Rattle.frame_classes.specs.Source.{dscp_in}
+use Rattle.frame_rows.specs.Source.{dscp_in}
 use Rattle.frame_classes.specs.Choices.{IsUnnamed}
 use Rattle.frame_classes.proofs.Vids.{any_kept}
 use Rattle.frame_classes.proofs.choices.Case.vids_by_dscp.Goals as goal

@@ -1,10 +1,10 @@
-use Rattle.std.proofs.Common.{◌≡◌, ◌<◌, ◌≤◌, ◌+◌, ◌∷◌, inr, ℕ, List, arith, ap, subst, sym, take, length, length-set, rules, ◌∙◌}
+use Rattle.std.proofs.Common.{◌≡◌, ◌<◌, ◌≤◌, inr, ℕ, List, arith, ap, subst, sym, take, length, length-set, rules, ◌∙◌}
 use Rattle.std.specs.Prelude.{All, Any}
 use Rattle.std.proofs.lemmas.List.Elements.{All-head, All-tail}
-use Rattle.frame_classes.specs.declared.field.Field.TheVariants.{Length}
-use Rattle.frame_classes.specs.declared.row.Row.{Row}
-use Rattle.frame_classes.specs.declared.field.Values.{Values}
-use Rattle.frame_classes.specs.Field.{fields, value_at, with_value}
+use Rattle.frame_rows.specs.declared.field.Field.TheVariants.{Length}
+use Rattle.frame_rows.specs.declared.row.Row.{Row}
+use Rattle.frame_rows.specs.declared.field.Values.{Values}
+use Rattle.frame_rows.specs.Field.{fields, value_at}
 use Rattle.frame_classes.specs.Splitting.{AreChoices, CanBe, IsNear, IsOf, Stands, rows_at}
 use Rattle.frame_classes.proofs.Going.{AreGoing, going_on}
 use Rattle.frame_classes.proofs.Keeping.{none_more}

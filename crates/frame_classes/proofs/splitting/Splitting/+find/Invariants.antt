@@ -1,7 +1,7 @@
 use Rattle.std.proofs.Common.{◌-◌, take}
 use Rattle.std.specs.Prelude.{All}
-use Rattle.frame_classes.specs.declared.field.Field.TheVariants.{Length}
-use Rattle.frame_classes.specs.Field.{fields, value_at}
+use Rattle.frame_rows.specs.declared.field.Field.TheVariants.{Length}
+use Rattle.frame_rows.specs.Field.{fields, value_at}
 use Rattle.frame_classes.specs.Splitting.{AreMore, CanBe, rows_at}
 use Rattle.frame_classes.proofs.Going.{AreGoing}
 use Rattle.frame_classes.proofs.splitting.Splitting.+find.Given as goal

@@ -1,6 +1,6 @@
 use Rattle.std.proofs.Common.{◌≡◌, ◌<◌, ◌≤◌, ◌+◌, arith, length}
 use Rattle.frame_classes.proofs.AllRows.{all_left, found_by_any, rows_more}
-use Rattle.frame_classes.proofs.Keeping.{on_ok}
+use Rattle.frame_rows.proofs.EntryRows.{on_ok}
 use Rattle.frame_classes.proofs.splitting.Splitting.find_all.Goals as goal
 
 pub loop-place-preserved : goal.loop-place-preserved

@@ -1,5 +1,6 @@
 use Rattle.frame_classes.specs.declared.found.Sample.{Sample}
-use Rattle.frame_classes.proofs.Keeping.{leaf_every, leaf_more, none_every, on_ok}
+use Rattle.frame_rows.proofs.EntryRows.{on_ok}
+use Rattle.frame_classes.proofs.Keeping.{leaf_every, leaf_more, none_every}
 use Rattle.frame_classes.proofs.splitting.Splitting.keep.Goals as goal
 
 pub returns-in-None-clause-every : goal.returns-in-None-clause-every

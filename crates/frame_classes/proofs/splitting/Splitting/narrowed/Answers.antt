@@ -1,6 +1,6 @@
 use Rattle.std.proofs.Common.{◌≡◌, ◌++◌, ℕ, List, false, arith, ap, length, ◌∙◌}
 use Rattle.std.specs.Prelude.{filter}
-use Rattle.frame_classes.specs.Row.{row_admits}
+use Rattle.frame_rows.specs.Row.{row_admits}
 use Rattle.frame_classes.specs.Choices.{test_at}
 use Rattle.frame_classes.proofs.splitting.Splitting.narrowed.Goals as goal
 

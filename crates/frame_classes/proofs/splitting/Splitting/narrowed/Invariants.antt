@@ -1,6 +1,6 @@
 use Rattle.std.proofs.Common.{◌≡◌, ◌+◌, ◌≤◌, ◌++◌, false, length}
 use Rattle.std.specs.Prelude.{filter}
-use Rattle.frame_classes.specs.Row.{row_admits}
+use Rattle.frame_rows.specs.Row.{row_admits}
 use Rattle.frame_classes.specs.Choices.{test_at}
 use Rattle.frame_classes.proofs.splitting.Splitting.narrowed.Given as goal
 

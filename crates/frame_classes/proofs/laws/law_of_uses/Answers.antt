@@ -1,9 +1,0 @@
--- The law, beside the worked examples, which are checked where they are cited.
-use Rattle.frame_classes.proofs.Examples.{added, dropped, empty, kept, ordered, unmatched}
-use Rattle.frame_classes.proofs.Uses.{numbers_the_chosen}
-use Rattle.frame_classes.proofs.laws.law_of_uses.Goals as goal
-
-pub returns : goal.returns
-returns c =
-    let first = empty in let second = kept in let third = added in let fourth = dropped in let fifth = unmatched in let sixth = ordered in
-    numbers_the_chosen

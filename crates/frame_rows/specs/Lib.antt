@@ -1,0 +1,11 @@
+pub mod Use
+pub mod Class
+pub mod Field
+pub mod Ask
+pub mod Source
+pub mod Words
+pub mod Row
+pub mod Alike
+pub mod Treatments
+pub mod Rows
+pub mod Fits
