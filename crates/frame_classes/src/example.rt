@@ -11,7 +11,9 @@ use std::alloc::{AllocError, Global};
 /// A class, and the bytes of a frame that has it.
 #[derive(Debug, Drop)]
 pub struct ClassExample {
+    /// The class.
     pub class: FrameClass,
+    /// The frame's bytes, from the destination address on, without a check sequence.
     pub frame: Vec<u8>,
 }
 

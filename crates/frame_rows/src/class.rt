@@ -28,7 +28,9 @@ pub enum Ending {
 /// The class of a frame: what the table of its port uses for it, and how it ends.
 #[derive(Clone, Copy, Debug, PartialEq, Eq)]
 pub struct FrameClass {
+    /// What the table uses for it.
     pub used: Use,
+    /// How it ends.
     pub ending: Ending,
 }
 

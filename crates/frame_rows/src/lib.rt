@@ -1,5 +1,6 @@
-//! What the managed entities of an optical network unit mean for the frames that come in at a port (ITU-T G.988, clauses 9.3.13, 9.3.10,
-//! 9.2.4 and 9.2.3), as a list of rows, each of which asks something of some fields of a frame.
+//! What managed entities mean for the frames that come in at a port, as rows that ask something of a frame's fields.
+//!
+//! The entities are those of ITU-T G.988, clauses 9.3.13, 9.3.10, 9.2.4 and 9.2.3.
 //!
 //! **Fields.** A frame counts for its class by eleven fields alone: its length, where all from 24 bytes on are one, the types at
 //! bytes 12, 16 and 20, and of the words between them the VID (of the last one the same bits, which hold a DSCP), the priority and

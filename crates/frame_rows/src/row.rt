@@ -12,6 +12,7 @@ use vlan_rule::{EthertypeFilter, Filter, TagFilter};
 /// How the frames of a row end.
 #[derive(Clone, Copy, Debug, PartialEq, Eq)]
 pub enum Ends {
+    /// They are dropped, for this reason.
     Dropped(Reason),
     /// As the mapper says for the priority of this source.
     ByPriority(Source),
@@ -20,8 +21,11 @@ pub enum Ends {
 /// What is asked of each field of a frame, and the class of the frames for which it is the first row that asks nothing else.
 #[derive(Clone, Copy, Debug, PartialEq, Eq)]
 pub struct Row {
+    /// What the port's table uses for its frames.
     pub used: Use,
+    /// How its frames end.
     pub ends: Ends,
+    /// What it asks of each field, in the order of `Field::ALL`.
     pub asks: [Ask; FIELD_COUNT],
 }
 

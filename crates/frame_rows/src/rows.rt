@@ -25,10 +25,12 @@ use vlan_rule::{EthertypeFilter, Filter, Rule, TableSettings, Treatment};
 /// asks nothing else of it.
 #[derive(Drop)]
 pub struct Rows {
+    /// The rows: those of frames that can't be read, then those of the table's entries in the order in which they are tried, and those of frames
+    /// that no entry matches.
     pub rows: Vec<Row>,
     /// The input TPID by which they read tags.
     pub input: u16,
-    /// How frames of each priority end.
+    /// How frames of each priority, from 0 to 7, end.
     pub endings: [Ending; 8],
 }
 
@@ -42,7 +44,7 @@ impl Rows {
     ghost use Rattle.frame_rows.specs.Rows.{Mean, endings_at, rows_of};
     ghost use Rattle.frame_rows.specs.Row.{class_of_row};
 
-    /// The rows of a port.
+    /// The rows of a port, for the state of these managed entities. Err only where memory is refused.
     pub fn of(alloc: Global, mib: &Mib, port: u16) -> Result<Rows, AllocError>
         ensures rows { IfOk result (λ rows. rows.rows.items ≡ rows_of mib.now.entities port) }
         ensures endings { IfOk result (λ rows. rows.endings ≡ endings_at mib.now.entities port) }

@@ -25,6 +25,7 @@ pub enum Source {
 pub struct DscpSource {
     /// How many tags stand before the packet that has the DSCP.
     pub tags: u8,
+    /// Which priority each DSCP has.
     pub map: DscpMap,
     /// The priority of a frame without a DSCP, under 8.
     pub without: u8,
