@@ -27,6 +27,16 @@ const TYPES: [u16; 10] = [
 /// Lengths, each the greatest of those that nothing tells apart. The first stands for all that are greater, too.
 const LENGTHS: [u16; 7] = [LONG, 23, 21, 19, 17, 15, 13];
 
+/// The type that one sends first: of a tag, but behind two tags that of a packet.
+fn first_type(field: Field) -> u16
+    ensures { result < 2 ^ 16 }
+{
+    match field {
+        Field::ThirdType => 0x0800,
+        _ => 0x8100,
+    }
+}
+
 /// One value.
 fn only(value: u16) -> Choices
     ensures { result.items ≡ value ∷ [] }
@@ -183,7 +193,7 @@ impl<'r> Case<'r> {
             (rows_at self.now.rows.now self.now.left.now.items)
             least field self.now.values.now result.items }
     {
-        let mut choices = Choices::new();
+        let mut choices = only(first_type(field));
         for ethertype in &TYPES {
             self.put(&mut choices, field, *ethertype);
         }

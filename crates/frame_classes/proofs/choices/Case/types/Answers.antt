@@ -1,6 +1,20 @@
-use Rattle.std.proofs.Common.{arith, ◌≡◌}
+use Rattle.std.proofs.Common.{◌≡◌, ◌<◌, ◌^◌, ℕ, [], arith, ap, length, subst, sym}
+use Rattle.std.specs.Prelude.{All}
+use Rattle.std.proofs.lemmas.List.Elements.{All-cons, All-nil}
+use Rattle.frame_classes.proofs.Types.{Covers}
 use Rattle.frame_classes.proofs.TypeChoices.{cover_all, cover_more, fit_more, known_small, type_choices}
 use Rattle.frame_classes.proofs.choices.Case.types.Goals as goal
+
+pub loop-ethertype-init : goal.loop-ethertype-init
+loop-ethertype-init c =
+    let is = c.only-choices.ensures in
+    let one : length c.only-choices.result.items ≡ 1 = ap length is in
+    record {
+      few = omega (arith, one);
+      fit = subst (All (λ (v : ℕ). v < 2 ^ 16)) (sym is)
+          (All-cons (λ (v : ℕ). v < 2 ^ 16) c.first_type.result [] c.first_type.ensures (All-nil (λ (v : ℕ). v < 2 ^ 16)));
+      cover = All-nil (Covers c.args.self.now.rows.now c.args.self.now.left.now.items c.args.self.now.values.now c.args.field c.only-choices.result.items);
+    }
 
 pub loop-ethertype-preserved : goal.loop-ethertype-preserved
 loop-ethertype-preserved c =

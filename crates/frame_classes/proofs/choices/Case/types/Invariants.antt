@@ -1,4 +1,4 @@
-use Rattle.std.proofs.Common.{◌≤◌, ◌<◌, ◌^◌, take}
+use Rattle.std.proofs.Common.{◌≤◌, ◌<◌, ◌+◌, ◌^◌, take}
 use Rattle.std.specs.Prelude.{All}
 use Rattle.arrayvec.specs.ArrayVec.{array_vec_len}
 use Rattle.frame_classes.proofs.Types.{Covers, known_types}
@@ -8,7 +8,7 @@ use Rattle.frame_classes.proofs.choices.Case.types.Given as goal
 abbrev pub invariant-loop-ethertype : goal.invariant-loop-ethertype
 invariant-loop-ethertype l =
     record {
-      few : array_vec_len l.choices ≤ l.ethertype-index;
+      few : array_vec_len l.choices ≤ l.ethertype-index + 1;
       fit : All (λ c. c < 2 ^ 16) l.choices.items;
       cover : All (Covers l.self.rows.now l.self.left.now.items l.self.values.now l.field l.choices.items) (take l.ethertype-index known_types);
     }
