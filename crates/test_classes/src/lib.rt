@@ -1,6 +1,8 @@
-//! Tests of the classes of a port: those of worked configurations, and of drawn ones against drawn frames.
+//! Tests of the classes of a port: those of worked configurations, and those of drawn ones beside drawn frames.
 #![tactic(auto)]
 
+#[cfg(test)]
+mod drawn_frame;
 #[cfg(test)]
 mod drawn_tests;
 #[cfg(test)]

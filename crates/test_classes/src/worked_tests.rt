@@ -1,130 +1,652 @@
-//! The classes of worked configurations.
-use crate::plainly::class_of;
-use frame_classes::{ClassExample, Ending, FrameClass, Use, classes};
+//! The classes of worked configurations of port 257, each derived from the rules by hand.
+use crate::plainly::Listed;
+use forward_plan::Live;
+use frame_classes::{ClassExample, Ending, Use, classes};
 use frame_meaning::Reason;
-use mib_state::Mib;
-use omci_msg::Request;
+use omci_msg::{Action, Request};
 use std::alloc::{AllocError, Global};
 use std::process::Abort;
-use test_draws::{create_gem_port, create_interwork, create_mapper, create_table, set};
+use std::test::Fail;
+use tag_view::{FrameFault, view};
+use test_draws::{create_gem_port, create_interwork, create_mapper, create_table, request, set};
 use test_fixtures::{holds, same};
 
-/// The entities after some requests.
-fn after(alloc: Global, requests: &[Request]) -> Result<Mib, AllocError> {
-    let mut mib = Mib::new(alloc)?;
-    for request in requests {
-        let _ = mib.step(request);
-    }
-    Ok(mib)
+/// A Set behind the provisioning of the port, by which each priority leads to port-ID 1024 and the table keeps tags.
+#[derive(Clone, Copy)]
+enum Change {
+    /// Of an entry of the table, by its first eight bytes and its last eight.
+    Entry(u64, u64),
+    /// Of other attributes of the table, by a mask.
+    Table(u16, &'static [u8]),
+    /// Of attributes of the mapper, by a mask.
+    Mapper(u16, &'static [u8]),
 }
 
-/// The requests by which port 257 leads to port-ID 1024, with a table that keeps tags, and some more.
-fn lead(more: [Request; 2]) -> [Request; 6] {
-    let [first, second] = more;
-    [
+/// A use and an ending.
+type Class = (Use, Ending);
+
+/// A configuration by its name, the changes that make it, and the classes of frames of at least so many bytes.
+type Worked = (
+    &'static str,
+    &'static [Change],
+    &'static [(usize, &'static [Class])],
+);
+
+/// The last eight bytes of an entry that changes nothing, of one that drops the frame, of those that take one tag or two away, and of a
+/// deletion.
+const UNCHANGED: u64 = 0x000f0000_000f0000;
+
+const DROPPED: u64 = 0xc00f0000_000f0000;
+
+const LESS_ONE: u64 = 0x400f0000_000f0000;
+
+const LESS_TWO: u64 = 0x800f0000_000f0000;
+
+const DELETION: u64 = 0xffffffff_ffffffff;
+
+/// The entry by which frames without a tag get one of VLAN 100.
+const TAGGING: Change = Change::Entry(0xf8000000_f8000000, 0x000f0000_00000324);
+
+/// By attributes 2, 10 and 11 priority 0 leads nowhere, and a frame that leaves without a tag has priority 1 by each DSCP, and 0 without.
+const EACH_DSCP: Change = Change::Mapper(
+    0x4060,
+    &[
+        0xff, 0xff, 0x00, 0x24, 0x92, 0x49, 0x24, 0x92, 0x49, 0x24, 0x92, 0x49, 0x24, 0x92, 0x49,
+        0x24, 0x92, 0x49, 0x24, 0x92, 0x49, 0x24, 0x92, 0x49, 0x24, 0x92, 0x49,
+    ],
+);
+
+/// By attributes 5, 7, 10, 11 and 12 priority 3 leads to an interworking point that isn't there and priority 5 nowhere. A frame that
+/// leaves without a tag has priority 5 by DSCP 46, 0 by each other, and 3 without.
+const DSCP_46: Change = Change::Mapper(
+    0x0a70,
+    &[
+        0x05, 0x99, 0xff, 0xff, 0x00, 0, 0, 0, 0, 0, 0, 0, 0, 0, 0, 0, 0, 0, 0, 0, 0, 0, 0x28, 0,
+        0, 0, 0, 0, 0, 0x03,
+    ],
+);
+
+/// By attribute 8 of the table priority 5 by DSCP 46, and 0 by each other.
+const TAG_BY_DSCP_46: Change = Change::Table(
+    0x0100,
+    &[
+        0, 0, 0, 0, 0, 0, 0, 0, 0, 0, 0, 0, 0, 0, 0, 0, 0, 0x28, 0, 0, 0, 0, 0, 0,
+    ],
+);
+
+const RUNT: Class = (Use::Unread, Ending::Dropped(Reason::Runt));
+
+const CUT: Class = (Use::Unread, Ending::Dropped(Reason::CutTag));
+
+const LEFT: Ending = Ending::Gem(1024);
+
+const NO_RULE: Ending = Ending::Dropped(Reason::NoRule);
+
+const DISCARD: Ending = Ending::Dropped(Reason::RuleDiscard);
+
+const NO_MAPPER: Ending = Ending::Dropped(Reason::NoMapper);
+
+const NOWHERE: Ending = Ending::Dropped(Reason::NullPointer);
+
+const NO_POINT: Ending = Ending::Dropped(Reason::NoInterwork);
+
+const WORKED: [Worked; 18] = [
+    (
+        "the predefined entries",
+        &[],
+        &[
+            (
+                0,
+                &[
+                    RUNT,
+                    CUT,
+                    (Use::Entry(0), LEFT),
+                    (Use::Entry(1), LEFT),
+                    (Use::Entry(2), LEFT),
+                ],
+            ),
+            (
+                60,
+                &[
+                    (Use::Entry(0), LEFT),
+                    (Use::Entry(1), LEFT),
+                    (Use::Entry(2), LEFT),
+                ],
+            ),
+        ],
+    ),
+    (
+        "no table in force",
+        &[Change::Table(0x8000, &[0]), DSCP_46],
+        &[(
+            0,
+            &[
+                RUNT,
+                CUT,
+                (Use::NoTable, LEFT),
+                (Use::NoTable, NOWHERE),
+                (Use::NoTable, NO_POINT),
+            ],
+        )],
+    ),
+    (
+        "no mapper: a rule discards before",
+        &[
+            Change::Mapper(0x8000, &[0x01, 0x02]),
+            Change::Entry(0xf8000000_e8000000, DROPPED),
+        ],
+        &[(
+            0,
+            &[
+                RUNT,
+                CUT,
+                (Use::Entry(0), DISCARD),
+                (Use::Entry(1), NO_MAPPER),
+                (Use::Entry(3), NO_MAPPER),
+            ],
+        )],
+    ),
+    (
+        "no entry for two tags",
+        &[Change::Entry(0xe0000000_e0000000, DELETION)],
+        &[(
+            0,
+            &[
+                RUNT,
+                CUT,
+                (Use::Entry(0), LEFT),
+                (Use::Entry(1), LEFT),
+                (Use::NoEntry, NO_RULE),
+            ],
+        )],
+    ),
+    (
+        "a predefined entry behind one for all of its frames",
+        &[TAGGING],
+        &[(
+            0,
+            &[
+                RUNT,
+                CUT,
+                (Use::Entry(0), LEFT),
+                (Use::Entry(2), LEFT),
+                (Use::Entry(3), LEFT),
+            ],
+        )],
+    ),
+    (
+        "a default entry before an ordinary one in the table",
+        &[
+            Change::Entry(0xf8000000_e8000000, DROPPED),
+            Change::Entry(0xf8000000_80320000, UNCHANGED),
+        ],
+        &[(
+            0,
+            &[
+                RUNT,
+                CUT,
+                (Use::Entry(0), LEFT),
+                (Use::Entry(1), DISCARD),
+                (Use::Entry(2), LEFT),
+                (Use::Entry(4), LEFT),
+            ],
+        )],
+    ),
+    (
+        "a priority that leads nowhere, kept in tags",
+        &[TAGGING, Change::Mapper(0x0200, &[0x05, 0x99])],
+        &[(
+            0,
+            &[
+                RUNT,
+                CUT,
+                (Use::Entry(0), LEFT),
+                (Use::Entry(2), LEFT),
+                (Use::Entry(2), NO_POINT),
+                (Use::Entry(3), LEFT),
+                (Use::Entry(3), NO_POINT),
+            ],
+        )],
+    ),
+    // Without a DSCP are IPv4 packets alone that end before its byte: frames of 14 and 15 bytes, of 18 and 19, and of 22 and 23.
+    (
+        "frames that end before the DSCP",
+        &[
+            EACH_DSCP,
+            Change::Entry(0xf8000000_f8000001, UNCHANGED),
+            Change::Entry(0xf8000000_88000001, LESS_ONE),
+            Change::Entry(0x88000000_88000001, LESS_TWO),
+        ],
+        &[
+            (
+                0,
+                &[
+                    RUNT,
+                    CUT,
+                    (Use::Entry(0), LEFT),
+                    (Use::Entry(0), NOWHERE),
+                    (Use::Entry(1), LEFT),
+                    (Use::Entry(1), NOWHERE),
+                    (Use::Entry(2), LEFT),
+                    (Use::Entry(2), NOWHERE),
+                    (Use::Entry(3), LEFT),
+                    (Use::Entry(3), NOWHERE),
+                    (Use::Entry(4), LEFT),
+                    (Use::Entry(4), NOWHERE),
+                    (Use::Entry(5), LEFT),
+                    (Use::Entry(5), NOWHERE),
+                ],
+            ),
+            (
+                16,
+                &[
+                    CUT,
+                    (Use::Entry(0), LEFT),
+                    (Use::Entry(1), LEFT),
+                    (Use::Entry(1), NOWHERE),
+                    (Use::Entry(2), LEFT),
+                    (Use::Entry(2), NOWHERE),
+                    (Use::Entry(3), LEFT),
+                    (Use::Entry(3), NOWHERE),
+                    (Use::Entry(4), LEFT),
+                    (Use::Entry(4), NOWHERE),
+                    (Use::Entry(5), LEFT),
+                    (Use::Entry(5), NOWHERE),
+                ],
+            ),
+            (
+                20,
+                &[
+                    CUT,
+                    (Use::Entry(0), LEFT),
+                    (Use::Entry(1), LEFT),
+                    (Use::Entry(2), LEFT),
+                    (Use::Entry(2), NOWHERE),
+                    (Use::Entry(3), LEFT),
+                    (Use::Entry(3), NOWHERE),
+                    (Use::Entry(4), LEFT),
+                    (Use::Entry(4), NOWHERE),
+                    (Use::Entry(5), LEFT),
+                    (Use::Entry(5), NOWHERE),
+                ],
+            ),
+            (
+                24,
+                &[
+                    (Use::Entry(0), LEFT),
+                    (Use::Entry(1), LEFT),
+                    (Use::Entry(2), LEFT),
+                    (Use::Entry(3), LEFT),
+                    (Use::Entry(3), NOWHERE),
+                    (Use::Entry(4), LEFT),
+                    (Use::Entry(4), NOWHERE),
+                    (Use::Entry(5), LEFT),
+                    (Use::Entry(5), NOWHERE),
+                ],
+            ),
+        ],
+    ),
+    (
+        "a priority by the DSCP where no tag is left",
+        &[DSCP_46, Change::Entry(0xf8000000_e8000000, LESS_ONE)],
+        &[(
+            0,
+            &[
+                RUNT,
+                CUT,
+                (Use::Entry(0), LEFT),
+                (Use::Entry(0), NOWHERE),
+                (Use::Entry(0), NO_POINT),
+                (Use::Entry(1), LEFT),
+                (Use::Entry(1), NOWHERE),
+                (Use::Entry(1), NO_POINT),
+                (Use::Entry(3), LEFT),
+                (Use::Entry(3), NOWHERE),
+                (Use::Entry(3), NO_POINT),
+            ],
+        )],
+    ),
+    (
+        "a tag's priority by the DSCP",
+        &[
+            TAG_BY_DSCP_46,
+            Change::Mapper(0x0200, &[0xff, 0xff]),
+            Change::Entry(0xf8000000_f8000000, 0x000f0000_000a0324),
+        ],
+        &[(
+            0,
+            &[
+                RUNT,
+                CUT,
+                (Use::Entry(0), LEFT),
+                (Use::Entry(0), NOWHERE),
+                (Use::Entry(2), LEFT),
+                (Use::Entry(2), NOWHERE),
+                (Use::Entry(3), LEFT),
+                (Use::Entry(3), NOWHERE),
+            ],
+        )],
+    ),
+    (
+        "a tag's priority by the DSCP, 0 by each",
+        &[
+            Change::Mapper(0x0200, &[0xff, 0xff]),
+            Change::Entry(0xf8000000_f8000000, 0x000f0000_000a0324),
+        ],
+        &[(
+            0,
+            &[
+                RUNT,
+                CUT,
+                (Use::Entry(0), LEFT),
+                (Use::Entry(2), LEFT),
+                (Use::Entry(2), NOWHERE),
+                (Use::Entry(3), LEFT),
+                (Use::Entry(3), NOWHERE),
+            ],
+        )],
+    ),
+    // Its type begins a tag, but for the one behind two tags.
+    (
+        "an input TPID that is the type of IPv4",
+        &[
+            Change::Table(0x2000, &[0x08, 0x00]),
+            Change::Entry(0xf8000000_f8000001, DROPPED),
+            Change::Entry(0xf8000000_88005000, DROPPED),
+            Change::Entry(0xf8000000_88000001, DROPPED),
+            Change::Entry(0x88000000_88000001, DROPPED),
+        ],
+        &[(
+            0,
+            &[
+                RUNT,
+                CUT,
+                (Use::Entry(1), DISCARD),
+                (Use::Entry(3), DISCARD),
+                (Use::Entry(4), LEFT),
+                (Use::Entry(5), LEFT),
+                (Use::Entry(6), LEFT),
+            ],
+        )],
+    ),
+    // A frame without a tag is no IPv6 packet, so by the predefined entry it has a DSCP as an IPv4 packet alone.
+    (
+        "an input TPID that is the type of IPv6",
+        &[
+            EACH_DSCP,
+            Change::Table(0x2000, &[0x86, 0xdd]),
+            Change::Entry(0xf8000000_f8000001, DROPPED),
+            Change::Entry(0xf8000000_e8000000, LESS_ONE),
+            Change::Entry(0xe8000000_e8000004, LESS_TWO),
+        ],
+        &[
+            (
+                0,
+                &[
+                    RUNT,
+                    CUT,
+                    (Use::Entry(0), DISCARD),
+                    (Use::Entry(1), LEFT),
+                    (Use::Entry(1), NOWHERE),
+                    (Use::Entry(2), LEFT),
+                    (Use::Entry(2), NOWHERE),
+                    (Use::Entry(3), NOWHERE),
+                    (Use::Entry(5), LEFT),
+                    (Use::Entry(5), NOWHERE),
+                ],
+            ),
+            (
+                60,
+                &[
+                    (Use::Entry(0), DISCARD),
+                    (Use::Entry(1), LEFT),
+                    (Use::Entry(1), NOWHERE),
+                    (Use::Entry(2), LEFT),
+                    (Use::Entry(3), NOWHERE),
+                    (Use::Entry(5), LEFT),
+                    (Use::Entry(5), NOWHERE),
+                ],
+            ),
+        ],
+    ),
+    (
+        "the first VID and the last",
+        &[
+            Change::Entry(0xf8000000_87ff8000, DROPPED),
+            Change::Entry(0xf8000000_80000000, DROPPED),
+            Change::Entry(0x87ff8000_87ff8000, DROPPED),
+        ],
+        &[(
+            0,
+            &[
+                RUNT,
+                CUT,
+                (Use::Entry(0), DISCARD),
+                (Use::Entry(1), DISCARD),
+                (Use::Entry(2), DISCARD),
+                (Use::Entry(3), LEFT),
+                (Use::Entry(4), LEFT),
+                (Use::Entry(5), LEFT),
+            ],
+        )],
+    ),
+    // The input TPID with DEI 0, with DEI 1, and with either.
+    (
+        "two entries that hide a third together",
+        &[
+            Change::Entry(0xf8000000_88006000, DROPPED),
+            Change::Entry(0xf8000000_88007000, UNCHANGED),
+            Change::Entry(0xf8000000_88005000, UNCHANGED),
+        ],
+        &[(
+            0,
+            &[
+                RUNT,
+                CUT,
+                (Use::Entry(0), DISCARD),
+                (Use::Entry(1), LEFT),
+                (Use::Entry(3), LEFT),
+                (Use::Entry(4), LEFT),
+                (Use::Entry(5), LEFT),
+            ],
+        )],
+    ),
+    (
+        "eight priorities that hide two entries",
+        &[
+            Change::Entry(0xf8000000_08000000, DROPPED),
+            Change::Entry(0xf8000000_18000000, DROPPED),
+            Change::Entry(0xf8000000_28000000, DROPPED),
+            Change::Entry(0xf8000000_38000000, DROPPED),
+            Change::Entry(0xf8000000_48000000, DROPPED),
+            Change::Entry(0xf8000000_58000000, DROPPED),
+            Change::Entry(0xf8000000_68000000, DROPPED),
+            Change::Entry(0xf8000000_78000000, DROPPED),
+            Change::Entry(0xf8000000_80320000, UNCHANGED),
+        ],
+        &[(
+            0,
+            &[
+                RUNT,
+                CUT,
+                (Use::Entry(0), DISCARD),
+                (Use::Entry(1), DISCARD),
+                (Use::Entry(2), DISCARD),
+                (Use::Entry(3), DISCARD),
+                (Use::Entry(4), DISCARD),
+                (Use::Entry(5), DISCARD),
+                (Use::Entry(6), DISCARD),
+                (Use::Entry(7), DISCARD),
+                (Use::Entry(9), LEFT),
+                (Use::Entry(11), LEFT),
+            ],
+        )],
+    ),
+    // Each type of a filter, and 0x8864 beside 0x8863.
+    (
+        "every type of frames without a tag",
+        &[
+            Change::Entry(0xf8000000_f8000001, DROPPED),
+            Change::Entry(0xf8000000_f8000002, UNCHANGED),
+            Change::Entry(0xf8000000_f8000003, DROPPED),
+            Change::Entry(0xf8000000_f8000004, UNCHANGED),
+            Change::Entry(0xf8000000_f8000005, DROPPED),
+        ],
+        &[(
+            60,
+            &[
+                (Use::Entry(0), DISCARD),
+                (Use::Entry(1), LEFT),
+                (Use::Entry(2), DISCARD),
+                (Use::Entry(3), LEFT),
+                (Use::Entry(4), DISCARD),
+                (Use::Entry(5), LEFT),
+                (Use::Entry(6), LEFT),
+                (Use::Entry(7), LEFT),
+            ],
+        )],
+    ),
+    // With tags of 802.1Q and 802.1ad alone and both named, no frame is left for the predefined entry.
+    (
+        "both types of tags",
+        &[
+            Change::Entry(0xf8000000_88004000, DROPPED),
+            Change::Table(0x2000, &[0x88, 0xa8]),
+            Change::Entry(0xf8000000_88005000, UNCHANGED),
+        ],
+        &[(
+            60,
+            &[
+                (Use::Entry(0), DISCARD),
+                (Use::Entry(1), LEFT),
+                (Use::Entry(2), LEFT),
+                (Use::Entry(4), LEFT),
+            ],
+        )],
+    ),
+];
+
+/// The request of a change.
+fn request_of(change: &Change) -> Request {
+    match change {
+        Change::Entry(key, rest) => {
+            let mut entry = [0; 16];
+            entry[..8].copy_from_slice(&key.to_be_bytes());
+            entry[8..].copy_from_slice(&rest.to_be_bytes());
+            set(171, 0x0701, 0x0400, &entry)
+        }
+        Change::Table(mask, values) => set(171, 0x0701, *mask, values),
+        Change::Mapper(mask, values) => set(130, 0x0601, *mask, values),
+    }
+}
+
+/// Leaves the port as it is provisioned, and changed so.
+fn provision(rt: &impl Abort, live: &mut Live, changes: &[Change]) {
+    for request in [
+        request(Action::MibReset, 2, 0, &[]),
         create_gem_port(3),
         create_interwork(0x0501),
         create_mapper(0x0601, 257, [0x0501; 8], 0),
         create_table(0x0701, 2, 257),
-        first,
-        second,
-    ]
+    ] {
+        live.apply(&request);
+    }
+    for change in changes {
+        let request = request_of(change);
+        same!(rt; live.mib().result_of(&request), 0, "the result of {request:?}");
+        live.apply(&request);
+    }
 }
 
-/// A Set of an entry by which frames without a tag get one of VLAN 100.
-fn tagging() -> Request {
-    let entry = [
-        0xf8, 0, 0, 0, 0xf8, 0, 0, 0, 0x00, 0x0f, 0x00, 0x00, 0x00, 0x00, 0x03, 0x24,
-    ];
-    set(171, 0x0701, 0x0400, &entry)
+/// The classes of some examples.
+fn classes_of(alloc: Global, examples: &[ClassExample]) -> Result<Vec<Class>, AllocError> {
+    let mut got = Vec::new(alloc);
+    for example in examples {
+        got.push((example.class.used, example.class.ending))?;
+    }
+    Ok(got)
 }
 
-fn class(used: Use, ending: Ending) -> FrameClass {
-    FrameClass { used, ending }
-}
-
-/// Checks that these are the classes of port 257, and that each frame has the class beside it.
-fn check(
+/// Checks what is listed for frames of at least so many bytes.
+fn check_list(
     rt: &impl Abort,
     alloc: Global,
-    mib: &Mib,
+    live: &Live,
+    name: &str,
     least: usize,
-    wanted: &[FrameClass],
+    wanted: &[Class],
 ) -> Result<(), AllocError> {
-    let listed = classes(alloc, mib, 257, least)?;
-    let mut got = Vec::new(alloc);
-    for example in &listed {
-        got.push(example.class)?;
-        same!(rt; class_of(mib, 257, example.frame.as_slice()), example.class);
-        holds!(rt; least <= example.frame.len());
-    }
-    same!(rt; got.as_slice(), wanted);
+    let examples = classes(alloc, live.mib(), 257, least)?;
+    let listed = Listed {
+        name,
+        number: wanted.len(),
+        live,
+        port: 257,
+        least,
+        examples: examples.as_slice(),
+    };
+    let got = classes_of(alloc, listed.examples)?;
+    same!(rt; got.as_slice(), wanted, "{}", listed);
+    listed.check(rt);
     Ok(())
 }
 
-const RUNT: FrameClass = FrameClass {
-    used: Use::Unread,
-    ending: Ending::Dropped(Reason::Runt),
-};
-
-const CUT: FrameClass = FrameClass {
-    used: Use::Unread,
-    ending: Ending::Dropped(Reason::CutTag),
-};
-
-#[test]
-fn without_entities_a_frame_is_dropped(rt: HostRuntime) -> Result<(), AllocError> {
-    let mib = Mib::new(rt.alloc())?;
-    let dropped = class(Use::NoTable, Ending::Dropped(Reason::NoMapper));
-    check(&rt, rt.alloc(), &mib, 0, &[RUNT, CUT, dropped])
-}
-
-#[test]
-fn each_predefined_entry_is_used(rt: HostRuntime) -> Result<(), AllocError> {
-    let mib = after(rt.alloc(), &lead([create_gem_port(3), create_gem_port(3)]))?;
-    let left = Ending::Gem(1024);
-    let entries = [
-        class(Use::Entry(0), left),
-        class(Use::Entry(1), left),
-        class(Use::Entry(2), left),
-    ];
-    check(&rt, rt.alloc(), &mib, 60, &entries)?;
-    let all = [RUNT, CUT, entries[0], entries[1], entries[2]];
-    check(&rt, rt.alloc(), &mib, 0, &all)
-}
-
-#[test]
-fn a_predefined_entry_behind_one_that_admits_its_frames_is_not_used(
-    rt: HostRuntime,
+/// Checks each list of a configuration.
+fn check_lists(
+    rt: &impl Abort,
+    alloc: Global,
+    live: &Live,
+    name: &str,
+    lists: &[(usize, &[Class])],
 ) -> Result<(), AllocError> {
-    let mib = after(rt.alloc(), &lead([tagging(), create_gem_port(3)]))?;
-    let left = Ending::Gem(1024);
-    let wanted = [
-        RUNT,
-        CUT,
-        class(Use::Entry(0), left),
-        class(Use::Entry(2), left),
-        class(Use::Entry(3), left),
-    ];
-    check(&rt, rt.alloc(), &mib, 0, &wanted)
+    for (least, wanted) in lists {
+        check_list(rt, alloc, live, name, *least, wanted)?;
+    }
+    Ok(())
+}
+
+/// Checks each configuration, before them one without entities.
+fn check_worked(rt: &impl Abort, alloc: Global, live: &mut Live) -> Result<(), AllocError> {
+    let none = [RUNT, CUT, (Use::NoTable, NO_MAPPER)];
+    check_list(rt, alloc, live, "no entities", 0, &none)?;
+    for (name, changes, lists) in &WORKED {
+        provision(rt, live, changes);
+        check_lists(rt, alloc, live, name, lists)?;
+    }
+    Ok(())
 }
 
 #[test]
-fn a_priority_without_an_interworking_point_is_a_class_of_its_own(
-    rt: HostRuntime,
-) -> Result<(), AllocError> {
-    let nowhere = set(130, 0x0601, 0x0200, &[0x05, 0x99]);
-    let mib = after(rt.alloc(), &lead([tagging(), nowhere]))?;
-    let left = Ending::Gem(1024);
-    let dropped = Ending::Dropped(Reason::NoInterwork);
-    let wanted = [
-        RUNT,
-        CUT,
-        class(Use::Entry(0), left),
-        class(Use::Entry(2), left),
-        class(Use::Entry(2), dropped),
-        class(Use::Entry(3), left),
-        class(Use::Entry(3), dropped),
-    ];
-    check(&rt, rt.alloc(), &mib, 0, &wanted)
+fn worked_configurations_have_their_classes(rt: HostRuntime) -> Result<(), AllocError> {
+    let mut live = Live::new(rt.alloc())?;
+    check_worked(&rt, rt.alloc(), &mut live)
+}
+
+/// Checks a frame of which nothing is asked but how many tags it has.
+fn check_plain(rt: &impl Abort, frame: &[u8], tags: usize) -> Result<(), FrameFault> {
+    let read = view(frame, 0x8100)?;
+    same!(rt; read.addresses(), [2, 0, 0, 0, 0, 1, 2, 0, 0, 0, 0, 2].as_slice());
+    same!(rt; (read.tags().len(), read.ethertype()), (tags, 0x0800));
+    for tag in read.tags() {
+        same!(rt; tag.tpid(), 0x8100);
+        holds!(rt; 1 <= tag.vid() && tag.vid() <= 4094);
+    }
+    Ok(())
+}
+
+/// Checks the frames that are listed for the predefined entries.
+fn check_predefined(rt: &impl Abort, alloc: Global, live: &mut Live) -> Result<(), Fail> {
+    provision(rt, live, &[]);
+    let examples = classes(alloc, live.mib(), 257, 60)?;
+    same!(rt; examples.len(), 3);
+    for (tags, example) in examples.iter().enumerate() {
+        check_plain(rt, example.frame.as_slice(), tags)?;
+    }
+    Ok(())
+}
+
+#[test]
+fn a_frame_is_as_one_sends_it(rt: HostRuntime) -> Result<(), Fail> {
+    let mut live = Live::new(rt.alloc())?;
+    check_predefined(&rt, rt.alloc(), &mut live)
 }
