@@ -27,6 +27,7 @@ UNLOST = "without --lost it isn't judged whether a frame left that wasn't seen t
 OTHER = "frames of the management channel hold no OMCI message"
 UNREAD = "frames are unread, since too little of them was stored"
 EARLY = "frames left that may have been sent unseen"
+BEGUN_LATE = "was the sender on before the captures of --into began? --late, with --lost"
 LEFT_OUT = "frames are left out, since a history can't hold them"
 DOUBT = "frames are matched in doubt"
 STRAYS = "frames are strays, which no open frame can be"
@@ -135,6 +136,10 @@ FORWARDED = [
 OMCI, INTO, OUT_OF, ANY = "--omci", "--into 257", "--out-of 1024", "--out-of any"
 LAST = 2**64 - 1
 AT_ONCE, A_MILLISECOND = ["--wait", "0", "--lost", "0"], ["--wait", "1", "--lost", "1"]
+BEGUN = [*A_MILLISECOND, "--late"]
+# The first frame that leaves with these bytes was sent before the capture of what is sent began.
+ON_THEIR_WAY = [(5, INTO, "AD+0800"), (900000, INTO, "AD+0800"), (1000000, INTO, "AD+0800"),
+                (0, OUT_OF, "AD+0809"), (6, OUT_OF, "AD+0800"), (950000, OUT_OF, "AD+0800"), (1100000, OUT_OF, "AD+0800")]
 
 # What it shows, the options, the frames (their times in nanoseconds, where they were captured, their bytes in short, and how many bytes they had, if
 # that is more), the lines of the history, and what is said beside what isn't judged. A file is named as what was captured there.
@@ -190,25 +195,47 @@ RECORDED = [
      [(5, INTO, "AD+0800"), (6, OUT_OF, "AD+0800"), (7, INTO, "AD+0801"), (1000006, OUT_OF, "AD+81000001+0800"), (0, "--out-of 7", "AD+0809"),
       (2000000, "--out-of 7", "AD+0809")],
      ["f 257 AD+0800", "g 0 1024 AD+0800", "f 257 AD+0801", "s 1024 AD+81000001+0800", "s 7 AD+0809"],
-     [f"out-of7: 1 {EARLY}: record 1", f"out-of1024: 1 {STRAYS}: record 2", f"out-of7: 1 {STRAYS}: record 2", f"into257: 1 {OPEN}: record 2"]),
+     [f"out-of7: 1 {EARLY}: record 1", BEGUN_LATE, f"out-of1024: 1 {STRAYS}: record 2", f"out-of7: 1 {STRAYS}: record 2", f"into257: 1 {OPEN}: record 2"]),
     ("the first is lost, and two are in doubt until they would be", A_MILLISECOND,
      [(0, INTO, "AD+0800"), (500000, INTO, "AD+0800"), (600000, INTO, "AD+0800"), (0, OUT_OF, "AD+0809"), (1200000, OUT_OF, "AD+0800"),
       (1700000, OUT_OF, "AD+0800")],
      ["f 257 AD+0800", "f 257 AD+0800", "f 257 AD+0800", "l 0", "a 1024 AD+0800 1 2", "s 1024 AD+0800"],
-     [f"out-of1024: 1 {EARLY}: record 1", f"out-of1024: 1 {DOUBT}: record 2", f"out-of1024: 1 {STRAYS}: record 3"]),
+     [f"out-of1024: 1 {EARLY}: record 1", BEGUN_LATE, f"out-of1024: 1 {DOUBT}: record 2", f"out-of1024: 1 {STRAYS}: record 3"]),
     ("what leaves soon behind the first frame that is sent is no stray", A_MILLISECOND,
      [(7, INTO, "AD+0800"), (8, OUT_OF, "AD+0800"), (1000007, OUT_OF, "AD+0801"), (1000008, OUT_OF, "AD+0801")],
-     ["f 257 AD+0800", "g 0 1024 AD+0800", "s 1024 AD+0801"], [f"out-of1024: 1 {EARLY}: record 2", f"out-of1024: 1 {STRAYS}: record 3"]),
+     ["f 257 AD+0800", "g 0 1024 AD+0800", "s 1024 AD+0801"], [f"out-of1024: 1 {EARLY}: record 2", BEGUN_LATE, f"out-of1024: 1 {STRAYS}: record 3"]),
     ("a frame that may have left unread isn't lost", A_MILLISECOND,
      [(0, INTO, "AD+0800"), (0, OUT_OF, "AD+0809"), (500000, OUT_OF, "AD+0800+0*8", 60), (2000000, OUT_OF, "AD+0808")],
      ["f 257 AD+0800", "s 1024 AD+0808"],
-     [f"out-of1024: 1 {UNREAD}: record 2", f"out-of1024: 1 {EARLY}: record 1", "1 frames are cut by the capture's snap length",
+     [f"out-of1024: 1 {UNREAD}: record 2", f"out-of1024: 1 {EARLY}: record 1", BEGUN_LATE, "1 frames are cut by the capture's snap length",
       f"out-of1024: 1 {STRAYS}: record 3", f"into257: 1 {OPEN}: record 1"]),
     ("what may have been sent unread is no stray", A_MILLISECOND,
      [(0, INTO, "AD+0801"), (1, OUT_OF, "AD+0801"), (2000000, INTO, "AD+0800+0*8", 60), (3000000, OUT_OF, "AD+0800"), (3000001, OUT_OF, "AD+0800")],
      ["f 257 AD+0801", "g 0 1024 AD+0801", "s 1024 AD+0800"],
      [f"into257: 1 {UNREAD}: record 2", f"out-of1024: 1 {EARLY}: record 2", "1 frames are cut by the capture's snap length",
       f"out-of1024: 1 {STRAYS}: record 3"]),
+    ("a frame on its way as captures began is taken for one sent since", A_MILLISECOND, ON_THEIR_WAY,
+     ["f 257 AD+0800", "g 0 1024 AD+0800", "f 257 AD+0800", "g 1 1024 AD+0800", "f 257 AD+0800", "g 2 1024 AD+0800"],
+     [f"out-of1024: 1 {EARLY}: record 1", BEGUN_LATE]),
+    ("and isn't where that is said", BEGUN, ON_THEIR_WAY, ["f 257 AD+0800", "f 257 AD+0800", "f 257 AD+0800", "a 1024 AD+0800 1 2"],
+     [f"out-of1024: 3 {EARLY}: records 1-3", f"out-of1024: 1 {DOUBT}: record 4", f"into257: 3 {OPEN}: records 1, 2, 3"]),
+    ("what left while it may have been on its way isn't lost, and frames behind it are", BEGUN,
+     [(5, INTO, "AD+0800"), (6, OUT_OF, "AD+0800"), (2000000, INTO, "AD+0801"), (2000001, OUT_OF, "AD+0801"), (2000002, INTO, "AD+0802"),
+      (3500000, INTO, "AD+0803"), (4000000, OUT_OF, "AD+0803")],
+     ["f 257 AD+0800", "f 257 AD+0801", "g 1 1024 AD+0801", "f 257 AD+0802", "l 2", "f 257 AD+0803", "g 3 1024 AD+0803"],
+     [f"out-of1024: 1 {EARLY}: record 1", f"into257: 1 {OPEN}: record 1"]),
+    ("the capture that begins last decides", BEGUN,
+     [(5, INTO, "AD+0801"), (2400000, INTO, "AD+0800"), (2000000, "--into 258", "AD+0803"), (2500000, OUT_OF, "AD+0800"), (3000000, OUT_OF, "AD+0804"),
+      (3000001, OUT_OF, "AD+0804")],
+     ["f 257 AD+0801", "f 258 AD+0803", "f 257 AD+0800", "s 1024 AD+0804"],
+     [f"out-of1024: 2 {EARLY}: records 1, 2", f"out-of1024: 1 {STRAYS}: record 3", f"into257: 2 {OPEN}: records 1, 2", f"into258: 1 {OPEN}: record 1"]),
+    ("without a capture in front all is passed over", BEGUN, [(5, OUT_OF, "AD+0800"), (5, OMCI, "AD+88b5+0001440a+0*44")], ["o 0001440a+0*44"],
+     [f"out-of1024: 1 {EARLY}: record 1"]),
+    ("clocks that may differ as captures began", A_MILLISECOND, [(100000, OUT_OF, "AD+0801"), (200000, INTO, "AD+0801")], ["f 257 AD+0801"],
+     [f"out-of1024: 1 {EARLY}: record 1", BEGUN_LATE,
+      "out-of1024: 1 frames left up to 0.1 ms before they were sent: are the clocks one? --skew", f"into257: 1 {OPEN}: record 1"]),
+    ("and don't, where frames were on their way", BEGUN, [(100000, OUT_OF, "AD+0801"), (200000, INTO, "AD+0801")], ["f 257 AD+0801"],
+     [f"out-of1024: 1 {EARLY}: record 1", f"into257: 1 {OPEN}: record 1"]),
     ("no GEM port is seen", [],
      [(1, INTO, "AD+0800+01"), (2, INTO, "AD+0800+02"), (3, INTO, "AD+0800+02"), (4, ANY, "AD+0800+01"), (5, ANY, "AD+0800+02"), (6, ANY, "AD+0800+03")],
      ["f 257 AD+0800+01", "f 257 AD+0800+02", "f 257 AD+0800+02", "g 0 any AD+0800+01", "a any AD+0800+02 1 2", "s any AD+0800+03"],

@@ -230,6 +230,7 @@ Options:
       --tpid <TPID>        Type of tags beside 8100 and 88a8, in hexadecimal digits [example: 9100]
       --wait <MS>          A reply is in force for frames this long after it, in milliseconds; without it that isn't judged [example: 100]
       --lost <MS>          A frame that isn't seen to leave in this time is lost, in milliseconds; a time under the unit's longest delay makes of one late frame an l and an s; without it that isn't judged [example: 1000]
+      --late               Frames were on their way as the captures of --into began; what left until --lost after the first record of each is passed over; wants --lost; has no value [example: --late]
       --skew <FILE=MS>     Add milliseconds to the times of a capture, a decimal number of either sign, where its clock is another [example: gem.pcap=-0.25]
       --fcs                Take the check sequence off each frame but those of --omci; has no value [example: --fcs]
       --padded             Compare frames without the zeros that end them, as a wire pads them; has no value [example: --padded]

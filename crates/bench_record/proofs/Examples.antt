@@ -19,7 +19,7 @@ use Rattle.bench_record.specs.declared.settings.RecordSettings.{RecordSettings}
 
 -- settings without other types
 abbrev settings : Option ℕ → Option ℕ → RecordSettings
-settings wait lost = record { tpids = record { ref_ptr = (0, 0); now = [] }; padded = false; wait = wait; lost = lost }
+settings wait lost = record { tpids = record { ref_ptr = (0, 0); now = [] }; padded = false; wait = wait; lost = lost; late = false }
 
 abbrev at : ℕ → Tap → List ℕ → CapturedFrame
 at time tap bytes = record { time = time; tap = tap; extent = Whole; bytes = record { ref_ptr = (0, 0); now = bytes } }
@@ -199,6 +199,56 @@ early_frames : history_shown (settings None None)
       passed = record { other = []; unread = []; early = record { capture = 1; place = 1 } ∷ []; unwritable = [] };
     }
 early_frames = refl
+
+-- settings where frames were on their way as the captures in front of the unit began
+abbrev begun : RecordSettings
+begun = record (settings None (Some 1)) { late = true }
+
+-- three frames of one core are sent after one that no capture shows
+abbrev on_their_way : List Capture
+on_their_way =
+    taken side.Into (at 5 (Into 257) (plain 0) ∷ at 900000 (Into 257) (plain 0) ∷ at 1000000 (Into 257) (plain 0) ∷ [])
+    ∷ taken side.OutOf
+    (at 0 (OutOf (Port 7)) (plain 2) ∷ at 6 (OutOf (Port 7)) (plain 0) ∷ at 950000 (OutOf (Port 7)) (plain 0) ∷ at 1100000 (OutOf (Port 7)) (plain 0) ∷ [])
+    ∷ []
+
+-- what leaves while it may be from before is passed over, and may be the first frame, which isn't told as lost; of the others one leaves behind that
+late_captures : history_shown begun on_their_way
+    ≡ record {
+      events =
+          in_record 0 1 5 (Entered 257 Whole (plain 0)) ∷ in_record 0 2 900000 (Entered 257 Whole (plain 0)) ∷ in_record 0 3 1000000 (Entered 257 Whole (plain 0))
+          ∷ in_record 1 4 1100000 (LeftOneOf (Port 7) Whole (record { frame = plain 0; numbers = 1 ∷ 2 ∷ [] })) ∷ [];
+      passed = record {
+        other = [];
+        unread = [];
+        early = record { capture = 1; place = 1 } ∷ record { capture = 1; place = 2 } ∷ record { capture = 1; place = 3 } ∷ [];
+        unwritable = [];
+      };
+    }
+late_captures = refl
+
+-- without the setting the frame from before is taken for the first that was sent since, and that for the next one
+late_unsaid : history_shown (settings None (Some 1)) on_their_way
+    ≡ record {
+      events =
+          in_record 0 1 5 (Entered 257 Whole (plain 0)) ∷ in_record 1 2 6 (Left (Port 7) Whole 0 (plain 0)) ∷ in_record 0 2 900000 (Entered 257 Whole (plain 0))
+          ∷ in_record 1 3 950000 (Left (Port 7) Whole 1 (plain 0)) ∷ in_record 0 3 1000000 (Entered 257 Whole (plain 0))
+          ∷ in_record 1 4 1100000 (Left (Port 7) Whole 2 (plain 0)) ∷ [];
+      passed = record { other = []; unread = []; early = record { capture = 1; place = 1 } ∷ []; unwritable = [] };
+    }
+late_unsaid = refl
+
+-- with several captures the one that begins last decides
+late_by_the_last : history_shown begun
+    (taken side.Into (at 5 (Into 257) (plain 1) ∷ at 2400000 (Into 257) (plain 0) ∷ []) ∷ taken side.Into (at 2000000 (Into 258) (plain 3) ∷ [])
+    ∷ taken side.OutOf (at 2500000 (OutOf (Port 7)) (plain 0) ∷ at 3000000 (OutOf (Port 7)) (plain 4) ∷ at 3000001 (OutOf (Port 7)) (plain 4) ∷ []) ∷ [])
+    ≡ record {
+      events =
+          in_record 0 1 5 (Entered 257 Whole (plain 1)) ∷ in_record 1 1 2000000 (Entered 258 Whole (plain 3)) ∷ in_record 0 2 2400000 (Entered 257 Whole (plain 0))
+          ∷ in_record 2 3 3000001 (Strayed (Port 7) Whole (plain 4)) ∷ [];
+      passed = record { other = []; unread = []; early = record { capture = 2; place = 1 } ∷ record { capture = 2; place = 2 } ∷ []; unwritable = [] };
+    }
+late_by_the_last = refl
 
 -- a doubtful frame isn't told as lost
 doubtful_frames : history_shown (settings None (Some 1))

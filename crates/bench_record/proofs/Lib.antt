@@ -3,9 +3,10 @@ pub mod Ends
 mod Examples
 pub mod Filters
 pub mod Indexes
+mod Late
 pub mod Orders
 pub mod Parts
 pub mod Recordings
-mod Untold
+pub mod Untold
 pub mod Walks
 pub mod Zeros

@@ -224,9 +224,15 @@ leave_by s captures at gem (n ∷ []) seen =
     if is_doubtful seen.frames.named n then leave_doubtful at gem (n ∷ []) seen else leave_as n at gem seen
 leave_by s captures at gem (m ∷ n ∷ more) seen = leave_doubtful at gem (m ∷ n ∷ more) seen
 
+-- whether a frame that leaves at a time is passed over, whichever frame it could be: some were on their way as the captures in front of the unit
+-- began, and it may be one of these
+abbrev pub is_from_before : RecordSettings → List Capture → ℕ → Bool
+is_from_before s captures time = s.late && is_early s.lost captures time
+
 abbrev pub leave : RecordSettings → List Capture → Sourced → SeenGem → Seen → Seen
 leave s captures at gem seen =
     if is_unread at.frame.extent at.frame.bytes.now then unread at.source (hide at.frame.time seen)
+    else if is_from_before s captures at.frame.time then early at.source (hide at.frame.time seen)
     else leave_by s captures at gem (candidates s.lost at.frame.time (core_in s at.frame) seen.frames) seen
 
 abbrev pub see_at : RecordSettings → List Capture → Sourced → Tap → Seen → Seen

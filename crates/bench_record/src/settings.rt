@@ -12,4 +12,7 @@ pub struct RecordSettings<'a> {
     /// How long behind its sending a frame is lost that wasn't seen to leave, in milliseconds. It is over the unit's longest delay: a frame that
     /// leaves later is a stray. None: that isn't known.
     pub lost: Option<u64>,
+    /// Whether frames were on their way as the captures in front of the unit began. What leaves while it may be one of these is passed over,
+    /// whichever frame it could be.
+    pub late: bool,
 }

@@ -5,7 +5,7 @@ ghost use Rattle.bench_history.specs.Doubts.{IsDoubted};
 ghost use Rattle.bench_record.specs.Index.{CanSee, HasNumbers, IsSeen, core_shown, is_long, kept_shown, passed_shown};
 ghost use Rattle.bench_record.specs.Matching.{Frames, candidates, leave_at};
 ghost use Rattle.bench_record.specs.Messages.{message_of};
-ghost use Rattle.bench_record.specs.Recorded.{Seen, core_in, early, enter, extent_within, hide, is_early, is_missed, is_unread, leave, leave_as, leave_doubtful, leave_unmatched, losses, losses_from, may_be_hidden, may_be_unnumbered, nothing_seen, other, see, see_message, see_reply, seen_in, unread, unwritable, waits, with_events, with_frame, without_number};
+ghost use Rattle.bench_record.specs.Recorded.{Seen, core_in, early, enter, extent_within, hide, is_early, is_from_before, is_missed, is_unread, leave, leave_as, leave_doubtful, leave_unmatched, losses, losses_from, may_be_hidden, may_be_unnumbered, nothing_seen, other, see, see_message, see_reply, seen_in, unread, unwritable, waits, with_events, with_frame, without_number};
 ghost use Rattle.bench_record.specs.Spans.{AreSpans};
 ghost use Rattle.bench_record.specs.Text.{event_shown, timed_shown};
 ghost use Rattle.bench_record.specs.Walk.{sourced_shown, sure_of};
@@ -88,6 +88,14 @@ fn within<'a>(most: usize, extent: Extent, frame: &'a [u8]) -> (Extent, &'a [u8]
         return (extent, frame);
     }
     (Extent::Front, frame.split_at(most).0)
+}
+
+/// Whether a frame that leaves at a time is passed over, since it may have been sent before the captures in front of the unit began.
+fn is_from_before(given: &Given<'_>, time: u64) -> bool
+    ensures { (captures : List TheCapture) → AreSpans captures given.now.spans.now
+        → result ≡ is_from_before given.now.settings captures time }
+{
+    given.settings.late && is_early(given.spans, given.settings.lost, time)
 }
 
 /// Marks that the frame of a number was seen to leave.
@@ -192,7 +200,7 @@ impl<'a> Walk<'a> {
         Ok(())
     }
 
-    /// Passes over one that leaves so early that its frame may have been sent before a capture began.
+    /// Passes over one that leaves, and whose frame may have been sent unseen.
     fn pass_early(&mut self, source: Source) -> Result<(), AllocError>
         ensures seen { (lost : Option ℕ) (time : ℕ) (seen : Seen) → IsSeen lost time seen self.old
             → IfOk result (λ _. IsSeen lost time (early source seen) self.new) }
@@ -518,6 +526,10 @@ impl<'a> Walk<'a> {
         if is_unread(frame.extent, frame.bytes) {
             self.hide(frame.time)?;
             return self.pass_unread(at.source);
+        }
+        if is_from_before(given, frame.time) {
+            self.pass_early(at.source)?;
+            return self.hide(frame.time);
         }
         let settings = &given.settings;
         let core = core_of(settings.tpids, settings.padded, frame.extent, frame.bytes);

@@ -1,5 +1,5 @@
 -- What the values of options are, and that words which are not read ask for nothing in its range.
-use Rattle.std.proofs.Common.{◌≡◌, ◌∙◌, ◌<◌, ◌^◌, ◌≤◌, ℕ, List, Option, Some, None, Result, refl, sym, subst, ap, arith, codes}
+use Rattle.std.proofs.Common.{◌≡◌, ◌∙◌, ◌<◌, ◌^◌, ◌≤◌, ℕ, Bool, List, Option, Some, None, Result, refl, sym, subst, ap, arith, codes}
 use Rattle.std.specs.Prelude.{IfNone, IfSome, true, false, is_some, option_and_then, option_map, slice_get, unwrap_or}
 use Rattle.std.specs.Str.Parse.{ParsesUnsigned, ExplainsUnsignedError, HasUnsignedDigitsIfOk, digits_value, without_leading_plus}
 use Rattle.std.specs.declared.num.ParseIntError.{ParseIntError}
@@ -7,7 +7,7 @@ use Rattle.clap.specs.Walk.{row_text}
 use Rattle.clap.specs.Words.{ReadsOne, Row, Text, first_of, first_value, one_text, rows_of}
 use Rattle.clap.specs.declared.parser.matches.Found.{Found}
 use Rattle.clap.proofs.WalkLemmas.{first_value-rows, one_text-rows}
-use Rattle.command_words.specs.Asked.{IsExplain, IsForward, IsFrame, IsNumber, IsNumberOr, IsOptionalNumber, IsRules, IsRun, IsTrace}
+use Rattle.command_words.specs.Asked.{IsExplain, IsForward, IsFrame, IsLate, IsNumber, IsNumberOr, IsOptionalNumber, IsRecord, IsRules, IsRun, IsTrace}
 use Rattle.command_words.specs.Range.{AreInRange, IsFrameInRange, IsShort, IsLine}
 use Rattle.run_settings.specs.Settings.{AreInLimits, default_batch, default_lanes}
 use Rattle.command_words.specs.declared.words.RunWords.{RunWords}
@@ -17,6 +17,7 @@ use Rattle.command_words.specs.declared.words.FrameWords.{FrameWords}
 use Rattle.command_words.specs.declared.words.FrameWords.TheVariants.{Bytes, Captured}
 use Rattle.command_words.specs.declared.words.TraceWords.{TraceWords}
 use Rattle.command_words.specs.declared.words.ForwardWords.{ForwardWords}
+use Rattle.command_words.specs.declared.words.RecordWords.{RecordWords}
 
 -- how a whole number of so many bits is read
 abbrev pub Reads : ℕ → Text → Result ℕ ParseIntError → Type 0
@@ -164,6 +165,13 @@ module _ (f : Found) where
       → (n : Option ℕ) → IsOptionalNumber name (rows_of f) n → IsShort n → ⊥
   short_unread name text some value None is fits = given name text some is
   short_unread name text some value (Some n) is fits = number_unread 16 f name n value is (omega (arith, fits))
+
+  -- frames that are said to be on their way, and no time after which one is lost
+  pub late_unread : (lost : Option ℕ) → IsOptionalNumber (codes "lost") (rows_of f) lost → ((late : Bool) → IsLate (rows_of f) lost late → ⊥)
+      → (words : RecordWords) → IsRecord (rows_of f) words → IsLine words.wait → IsLine words.lost → ⊥
+  late_unread lost read none words is wait line =
+      none words.late
+      (subst (λ (n : Option ℕ). IsLate (rows_of f) n words.late) (option_same (codes "lost") (rows_of f) words.lost lost is.lost read) is.late)
 
   pub trace_file_missing : first_value f (codes "trace") ≡ None → (words : TraceWords) → IsTrace (rows_of f) words → IsLine words.until → ⊥
   trace_file_missing none words is fits = missing f (codes "trace") words.file.now none is.file

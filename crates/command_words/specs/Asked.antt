@@ -1,5 +1,5 @@
 -- What the words ask for.
-use Rattle.std.specs.Prelude.{◌≡◌, ◌≢◌, ◌≢◌, ℕ, Bool, true, false, List, [], Option, Some, None, codes, map, option_map, unwrap_or}
+use Rattle.std.specs.Prelude.{◌≡◌, ◌≢◌, ◌≢◌, ◌&&◌, ℕ, Bool, true, false, not, is_some, List, [], Option, Some, None, codes, map, option_map, unwrap_or}
 use Rattle.std.specs.Borrow.{Bor}
 use Rattle.std.specs.Str.{bytes_eq}
 use Rattle.std.specs.Str.Parse.{IsNumeral, digits_value, without_leading_plus}
@@ -154,6 +154,14 @@ pub record IsForward (rows : List Row) (words : ForwardWords) : Type 0 where
   pub verdicts : first_of (codes "verdicts") rows ≡ option_map (λ (name : _). name.now) words.verdicts
   pub json : IsFlag (codes "json") rows words.json
 
+-- whether frames are said to be on their way as captures began
+abbrev pub asks_for_late : List Row → Bool
+asks_for_late rows = is_true (first_of (codes "late") rows)
+
+-- whether they were, where it is said too when a frame is lost
+abbrev pub IsLate : List Row → Option ℕ → Bool → Type 0
+IsLate rows lost late = (late ≡ asks_for_late rows) × ((not (is_some lost) && late) ≡ false)
+
 -- those behind `record`
 pub record IsRecord (rows : List Row) (words : RecordWords) : Type 0 where
   pub omci : AreTexts (codes "omci") rows words.omci.items
@@ -162,6 +170,7 @@ pub record IsRecord (rows : List Row) (words : RecordWords) : Type 0 where
   pub tpids : AreTexts (codes "tpid") rows words.tpids.items
   pub wait : IsOptionalNumber (codes "wait") rows words.wait
   pub lost : IsOptionalNumber (codes "lost") rows words.lost
+  pub late : IsLate rows words.lost words.late
   pub skews : AreTexts (codes "skew") rows words.skews.items
   pub fcs : IsFlag (codes "fcs") rows words.fcs
   pub padded : IsFlag (codes "padded") rows words.padded

@@ -1,7 +1,7 @@
 //! What the words ask for.
-ghost use Rattle.std.specs.Prelude.{◌≡◌, ◌≤◌, ℕ, Option, codes, IfErr, IfNone, IfOk, IfSome};
+ghost use Rattle.std.specs.Prelude.{◌≡◌, ◌≤◌, ℕ, Option, codes, IfErr, IfNone, IfOk, IfSome, Bool};
 ghost use Rattle.clap.specs.Words.{found_of, rows_of, subcommand_rows_of};
-ghost use Rattle.command_words.specs.Asked.{AreTexts, IsAskedBy, IsDecode, IsEncode, IsExplain, IsForward, IsFrame, IsGraph, IsJudge, IsLint, IsListed, IsLook, IsMib, HasNoList, IsOptionalNumber, IsRecord, IsReplay, IsRules, IsRun, IsTrace, IsTraces, asks_for_all};
+ghost use Rattle.command_words.specs.Asked.{AreTexts, IsAskedBy, IsDecode, IsEncode, IsExplain, IsForward, IsFrame, IsGraph, IsJudge, IsLate, IsLint, IsListed, IsLook, IsMib, HasNoList, IsOptionalNumber, IsRecord, IsReplay, IsRules, IsRun, IsTrace, IsTraces, asks_for_all, asks_for_late};
 ghost use Rattle.command_words.specs.declared.words.Words.{Words};
 ghost use Rattle.command_words.specs.declared.words.RecordWords.{RecordWords};
 ghost use Rattle.command_words.specs.declared.words.RunWords.{RunWords};
@@ -344,7 +344,30 @@ fn read_lint<'a>(alloc: Global, given: &ArgMatches<'a>) -> Result<Option<LintWor
     }))
 }
 
-/// What the options behind `record` ask for; None where a time is no number of 32 bits.
+/// Whether frames are said to be on their way as captures began.
+fn asks_for_late(given: &ArgMatches<'_>) -> bool
+    ensures { result ≡ asks_for_late (rows_of (found_of given.now)) }
+{
+    match given.get_str("late") {
+        Some(text) => text == "true",
+        None => false,
+    }
+}
+
+/// Whether frames were on their way as captures began; None where that is so and it isn't said when a frame is lost.
+fn read_late(given: &ArgMatches<'_>, lost: Option<u32>) -> Option<bool>
+    ensures asked { IfSome result (IsLate (rows_of (found_of given.now)) lost) }
+    ensures none { IfNone result ((late : Bool)
+        → IsLate (rows_of (found_of given.now)) lost late → ⊥) }
+{
+    let late = asks_for_late(given);
+    match lost {
+        None if late => None,
+        _ => Some(late),
+    }
+}
+
+/// What the options behind `record` ask for; None where a time is no number of 32 bits, or `--late` is given without `--lost`.
 fn read_record<'a>(
     alloc: Global,
     given: &ArgMatches<'a>,
@@ -362,6 +385,9 @@ fn read_record<'a>(
     let Some(lost) = read_optional(given, "lost") else {
         return Ok(None);
     };
+    let Some(late) = read_late(given, lost) else {
+        return Ok(None);
+    };
     Ok(Some(RecordWords {
         omci: texts_of(alloc, given, "omci")?,
         into: texts_of(alloc, given, "into")?,
@@ -369,6 +395,7 @@ fn read_record<'a>(
         tpids: texts_of(alloc, given, "tpid")?,
         wait,
         lost,
+        late,
         skews: texts_of(alloc, given, "skew")?,
         fcs: given.get_flag("fcs"),
         padded: given.get_flag("padded"),
@@ -477,6 +504,7 @@ pub fn complaint(matches: &ArgMatches<'_>) -> &'static str {
         Some(given) if has_no_trace(given) => "give the trace too, in front of the frame",
         Some(_) => "give the frame by its bytes alone, or by --frames and --frame",
         None if matches.subcommand_matches("judge").is_some() => "give --all too, beside --most",
+        None if matches.subcommand_matches("record").is_some() => "give --lost too, beside --late",
         None => "a value is missing or out of its range",
     }
 }

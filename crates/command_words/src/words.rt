@@ -229,6 +229,8 @@ pub struct RecordWords<'a> {
     pub wait: Option<u32>,
     /// After how many milliseconds a frame that wasn't seen to leave is lost, or None where none is said to be.
     pub lost: Option<u32>,
+    /// Whether frames were on their way as the captures of what was sent began. It is only where a frame is said to be lost.
+    pub late: bool,
     /// Files, each with the milliseconds that are added to its times.
     pub skews: Vec<&'a str>,
     /// Whether each frame ends in its check sequence.

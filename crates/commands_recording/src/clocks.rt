@@ -53,7 +53,7 @@ fn is_known(frame: &CapturedFrame<'_>) -> bool {
 }
 
 /// The frame that stands somewhere in captures.
-fn frame_at<'f>(captures: &[Capture<'f>], source: Source) -> Option<CapturedFrame<'f>> {
+pub(crate) fn frame_at<'f>(captures: &[Capture<'f>], source: Source) -> Option<CapturedFrame<'f>> {
     let capture = captures.get(source.capture)?;
     let frame = capture.frames.get(source.place.checked_sub(1)?)?;
     Some(*frame)

@@ -2,6 +2,7 @@
 ghost use Rattle.std.specs.Prelude.{◌≡◌};
 ghost use Rattle.bench_history.specs.Among.{are_in_order, ascend_from};
 
+use crate::beginnings::may_begin_late;
 use crate::clocks::{Ahead, frames_ahead};
 use bench_history::Doubts;
 use bench_record::{Capture, RecordSettings, RecordedEvent, Recording, Source, TimedEvent};
@@ -16,6 +17,8 @@ pub(crate) struct Findings {
     pub(crate) unread: Vec<Source>,
     /// Those that left, and may have been sent unseen.
     pub(crate) early: Vec<Source>,
+    /// Whether some of these may have been on their way as captures in front of the unit began, and that isn't set.
+    pub(crate) may_begin_late: bool,
     /// Those that a history can't hold.
     pub(crate) unwritable: Vec<Source>,
     /// Those that left and may be one of several, or one that is doubtful.
@@ -29,9 +32,11 @@ pub(crate) struct Findings {
 }
 
 impl Findings {
-    /// Whether something in the history is in doubt, a stray or open, or left out for want of room.
+    /// Whether something in the history is in doubt, a stray or open, left out for want of room, or taken for what may have been on its way as
+    /// captures began.
     pub(crate) fn leave_doubt(&self) -> bool {
-        !self.unwritable.is_empty()
+        self.may_begin_late
+            || !self.unwritable.is_empty()
             || !self.doubtful.is_empty()
             || !self.strays.is_empty()
             || !self.ahead.is_empty()
@@ -202,14 +207,18 @@ pub(crate) fn find(
     for timed in &recording.events {
         finder.note(timed)?;
     }
-    let mut left = Vec::from_slice(alloc, &finder.strays)?;
-    left.extend_from_slice(&recording.passed.early)?;
-    let open = finder.open_at(settings.lost, last_time(captures))?;
     let passed = &recording.passed;
+    let mut left = Vec::from_slice(alloc, &finder.strays)?;
+    // Frames that were on their way left before any of their core was seen to be sent, whatever the clocks are.
+    if !settings.late {
+        left.extend_from_slice(&passed.early)?;
+    }
+    let open = finder.open_at(settings.lost, last_time(captures))?;
     Ok(Findings {
         other: in_order(alloc, &passed.other)?,
         unread: in_order(alloc, &passed.unread)?,
         early: in_order(alloc, &passed.early)?,
+        may_begin_late: !settings.late && may_begin_late(captures, settings, &passed.early),
         unwritable: in_order(alloc, &passed.unwritable)?,
         doubtful: in_order(alloc, &finder.doubtful)?,
         strays: in_order(alloc, &finder.strays)?,

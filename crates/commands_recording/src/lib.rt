@@ -5,6 +5,7 @@
 //! on standard error (saying).
 #![tactic(auto)]
 
+mod beginnings;
 mod clocks;
 mod finding;
 mod inputs;

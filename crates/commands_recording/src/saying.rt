@@ -10,6 +10,10 @@ use std::io::Write;
 /// How many records are named at most of frames that have a line in the history.
 const NAMED: usize = 10;
 
+/// What is asked where frames left unmatched as captures in front of the unit began.
+const BEGUN_LATE: &[u8] =
+    b"was the sender on before the captures of --into began? --late, with --lost\n";
+
 /// Records that follow each other, from one to another.
 #[derive(Clone, Copy)]
 struct Run {
@@ -143,6 +147,9 @@ fn report_passed<E: Write>(names: &[&str], findings: &Findings, err: &mut E) {
     report_unlisted(names, &findings.unread, unread, err);
     let early = "frames left that may have been sent unseen";
     report_unlisted(names, &findings.early, early, err);
+    if findings.may_begin_late {
+        let _ = err.write_all(BEGUN_LATE);
+    }
     let unwritable = "frames are left out, since a history can't hold them";
     report_unlisted(names, &findings.unwritable, unwritable, err);
 }

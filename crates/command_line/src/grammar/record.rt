@@ -94,9 +94,15 @@ fn by_times<'a>(alloc: Global) -> Result<Command<'a>, AllocError>
         "lost",
         "A frame that isn't seen to leave in this time is lost, in milliseconds; a time under the unit's longest delay makes of one late frame an l and an s; without it that isn't judged [example: 1000]",
     );
+    let late = flag(
+        alloc,
+        "late",
+        "Frames were on their way as the captures of --into began; what left until --lost after the first record of each is passed over; wants --lost; has no value [example: --late]",
+    );
     let with_tpid = with_arg(of_captures(alloc), tpid);
     let with_wait = with_arg(with_tpid, wait);
-    with_arg(with_wait, lost)
+    let with_lost = with_arg(with_wait, lost);
+    with_arg(with_lost, late)
 }
 
 /// The command that says what captures have of frames, too.

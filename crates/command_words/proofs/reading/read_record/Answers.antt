@@ -1,6 +1,7 @@
 use Rattle.std.proofs.Common.{◌∙◌, codes, sym}
 use Rattle.clap.specs.Words.{found_of}
 use Rattle.clap.proofs.WalkLemmas.{first_value-rows, one_text-rows}
+use Rattle.command_words.proofs.Given.{late_unread}
 use Rattle.command_words.proofs.reading.read_record.Goals as goal
 
 pub returns-clause-asked : goal.returns-clause-asked
@@ -13,6 +14,7 @@ returns-clause-asked c =
       tpids = c.in_ok-texts_of-4.ensures;
       wait = c.in-Some.ensures.asked;
       lost = c.in-Some-read_optional.ensures.asked;
+      late = c.in-Some-read_late.ensures.asked;
       skews = c.in_ok-texts_of-5.ensures;
       fcs = record {
         with = λ e. c.get_flag.ensures.value (one_text-rows found (codes "fcs") ∙ e);
@@ -32,3 +34,7 @@ returns-clause-asked c =
         without = λ e. c.get_flag-4.ensures.other (one_text-rows found (codes "strict") ∙ e);
       };
     }
+
+pub returns-in_default-read_late-clause-none : goal.returns-in_default-read_late-clause-none
+returns-in_default-read_late-clause-none c =
+    late_unread (found_of c.args.given.now) c.in-Some-read_optional.lost c.in-Some-read_optional.ensures.asked c.in_default-read_late.ensures.none

@@ -1,0 +1,18 @@
+use Rattle.std.proofs.Common.{◌≡◌, ◌∙◌, Option, Some, None, codes, sym, ap}
+use Rattle.std.specs.Prelude.{option_map}
+use Rattle.clap.specs.Words.{Text, first_of, found_of, rows_of}
+use Rattle.clap.proofs.WalkLemmas.{first_value-rows}
+use Rattle.command_words.specs.Asked.{asks_for_late, is_true}
+use Rattle.command_words.proofs.reading.asks_for_late.Goals as goal
+
+pub returns-in-Some : goal.returns-in-Some
+returns-in-Some c =
+    let found = found_of c.args.given.now in
+    let there = sym c.get_str.ensures ∙ ap (λ (t : Option _). option_map (λ s. s.now) t) c.in-Some.is in
+    c.eq.ensures ∙ sym (ap is_true (sym (first_value-rows found (codes "late")) ∙ there))
+
+pub returns-in-None : goal.returns-in-None
+returns-in-None c =
+    let found = found_of c.args.given.now in
+    let there = sym c.get_str.ensures ∙ ap (λ (t : Option _). option_map (λ s. s.now) t) c.in-None.is in
+    sym (ap is_true (sym (first_value-rows found (codes "late")) ∙ there))
