@@ -333,3 +333,18 @@ LOST = [
     (41, OMCI, "AD+88b5+0004240a00ab0701+0*32+00000028"), (50, INTO, "AD+0800+4500"), (51, OUT_OF, "AD+0800+4500"), (60, INTO, "AD+0800+4501"),
     (2000000, INTO, "AD+0800+4502"), (2000001, OUT_OF, "AD+0800+4502"),
 ]
+
+# What it shows, the messages of a trace, and the classes of the frames at port 257 behind it, as `cover` lists them.
+COVERED = [
+    ("entries that change nothing", SET_UP, ["unread d 1", "unread d 2", "entry 0 g 1024", "entry 1 g 1024", "entry 2 g 1024"]),
+    ("an entry takes the frames of another", PUSHING, ["unread d 1", "unread d 2", "entry 0 g 1024", "entry 2 g 1024", "entry 3 g 1024"]),
+    ("two GEM ports without a table", TWO_GEM_PORTS, ["unread d 1", "unread d 2", "no-table g 7", "no-table g 1024"]),
+    ("an entry that discards", DISCARDING, ["unread d 1", "unread d 2", "entry 0 g 1024", "entry 1 g 1024", "entry 2 d 4"]),
+    ("frames that no entry matches", WITHOUT_ENTRY, ["unread d 1", "unread d 2", "entry 0 g 1024", "entry 1 g 1024", "no-entry d 3"]),
+    ("a pointer that is null for priority 0", NULL_POINTER,
+     ["unread d 1", "unread d 2", "entry 0 d 6", "entry 1 g 1024", "entry 1 d 6", "no-entry d 3"]),
+    ("one that leads to no interworking point", TO_NO_POINT,
+     ["unread d 1", "unread d 2", "entry 0 d 7", "entry 1 g 1024", "entry 1 d 7", "no-entry d 3"]),
+    ("an interworking point that leads to no GEM port", TO_NO_GEM_PORT, ["unread d 1", "unread d 2", "entry 0 d 8", "entry 1 d 8", "no-entry d 3"]),
+    ("a GEM port that carries nothing upstream", NOT_UPSTREAM, ["unread d 1", "unread d 2", "entry 0 d 9", "entry 1 d 9", "no-entry d 3"]),
+]

@@ -14,7 +14,7 @@ A file of dialogues has the lines of scripts, each before its answer, and what e
   @ LINE             a line of the script that was carried out before the history: the word @ behind judge stands for a file with these lines
   $ WORDS            the program is asked with these words, and with the messages so far as its trace; judge with the history so far
   < LINE             a line that is decoded, as above; those that follow one another are decoded together
-  | TEXT             a line that is written then, with the same escapes
+  | TEXT             a line that is written then, with the same escapes; of cover `..` stands for the digits of a frame, whichever it shows
 
 Blanks among digits are left out. Any other line is a fault."""
 import re
@@ -30,6 +30,7 @@ FORMS = {
 LEFT = re.compile("(g [0-9]+ [0-9]+ )" + DIGITS)
 PLAIN = re.compile("-|[md] [0-9]+")
 WAIT = re.compile("w( [0-9]+)?|d [0-9]+")
+SHOWN = re.compile(rb'( frame |^f [0-9]+ |"frame":")[0-9a-f]+', re.M)
 STATUS = re.compile("! ([0-9]+)(?: (.*))?")
 ESCAPES = (("\\r", "\r"), ("\\t", "\t"), ("\\040", " "))
 
@@ -86,6 +87,10 @@ class Call:
 
     def ends_well(self):
         return self.status == 0
+
+    def compared(self, written):
+        """What is compared of that which is written."""
+        return SHOWN.sub(rb"\1..", written) if self.words[0] == "cover" else written
 
 
 class Reader:

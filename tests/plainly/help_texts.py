@@ -18,6 +18,7 @@ Commands:
   encode   Make a script of a text in words
   lint     Say what is suspect in a trace and in the entities after it
   graph    Draw how the managed entities after a trace point to each other, for Graphviz
+  cover    List which frames a test must send after a trace: one for each entry that is used, with each way to end
   help     Print this message or the help of the given subcommand(s)
 
 Options:
@@ -242,6 +243,27 @@ Options:
 Captures are files in libpcap's classic format or in pcapng. Each of --omci, --into, --out-of, --tpid and --skew may be given several times.
 Status: 0, 1 or 2; onuctl help statuses says when
 Example: onuctl record --omci omci.pcap --into 257=up.pcap --out-of 1024=gem.pcap --wait 5 --lost 10 | onuctl judge""",
+    "cover": """\
+List which frames a test must send after a trace: one for each entry that is used, with each way to end
+
+Usage: onuctl cover [OPTIONS] <TRACE>
+
+Arguments:
+  <TRACE>  Script, or words for one, whose messages are applied, a file; also behind --trace [example: up.script]
+
+Options:
+      --until <LINE>   Stop behind this line of the trace, from 1 [example: 20]
+      --strict         Stop where a message of the trace has a fault or is refused; has no value [example: --strict]
+      --port <PORT>    Port whose frames are listed, 0 to 65535; without it each port that a mapper or a table points to [example: 257]
+      --least <BYTES>  List what frames of at least so many bytes can have, 0 to 9989; of any length without it [example: 60]
+      --script         Write a script, which replay answers behind the trace; has no value [example: --script]
+      --out <FILE>     Write the frames of one port to this file too, as pcapng, in the same order; it gets its name once it is whole; - is standard output [example: sent.pcapng]
+      --json           Show it as JSON, for other programs; has no value [example: --json]
+  -h, --help           Print help
+
+Whatever frame comes in has a class of the list: what the port's table uses for it, and how it ends.
+Status: 0, 1 or 2; onuctl help statuses says when
+Example: onuctl cover up.script --least 60 --out sent.pcapng""",
     "encode": """\
 Make a script of a text in words
 

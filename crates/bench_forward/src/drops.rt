@@ -6,9 +6,8 @@ ghost use Rattle.bench_forward.specs.Blocks.{packet_block};
 ghost use Rattle.bench_forward.specs.Comments.{dropped_comment};
 ghost use Rattle.bench_forward.specs.Drops.{drops_header};
 
-use crate::block::{port_block, section_block};
 use crate::comment::dropped_comment;
-use crate::packet::{packet_end, packet_front, write_both, write_three};
+use crate::port_capture::{write_port_header, write_port_packet};
 use bench_capture::RecordedFrame;
 use frame_meaning::Reason;
 use std::io::Write;
@@ -22,8 +21,7 @@ pub(crate) fn write_drops_header<W: Write>(writer: &mut W, port: u16) -> Result<
     ensures err { OnErr result
         (AppendsPart (W.contents writer.old) (W.contents writer.new) (drops_header port)) }
 {
-    let interface = port_block(port);
-    write_both(writer, &section_block(), interface.as_slice())
+    write_port_header(writer, port)
 }
 
 /// Writes the packet of the frame of this number, which is dropped: its record's time and lengths, and its bytes as they are stored.
@@ -43,7 +41,5 @@ pub(crate) fn write_dropped<W: Write>(
     let bytes = frame.bytes();
     let comment = dropped_comment(number, reason);
     let original = frame.original_len() as usize;
-    let front = packet_front(0, frame.time(), bytes.len(), original, comment.len());
-    let end = packet_end(bytes.len(), comment.as_slice());
-    write_three(writer, front.as_slice(), bytes, end.as_slice())
+    write_port_packet(writer, frame.time(), original, bytes, comment.as_slice())
 }

@@ -227,6 +227,17 @@ any_port = optional (codes "port") (Signed (pos 0) (pos 65535))
 abbrev pub graph : App
 graph = with_rule (over_trace (codes "graph")) any_port
 
+-- how many bytes a frame has at least
+abbrev pub least : Rule
+least = optional (codes "least") (Signed (pos 0) (pos 9989))
+
+-- what picks the frames that are listed
+abbrev pub of_frames : App
+of_frames = with_rule (with_rule (over_trace (codes "cover")) any_port) least
+
+abbrev pub cover : App
+cover = with_rule (with_rule (with_rule of_frames (flag (codes "script"))) out) json
+
 -- what says how a history is judged
 abbrev pub by_settings : App
 by_settings =
@@ -291,4 +302,4 @@ abbrev pub with_captures : App → App
 with_captures app = with_subcommand (with_subcommand (with_subcommand (with_subcommand app judge.top) forward.top) recording.top) encode.top
 
 abbrev pub onuctl : App
-onuctl = with_subcommand (with_subcommand (with_captures (with_looking (with_doing alone))) lint.top) graph.top
+onuctl = with_subcommand (with_subcommand (with_subcommand (with_captures (with_looking (with_doing alone))) lint.top) graph.top) cover.top

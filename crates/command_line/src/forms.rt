@@ -21,6 +21,7 @@ const OVER_FILES: &[(&str, &str)] = &[
     ("run", TRACE),
     ("lint", TRACE),
     ("graph", TRACE),
+    ("cover", TRACE),
 ];
 
 /// What becomes of a word.

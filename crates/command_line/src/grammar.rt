@@ -4,6 +4,7 @@ ghost use Rattle.clap.specs.Words.{App, app_of, with_subcommand};
 ghost use Rattle.command_line.specs.Grammar.{IsCommand, onuctl};
 
 mod common;
+mod cover;
 mod decode;
 mod encode;
 mod explain;
@@ -56,7 +57,8 @@ pub fn onuctl<'a>(alloc: Global) -> Result<Command<'a>, AllocError>
     let recorded = with_sub(capturing, record::recording(alloc));
     let encoding = with_sub(recorded, encode::encode(alloc));
     let linting = with_sub(encoding, lint::lint(alloc));
-    with_sub(linting, graph::graph(alloc))
+    let drawing = with_sub(linting, graph::graph(alloc));
+    with_sub(drawing, cover::cover(alloc))
 }
 
 /// The command of this name alone, or the program where there is none.
@@ -74,6 +76,7 @@ pub fn named<'a>(alloc: Global, name: &str) -> Result<Command<'a>, AllocError> {
         "encode" => encode::encode(alloc),
         "lint" => lint::lint(alloc),
         "graph" => graph::graph(alloc),
+        "cover" => cover::cover(alloc),
         _ => onuctl(alloc),
     }
 }

@@ -18,11 +18,12 @@ use Rattle.command_words.specs.declared.words.ForwardWords.{ForwardWords}
 use Rattle.command_words.specs.declared.words.RecordWords.{RecordWords}
 use Rattle.command_words.specs.declared.words.ReplayWords.{ReplayWords}
 use Rattle.command_words.specs.declared.words.LintWords.{LintWords}
+use Rattle.command_words.specs.declared.words.CoverWords.{CoverWords}
 use Rattle.command_words.specs.declared.words.GraphWords.{GraphWords}
 use Rattle.command_words.specs.declared.words.DecodeWords.{DecodeWords}
 use Rattle.command_words.specs.declared.words.EncodeWords.{EncodeWords}
 use Rattle.command_words.specs.declared.words.Words.{Words}
-use Rattle.command_words.specs.declared.words.Words.TheVariants.{Replay, Run, Decode, Mib, Rules, Explain, Judge, Forward, Record, Encode, Lint, Graph}
+use Rattle.command_words.specs.declared.words.Words.TheVariants.{Replay, Run, Decode, Mib, Rules, Explain, Judge, Forward, Record, Encode, Lint, Graph, Cover}
 
 -- the value of an option is a number in decimal digits
 pub record IsNumber (name : Text) (rows : List Row) (n : ℕ) : Type 0 where
@@ -196,6 +197,15 @@ pub record IsGraph (rows : List Row) (words : GraphWords) : Type 0 where
   pub trace : IsTrace rows words.trace
   pub port : IsOptionalNumber (codes "port") rows words.port
 
+-- those behind `cover`
+pub record IsCover (rows : List Row) (words : CoverWords) : Type 0 where
+  pub trace : IsTrace rows words.trace
+  pub port : IsOptionalNumber (codes "port") rows words.port
+  pub least : IsOptionalNumber (codes "least") rows words.least
+  pub script : IsFlag (codes "script") rows words.script
+  pub json : IsFlag (codes "json") rows words.json
+  pub out : first_of (codes "out") rows ≡ option_map (λ (name : _). name.now) words.out
+
 -- those behind `encode`
 pub record IsEncode (rows : List Row) (words : EncodeWords) : Type 0 where
   pub file : first_of (codes "text") rows ≡ option_map (λ (name : _). name.now) words.file
@@ -216,6 +226,7 @@ IsAskedBy (Some (name, rows)) (Record words) = (name ≡ codes "record") × IsRe
 IsAskedBy (Some (name, rows)) (Encode words) = (name ≡ codes "encode") × IsEncode rows words
 IsAskedBy (Some (name, rows)) (Lint words) = (name ≡ codes "lint") × IsLint rows words
 IsAskedBy (Some (name, rows)) (Graph words) = (name ≡ codes "graph") × IsGraph rows words
+IsAskedBy (Some (name, rows)) (Cover words) = (name ≡ codes "cover") × IsCover rows words
 
 -- all but what names files or options several times
 abbrev pub HasNoList : Words → Type 0
@@ -231,6 +242,7 @@ HasNoList (Record words) = ⊥
 HasNoList (Encode words) = Unit {0}
 HasNoList (Lint words) = ⊥
 HasNoList (Graph words) = Unit {0}
+HasNoList (Cover words) = Unit {0}
 
 -- what shows where the frames of a port go
 abbrev pub IsLook : Words → Type 0
@@ -246,3 +258,4 @@ IsLook (Record words) = ⊥
 IsLook (Encode words) = ⊥
 IsLook (Lint words) = ⊥
 IsLook (Graph words) = Unit {0}
+IsLook (Cover words) = Unit {0}

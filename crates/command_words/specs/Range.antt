@@ -3,7 +3,7 @@ use Rattle.std.specs.Prelude.{◌≤◌, ℕ, Option, IfSome}
 use Rattle.run_settings.specs.Settings.{CanRun}
 use Rattle.run_settings.specs.declared.settings.RunSettings.{RunSettings}
 use Rattle.command_words.specs.declared.words.Words.{Words}
-use Rattle.command_words.specs.declared.words.Words.TheVariants.{Replay, Run, Decode, Mib, Rules, Explain, Judge, Forward, Record, Encode, Lint, Graph}
+use Rattle.command_words.specs.declared.words.Words.TheVariants.{Replay, Run, Decode, Mib, Rules, Explain, Judge, Forward, Record, Encode, Lint, Graph, Cover}
 use Rattle.command_words.specs.declared.words.FrameWords.{FrameWords}
 use Rattle.command_words.specs.declared.words.FrameWords.TheVariants.{Bytes, Captured}
 
@@ -12,7 +12,7 @@ pub record AreInRange (settings : RunSettings) : Type 0 where
   pub port : settings.port ≤ 65535
   pub limits : CanRun settings
 
--- a transaction correlation identifier, or a port that may be left out, is a number of 16 bits
+-- a transaction correlation identifier, or a port or a length that may be left out, is a number of 16 bits
 abbrev pub IsShort : Option ℕ → Type 0
 IsShort number = IfSome number (λ n. n ≤ 65535)
 
@@ -39,3 +39,4 @@ IsInRange (Record words) = IsLine words.wait × IsLine words.lost
 IsInRange (Encode words) = IsShort words.identifier
 IsInRange (Lint words) = IsLine words.traces.until
 IsInRange (Graph words) = IsShort words.port × IsLine words.trace.until
+IsInRange (Cover words) = IsShort words.port × IsShort words.least × IsLine words.trace.until

@@ -1,7 +1,7 @@
 //! What the words ask for.
 ghost use Rattle.std.specs.Prelude.{◌≡◌, ◌≤◌, ℕ, Option, codes, IfErr, IfNone, IfOk, IfSome, Bool};
 ghost use Rattle.clap.specs.Words.{found_of, rows_of, subcommand_rows_of};
-ghost use Rattle.command_words.specs.Asked.{AreTexts, IsAskedBy, IsDecode, IsEncode, IsExplain, IsForward, IsFrame, IsGraph, IsJudge, IsLate, IsLint, IsListed, IsLook, IsMib, HasNoList, IsOptionalNumber, IsRecord, IsReplay, IsRules, IsRun, IsTrace, IsTraces, asks_for_all, asks_for_late};
+ghost use Rattle.command_words.specs.Asked.{AreTexts, IsAskedBy, IsCover, IsDecode, IsEncode, IsExplain, IsForward, IsFrame, IsGraph, IsJudge, IsLate, IsLint, IsListed, IsLook, IsMib, HasNoList, IsOptionalNumber, IsRecord, IsReplay, IsRules, IsRun, IsTrace, IsTraces, asks_for_all, asks_for_late};
 ghost use Rattle.command_words.specs.declared.words.Words.{Words};
 ghost use Rattle.command_words.specs.declared.words.RecordWords.{RecordWords};
 ghost use Rattle.command_words.specs.declared.words.RunWords.{RunWords};
@@ -9,6 +9,7 @@ ghost use Rattle.command_words.specs.declared.words.MibWords.{MibWords};
 ghost use Rattle.command_words.specs.declared.words.RulesWords.{RulesWords};
 ghost use Rattle.command_words.specs.declared.words.ExplainWords.{ExplainWords};
 ghost use Rattle.command_words.specs.declared.words.LintWords.{LintWords};
+ghost use Rattle.command_words.specs.declared.words.CoverWords.{CoverWords};
 ghost use Rattle.command_words.specs.declared.words.GraphWords.{GraphWords};
 ghost use Rattle.command_words.specs.declared.words.JudgeWords.{JudgeWords};
 ghost use Rattle.command_words.specs.declared.words.EncodeWords.{EncodeWords};
@@ -19,9 +20,9 @@ ghost use Rattle.command_words.specs.declared.words.TracesWords.{TracesWords};
 ghost use Rattle.command_words.specs.Range.{AreInRange, IsFrameInRange, IsShort, IsInRange, IsLine};
 
 use crate::words::{
-    DecodeWords, EncodeWords, ExplainWords, ForwardWords, FrameWords, GraphWords, JudgeWords,
-    LintWords, MibWords, RecordWords, ReplayWords, RulesWords, RunWords, TraceWords, TracesWords,
-    Words,
+    CoverWords, DecodeWords, EncodeWords, ExplainWords, ForwardWords, FrameWords, GraphWords,
+    JudgeWords, LintWords, MibWords, RecordWords, ReplayWords, RulesWords, RunWords, TraceWords,
+    TracesWords, Words,
 };
 use clap::ArgMatches;
 use run_settings::{DEFAULT_BATCH, DEFAULT_LANES, RunSettings};
@@ -148,6 +149,25 @@ fn read_graph<'a>(given: &ArgMatches<'a>) -> Option<GraphWords<'a>>
     Some(GraphWords {
         trace: read_trace(given)?,
         port: read_short(given, "port")?,
+    })
+}
+
+/// What the options behind `cover` ask for; None where one is missing, or no number in its range.
+fn read_cover<'a>(given: &ArgMatches<'a>) -> Option<CoverWords<'a>>
+    ensures asked { IfSome result (IsCover (rows_of (found_of given.now))) }
+    ensures range { IfSome result (λ words.
+        IsShort words.port × IsShort words.least × IsLine words.trace.until) }
+    ensures none { IfNone result ((words : CoverWords)
+        → IsCover (rows_of (found_of given.now)) words
+        → IsShort words.port → IsShort words.least → IsLine words.trace.until → ⊥) }
+{
+    Some(CoverWords {
+        trace: read_trace(given)?,
+        port: read_short(given, "port")?,
+        least: read_short(given, "least")?,
+        script: given.get_flag("script"),
+        json: given.get_flag("json"),
+        out: given.get_str("out"),
     })
 }
 
@@ -415,6 +435,9 @@ fn read_look<'a>(matches: &ArgMatches<'a>) -> Option<Words<'a>>
 {
     if let Some(given) = matches.subcommand_matches("explain") {
         return Some(Words::Explain(read_explain(given)?));
+    }
+    if let Some(given) = matches.subcommand_matches("cover") {
+        return Some(Words::Cover(read_cover(given)?));
     }
     let given = matches.subcommand_matches("graph")?;
     Some(Words::Graph(read_graph(given)?))

@@ -28,6 +28,8 @@ pub enum Words<'a> {
     Lint(LintWords<'a>),
     /// How the managed entities after a trace point to each other.
     Graph(GraphWords<'a>),
+    /// What the managed entities after a trace can do with frames.
+    Cover(CoverWords<'a>),
 }
 
 /// How `replay` is to answer.
@@ -143,6 +145,23 @@ pub struct GraphWords<'a> {
     pub trace: TraceWords<'a>,
     /// The port whose entities alone are shown, or None for all.
     pub port: Option<u16>,
+}
+
+/// What `cover` is to list.
+#[derive(Clone, Copy)]
+pub struct CoverWords<'a> {
+    /// The messages that are applied.
+    pub trace: TraceWords<'a>,
+    /// The port whose frames alone are listed, or None for each port that is named.
+    pub port: Option<u16>,
+    /// How many bytes a frame has at least, or None for any number.
+    pub least: Option<u16>,
+    /// Whether it is shown as a script.
+    pub script: bool,
+    /// Whether it is shown as JSON.
+    pub json: bool,
+    /// The file for the frames of the only port, `-` for standard output, or None where none is wanted.
+    pub out: Option<&'a str>,
 }
 
 /// What `judge` is to judge.

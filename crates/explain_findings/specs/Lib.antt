@@ -3,3 +3,4 @@ pub mod Drops
 pub mod Findings
 pub mod Graph
 pub mod Claims
+pub mod Ports

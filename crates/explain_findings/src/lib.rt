@@ -10,6 +10,8 @@
 //! entry admits all that it admits; several entries that do so together aren't looked for. An instance counts as reached where
 //! pointers lead to it from a port, also where the port's table drops each frame before, or where no frame has the priority of
 //! the pointer.
+//!
+//! **Ports.** [`named_ports`] lists those that managed entities name. Every other port drops all frames ([`law_of_named_ports`]).
 #![tactic(auto)]
 
 mod append;
@@ -23,6 +25,7 @@ mod graph;
 mod interwork;
 mod laws;
 mod mapper;
+mod ports;
 mod reach;
 mod shown;
 mod table;
@@ -31,4 +34,5 @@ pub use drawing::draw;
 pub use finding::Finding;
 pub use gathering::findings;
 pub use graph::{Edge, Graph, GraphNode, Node, NodeKind};
-pub use laws::law_of_findings;
+pub use laws::{law_of_findings, law_of_named_ports};
+pub use ports::named_ports;

@@ -3,6 +3,7 @@
 
 use command_line::{Words, read_words, report_words, usual_words};
 use commands_captures::forward;
+use commands_covering::cover;
 use commands_files::Unread;
 use commands_judging::judge_history;
 use commands_looking::{draw_graph, explain_frame, lint, show_mib, show_rules};
@@ -67,6 +68,7 @@ fn obey<
         Words::Record(words) => record(rt, words, out, err),
         Words::Lint(words) => lint(rt, words, out, err),
         Words::Graph(words) => draw_graph(rt, words, out, err),
+        Words::Cover(words) => cover(rt, words, out, err),
     }
 }
 

@@ -2,7 +2,7 @@
 ghost use Rattle.std.specs.Prelude.{◌≡◌, Ok, false};
 ghost use Rattle.clap.specs.Words.{App, Rule, Text, new_app, rule_of, with_rule};
 ghost use Rattle.clap.specs.declared.builder.value_parser.ValueParser.TheVariants.{NonEmptyString};
-ghost use Rattle.command_line.specs.Grammar.{IsCommand, json, numbered, optional, over_files, over_trace, over_traces, port, script, scripts, several, strict, trace, traces, until, valued};
+ghost use Rattle.command_line.specs.Grammar.{IsCommand, flag, json, numbered, optional, over_files, over_trace, over_traces, port, script, scripts, several, strict, trace, traces, until, valued};
 
 use clap::builder::ValueParser;
 use clap::{Arg, ArgAction, Command, value_parser};
@@ -76,6 +76,17 @@ pub(super) fn several<'a>(alloc: Global, name: &'a str, value: &'a str, help: &'
         .value_name(value)
         .action(ArgAction::Append)
         .value_parser(ValueParser::NonEmptyString)
+        .help(help)
+}
+
+/// An option without a value.
+pub(super) fn flag<'a>(alloc: Global, name: &'a str, help: &'a str) -> Arg<'a>
+    ensures rule { rule_of result ≡ flag name.entry.now }
+    ensures local { result.global ≡ false }
+{
+    Arg::new(alloc, name)
+        .long(name)
+        .action(ArgAction::SetTrue)
         .help(help)
 }
 

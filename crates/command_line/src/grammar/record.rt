@@ -1,11 +1,11 @@
 //! The words of `record`.
 ghost use Rattle.std.specs.Prelude.{◌≡◌, false};
 ghost use Rattle.clap.specs.Words.{rule_of};
-ghost use Rattle.command_line.specs.Grammar.{IsCommand, by_captures, by_times, flag, milliseconds, of_captures, out, recording};
+ghost use Rattle.command_line.specs.Grammar.{IsCommand, by_captures, by_times, milliseconds, of_captures, out, recording};
 
-use crate::grammar::common::{optional, several, with_arg};
+use crate::grammar::common::{flag, optional, several, with_arg};
 use clap::builder::ValueParser;
-use clap::{Arg, ArgAction, Command, value_parser};
+use clap::{Arg, Command, value_parser};
 use std::alloc::{AllocError, Global};
 
 /// An option with a number of milliseconds, which may be left out.
@@ -15,17 +15,6 @@ fn milliseconds<'a>(alloc: Global, name: &'a str, help: &'a str) -> Arg<'a>
 {
     let parser = value_parser!(u32).range(0..=i64::from(u32::MAX));
     optional(alloc, name, "MS", help, parser)
-}
-
-/// An option without a value.
-fn flag<'a>(alloc: Global, name: &'a str, help: &'a str) -> Arg<'a>
-    ensures rule { rule_of result ≡ flag name.entry.now }
-    ensures local { result.global ≡ false }
-{
-    Arg::new(alloc, name)
-        .long(name)
-        .action(ArgAction::SetTrue)
-        .help(help)
 }
 
 /// The file for the history.

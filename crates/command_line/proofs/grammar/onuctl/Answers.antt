@@ -15,4 +15,5 @@ returns c =
     let recorded = c.with_sub-recorded.ensures _ _ capturing c.recording.ensures in
     let encoding = c.with_sub-encoding.ensures _ _ recorded c.encode.ensures in
     let linting = c.with_sub-linting.ensures _ _ encoding c.lint.ensures in
-    c.with_sub.ensures _ _ linting c.graph.ensures
+    let drawing = c.with_sub-drawing.ensures _ _ linting c.graph.ensures in
+    c.with_sub.ensures _ _ drawing c.cover.ensures
