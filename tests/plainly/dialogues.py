@@ -30,7 +30,7 @@ FORMS = {
 LEFT = re.compile("(g [0-9]+ [0-9]+ )" + DIGITS)
 PLAIN = re.compile("-|[md] [0-9]+")
 WAIT = re.compile("w( [0-9]+)?|d [0-9]+")
-SHOWN = re.compile(rb'( frame |^f [0-9]+ |"frame":")[0-9a-f]+', re.M)
+SHOWN = re.compile(rb'( frame |^f [0-9]+ |"frame":")[0-9a-f]+(?="|$)', re.M)
 STATUS = re.compile("! ([0-9]+)(?: (.*))?")
 ESCAPES = (("\\r", "\r"), ("\\t", "\t"), ("\\040", " "))
 
