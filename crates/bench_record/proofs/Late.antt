@@ -19,7 +19,7 @@ use Rattle.bench_record.specs.Matching.{Frames, SentFrame, candidates, is_doubtf
 use Rattle.bench_record.specs.Messages.{is_managing, message_of}
 use Rattle.bench_record.specs.Moments.{Sourced, Timed, moment_of, moment_of_frame, rank_of}
 use Rattle.bench_record.specs.Order.{in_order, placed}
-use Rattle.bench_record.specs.Recorded.{Seen, core_in, early, enter, extent_within, frames_from, had_begun, hide, history_shown, is_early, is_from_before, is_into, is_missed, is_unread, leave, leave_as, leave_by, leave_doubtful, leave_unmatched, left_as, left_one_of, longest_frame, losses, losses_from, may_be_unnumbered, nothing_seen, other, see, see_at, see_message, see_reply, seen_from, seen_in, strayed, times_of, unread, unwritable, waits, with_events, with_frame, without_number}
+use Rattle.bench_record.specs.Recorded.{Seen, core_in, early, enter, extent_within, frames_from, had_begun, hide, history_shown, is_early, is_from_before, is_into, is_missed, is_unread, leave, leave_as, leave_by, leave_doubtful, left_as, left_one_of, longest_frame, losses, losses_from, may_be_unnumbered, nothing_seen, other, see, see_at, see_message, see_reply, seen_from, seen_in, strayed, times_of, unread, unwritable, waits, with_events, with_frame, without_number}
 use Rattle.bench_record.specs.declared.captured.Capture.{Capture}
 use Rattle.bench_record.specs.declared.captured.Tap.{Tap}
 use Rattle.bench_record.specs.declared.captured.Tap.TheVariants.{Omci, Into, OutOf}
