@@ -8,6 +8,7 @@ ghost use Rattle.frame_rows.specs.Row.{ask_at, named_by};
 
 use arrayvec::ArrayVec;
 use frame_rows::{Field, LONG, Packet, Row, Values};
+use tag_view::is_tag_type;
 
 /// The most values of a field that are looked at for one case: those that rows name, and one beside them for each DSCP.
 pub(crate) const MAX_CHOICES: usize = 200;
@@ -26,16 +27,6 @@ const TYPES: [u16; 10] = [
 
 /// Lengths, each the greatest of those that nothing tells apart. The first stands for all that are greater, too.
 const LENGTHS: [u16; 7] = [LONG, 23, 21, 19, 17, 15, 13];
-
-/// The type that one sends first: of a tag, but behind two tags that of a packet.
-fn first_type(field: Field) -> u16
-    ensures { result < 2 ^ 16 }
-{
-    match field {
-        Field::ThirdType => 0x0800,
-        _ => 0x8100,
-    }
-}
 
 /// One value.
 fn only(value: u16) -> Choices
@@ -180,6 +171,24 @@ impl<'r> Case<'r> {
             .any(|other| self.are_alike(field, *other, value))
     }
 
+    /// Whether a type begins a tag.
+    fn is_tag(&self, field: Field, input: u16) -> bool {
+        is_tag_type(self.values.get(field), input)
+    }
+
+    /// The type that one sends first: of a tag, but behind two tags that of a packet. Where no tag is before it, it is no type, and has the
+    /// length of a packet of IPv4 in a frame of 60 bytes (RFC 791, 3.1).
+    fn first_type(&self, field: Field, input: u16) -> u16
+        ensures { result < 2 ^ 16 }
+    {
+        match field {
+            Field::SecondType if !self.is_tag(Field::FirstType, input) => 46,
+            Field::ThirdType if !self.is_tag(Field::SecondType, input) => 42,
+            Field::ThirdType => 0x0800,
+            _ => 0x8100,
+        }
+    }
+
     /// Types, behind the length.
     fn types(&self, field: Field, input: u16) -> Choices
         requires fit { All (λ row. IsTrue (row_fits input row)) self.now.rows.now }
@@ -193,7 +202,7 @@ impl<'r> Case<'r> {
             (rows_at self.now.rows.now self.now.left.now.items)
             least field self.now.values.now result.items }
     {
-        let mut choices = only(first_type(field));
+        let mut choices = only(self.first_type(field, input));
         for ethertype in &TYPES {
             self.put(&mut choices, field, *ethertype);
         }

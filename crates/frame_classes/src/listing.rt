@@ -25,18 +25,28 @@ pub fn classes(
     let mut found = Found::new(alloc);
     let splitting = Splitting { rows: &rows, least };
     splitting.find_all(&mut found)?;
-    examples_of(alloc, &found, least)
+    examples_of(alloc, port, &found, least)
+}
+
+/// The number of the frame at a place of a port's list, which no other frame of any port's has.
+fn number_of(port: u16, place: usize) -> u64 {
+    (u64::from(port) * 0x1_0000_0000).wrapping_add(place as u64)
 }
 
 /// Each class with the bytes of its frame.
-fn examples_of(alloc: Global, found: &Found, least: usize) -> Result<Vec<ClassExample>, AllocError>
+fn examples_of(
+    alloc: Global,
+    port: u16,
+    found: &Found,
+    least: usize,
+) -> Result<Vec<ClassExample>, AllocError>
     ensures { IfOk result (λ list. AreExamplesOf least (length found.now.samples.items)
         found.now.samples.items (map (λ (e : _). (e.class, e.frame.items)) list.items)) }
 {
     let mut examples = Vec::with_capacity(alloc, found.samples.len())?;
     for place in 0..found.samples.len() {
         let sample = &found.samples[place];
-        let frame = frame_of(alloc, &sample.values, least, place as u64)?;
+        let frame = frame_of(alloc, &sample.values, least, number_of(port, place))?;
         examples.push(ClassExample {
             class: sample.class,
             frame,
