@@ -15,7 +15,7 @@ returns c =
       once = rw is (IsStrictlyIncreasing-dedup _ c.sort_unstable.ensures.sorted);
       each = λ port. (
         λ h. subst (λ (l : List ℕ). Contains l port) named
-        (Contains-permutation _ _ port (IsPermutation-sym _ _ moved) (Contains-from_dedup _ _ port (rw is at h))),
+            (Contains-permutation _ _ port (IsPermutation-sym _ _ moved) (Contains-from_dedup _ _ port (rw is at h))),
         λ h. rw is (Contains-dedup_nat _ port (Contains-permutation _ _ port moved (subst (λ (l : List ℕ). Contains l port) (sym named) h))),
       );
     }
