@@ -142,7 +142,8 @@ fn cover_to_file<R: Files + Alloc<A = Global>, O: Write, E: Write>(
     let Ok(examples) = classes_at(alloc, job, port) else {
         return Err(without_memory(err));
     };
-    let inputs = [job.words.trace.file];
+    let words = job.words;
+    let inputs = [words.trace.file];
     send_to_file(rt, name, &inputs, port, &examples, err)?;
     let outcome = write_port(alloc, job.form, port, &examples, out);
     Ok(report_text(outcome, err))
