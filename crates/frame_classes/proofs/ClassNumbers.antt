@@ -108,3 +108,16 @@ class_same c d p q is =
     split (use_number c.used) (use_number d.used) (ending_number c.ending) (ending_number d.ending) (ending_small c.ending end_c)
     (ending_small d.ending end_d) is in
     of_parts c.used d.used c.ending d.ending (use_same c.used d.used use_c use_d parts.0) (ending_same c.ending d.ending end_c end_d parts.1)
+
+-- a class has a small number
+pub class_below : (c : FrameClass) → IsTrue (class_fits c) → class_number c < 33947648
+class_below c fits =
+    let used = use_small c.used (both_left (use_fits c.used) (ending_fits c.ending) fits) in
+    let ends = ending_small c.ending (both_right (use_fits c.used) (ending_fits c.ending) fits) in
+    omega arith
+  where
+    use_small : (u : Use) → use_fits u ≡ true → use_number u ≤ 258
+    use_small Unread h = omega arith
+    use_small NoTable h = omega arith
+    use_small (Entry k) h = let small : k < 2 ^ 8 = ltb-true k (2 ^ 8) h in omega arith
+    use_small NoEntry h = omega arith

@@ -1,21 +1,22 @@
 -- The values of one field, one after the other.
-use Rattle.std.proofs.Common.{◌≡◌, ◌⊎◌, inl, inr, ℕ, zero, suc, List, [], ◌∷◌, Some, arith, sym, subst}
+use Rattle.std.proofs.Common.{◌≡◌, ◌⊎◌, inl, inr, ℕ, zero, suc, ◌+◌, ◌<◌, List, [], ◌∷◌, ◌++◌, Some, arith, refl, ap, length, length-set, sym, subst, ◌∙◌}
 use Rattle.std.specs.Prelude.{Any, Contains}
-use Rattle.frame_rows.specs.declared.class.Ending.{Ending}
-use Rattle.frame_rows.specs.declared.class.FrameClass.{FrameClass}
+use Rattle.std.proofs.lemmas.List.{take_more_set}
 use Rattle.frame_rows.specs.declared.field.Field.{Field}
 use Rattle.frame_rows.specs.declared.field.Values.{Values}
+use Rattle.frame_rows.specs.Field.{fields, place_of, with_value}
+use Rattle.frame_rows.specs.Sight.{Side}
 use Rattle.frame_classes.specs.declared.found.Sample.{Sample}
-use Rattle.frame_rows.specs.declared.row.Row.{Row}
-use Rattle.frame_rows.specs.Field.{fields}
-use Rattle.frame_rows.specs.Row.{class_by}
-use Rattle.frame_classes.specs.Found.{classes_of}
-use Rattle.frame_classes.specs.Splitting.{AreAllFound, IsNear, IsOf, Stands}
+use Rattle.frame_classes.specs.declared.told.Told.{Told}
+use Rattle.frame_classes.specs.Found.{told_of}
+use Rattle.frame_classes.specs.Splitting.{Agree, AreAllFound, IsOf}
+use Rattle.frame_classes.specs.Told.{told_by}
+use Rattle.frame_classes.proofs.Kept.{Keeps}
 
--- the class of others is there, or one of the values that are left stands for theirs
-pub record AreGoing (endings : List Ending) (rows left : List Row) (least : ℕ) (some : List Field) (field : Field) (values : Values) (samples : List Sample) (rest : List ℕ) : Type 0 where
-  pub each : (others : Values) (class : FrameClass) → IsOf least fields others → IsNear rows some values others → class_by endings rows others ≡ Some class
-      → Contains (classes_of samples) class ⊎ Any (Stands left field values others) rest
+-- what is told of others is there, or one of the values that are left keeps it
+pub record AreGoing (sides : List Side) (least : ℕ) (field : Field) (values : Values) (samples : List Sample) (rest : List ℕ) : Type 0 where
+  pub each : (others : Values) (told : Told) → IsOf least fields others → Agree (place_of field) values others → told_by sides others ≡ Some told
+      → Contains (told_of samples) told ⊎ Any (Keeps sides least field others told) rest
 
 any_by : {X : Type 0} (P : X → Type 0) (Q : Type 0) (x : X) (xs : List X) → (P x → Q) → (Any P xs → Q) → Any P (x ∷ xs) → Q
 any_by P Q x xs first later (zero, y, within, is, holds) = first (subst P (sym is) holds)
@@ -29,26 +30,43 @@ either f g (inl a) = f a
 either f g (inr b) = g b
 
 -- a value more was looked at
-pub going_on : (endings : List Ending) (rows left : List Row) (least : ℕ) (some : List Field) (field : Field) (values : Values) (before after : List Sample)
-    (value : ℕ) (rest : List ℕ) → AreGoing endings rows left least some field values before (value ∷ rest)
-    → ((class : FrameClass) → Contains (classes_of before) class → Contains (classes_of after) class)
-    → ((others : Values) (class : FrameClass) → IsOf least fields others → IsNear rows some values others → class_by endings rows others ≡ Some class
-    → Stands left field values others value → Contains (classes_of after) class)
-    → AreGoing endings rows left least some field values after rest
-going_on endings rows left least some field values before after value rest going kept found =
+pub going_on : (sides : List Side) (least : ℕ) (field : Field) (values : Values) (before after : List Sample) (value : ℕ) (rest : List ℕ)
+    → AreGoing sides least field values before (value ∷ rest) → ((told : Told) → Contains (told_of before) told → Contains (told_of after) told)
+    → ((others : Values) (told : Told) → Agree (place_of field) values others → Keeps sides least field others told value → Contains (told_of after) told)
+    → AreGoing sides least field values after rest
+going_on sides least field values before after value rest going kept found =
     record {
-      each = λ others class of near has.
-          either (λ there. inl (kept class there))
-          (any_by (Stands left field values others) (Contains (classes_of after) class ⊎ Any (Stands left field values others) rest) value rest
-          (λ stands. inl (found others class of near has stands)) (λ later. inr later))
-          (going.each others class of near has);
+      each = λ others told of agree tells.
+          either (λ there. inl (kept told there))
+          (any_by (Keeps sides least field others told) (Contains (told_of after) told ⊎ Any (Keeps sides least field others told) rest) value rest
+          (λ keeps. inl (found others told agree keeps)) (λ later. inr later)) (going.each others told of agree tells);
     }
 
 -- all were looked at
-pub all_gone : (endings : List Ending) (rows left : List Row) (least : ℕ) (some : List Field) (field : Field) (values : Values) (samples : List Sample)
-    → AreGoing endings rows left least some field values samples [] → AreAllFound endings rows least some values samples
-all_gone endings rows left least some field values samples going =
+pub all_gone : (sides : List Side) (least : ℕ) (field : Field) (values : Values) (samples : List Sample) (level : ℕ) → place_of field ≡ level
+    → AreGoing sides least field values samples [] → AreAllFound sides least level values samples
+all_gone sides least field values samples level at going =
     record {
-      found = λ others class of near has.
-          either (λ there. there) (λ none. absurd (any_none (Stands left field values others) none)) (going.each others class of near has);
+      found = λ others told of agree tells.
+          either (λ there. there) (λ none. absurd (any_none (Keeps sides least field others told) none))
+          (going.each others told of (subst (λ (n : ℕ). Agree n values others) (sym at) agree) tells);
     }
+
+-- values that agree before a field do so with one value in it
+pub agree_next : (level : ℕ) (field : Field) (values changed others : Values) (value : ℕ) → place_of field ≡ level → level < length values.values
+    → length values.values ≡ 11 → changed ≡ with_value field value values → Agree (place_of field) values others
+    → Agree (level + 1) changed (with_value field value others)
+agree_next level field values changed others value at within eleven is agree =
+    let long = agree.0 in
+    subst (λ (v : Values). Agree (level + 1) v (with_value field value others)) (sym is)
+    (subst (λ (n : ℕ). Agree (n + 1) (with_value field value values) (with_value field value others)) at (
+      simp length-set (agree.0),
+      take_more_set others.values (place_of field) value (omega (arith, at)) ∙ ap (λ (items : List ℕ). items ++ value ∷ []) agree.1
+          ∙ sym (take_more_set values.values (place_of field) value (omega (arith, at))),
+    ))
+
+-- where no field was looked at, all values agree
+pub found_by_any : (sides : List Side) (least : ℕ) (values other : Values) (samples : List Sample) → AreAllFound sides least 0 values samples
+    → AreAllFound sides least 0 other samples
+found_by_any sides least values other samples all =
+    record { found = λ others told of agree tells. all.found others told of (agree.0, refl) tells }

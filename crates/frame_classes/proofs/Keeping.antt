@@ -1,73 +1,130 @@
--- The class of one case, kept.
-use Rattle.std.proofs.Common.{◌≡◌, ℕ, List, Option, Some, None, ap, sym, subst, get_or, ◌∙◌}
-use Rattle.std.specs.Prelude.{All, Contains, IsTrue, slice_get}
-use Rattle.std.specs.Option.{option_map}
-use Rattle.frame_rows.specs.declared.class.Ending.{Ending}
-use Rattle.frame_rows.specs.declared.class.FrameClass.{FrameClass}
+-- What is told of one case, kept.
+use Rattle.std.proofs.Common.{◌≡◌, ℕ, ◌<◌, ◌≤◌, Bool, true, false, if◌then◌else◌, List, Some, None, arith, refl, ap, sym, subst, length, get_or, ◌∙◌}
+use Rattle.std.specs.Prelude.{All, Any, Contains, IsTrue, map}
+use Rattle.std.proofs.lemmas.List.{get_or-map, length-map, take_all}
 use Rattle.frame_rows.specs.declared.field.Values.{Values}
-use Rattle.frame_classes.specs.declared.found.Sample.{Sample}
-use Rattle.frame_rows.specs.declared.row.Row.{Row}
-use Rattle.frame_rows.specs.Class.{class_fits}
 use Rattle.frame_rows.specs.Field.{fields}
-use Rattle.frame_rows.specs.Row.{class_by, class_of_row, passes}
-use Rattle.frame_classes.specs.Found.{Ascend, classes_of, put_in}
-use Rattle.frame_classes.specs.Splitting.{AreAllFound, AreLeft, AreMore, IsOf, IsSample, rows_at}
-use Rattle.frame_classes.proofs.ClassNumbers.{class_same}
-use Rattle.frame_classes.proofs.Leaves.{class_near}
-use Rattle.frame_classes.proofs.Left.{find-filter}
+use Rattle.frame_rows.specs.Sight.{Side}
+use Rattle.frame_classes.specs.declared.found.Sample.{Sample}
+use Rattle.frame_classes.specs.declared.told.Told.{Told}
+use Rattle.frame_classes.specs.Found.{Ascend, number_of, put_in, told_of}
+use Rattle.frame_classes.specs.Splitting.{Agree, AreAllFound, AreMore, AreTold, IsOf, IsSample}
+use Rattle.frame_classes.specs.Told.{classes_at, is_shown, told_by, told_fits, told_number}
 use Rattle.frame_classes.proofs.PutIn.{All-put_in, ascend_by_put_in, kept_by_put_in, there_by_put_in}
+use Rattle.frame_classes.proofs.ToldNumbers.{told_same}
 
--- the class by the rows that are left
-leaf_class : (endings : List Ending) (rows : List Row) (values : Values) (places : List ℕ) (first : Option Row)
-    → AreLeft rows fields values places → first ≡ slice_get (rows_at rows places) 0
-    → class_by endings rows values ≡ option_map (λ row. class_of_row endings row values) first
-leaf_class endings rows values places first left is =
-    ap (option_map (λ row. class_of_row endings row values))
-    (find-filter (λ row. passes fields row values) rows ∙ ap (λ (rows : List Row). slice_get rows 0) (sym left) ∙ sym is)
+-- ---- at the last field
 
-some_same : {X : Type 0} (x y : X) → Some x ≡ Some y → x ≡ y
-some_same x y e = cc
+-- values that agree in all fields are the same
+values_same : (values others : Values) → length values.values ≡ 11 → Agree 11 values others → others ≡ values
+values_same values others eleven agree =
+    ap of_items (sym (take_all 11 others.values (full others.values agree.0)) ∙ agree.1 ∙ take_all 11 values.values (full values.values eleven))
+  where
+    of_items : List ℕ → Values
+    of_items items = record { values = items }
 
--- ---- where a row is left
+    full : (xs : List ℕ) → length xs ≡ 11 → length xs ≤ 11
+    full xs e = omega arith
 
-pub leaf_more : (endings : List Ending) (rows : List Row) (least : ℕ) (row : Row) (new : Sample) (places : List ℕ) (before after : List Sample)
-    → AreLeft rows fields new.values places → Some row ≡ slice_get (rows_at rows places) 0 → new.class ≡ class_of_row endings row new.values
-    → IsOf least fields new.values → IsTrue (class_fits new.class) → All (IsSample endings rows least) before → Ascend before
-    → after ≡ put_in new before → AreMore endings rows least before after
-leaf_more endings rows least row new places before after left first is values fits samples ascend grown =
-    subst (λ (after : List Sample). AreMore endings rows least before after) (sym grown) (record {
+some_same : (one other : Told) → Some one ≡ Some other → one ≡ other
+some_same one other e = cc
+
+none_some : (told : Told) → None ≡ Some told → ⊥
+none_some told e = cc
+
+pub all_at_leaf : (sides : List Side) (least : ℕ) (values : Values) (samples : List Sample) → length values.values ≡ 11
+    → ((told : Told) → told_by sides values ≡ Some told → Contains (told_of samples) told) → AreAllFound sides least 11 values samples
+all_at_leaf sides least values samples eleven there =
+    record {
+      found = λ others told of agree tells. there told (subst (λ (v : Values). told_by sides v ≡ Some told) (values_same values others eleven agree) tells);
+    }
+
+-- what is told is what the sides' classes say, if it is shown
+told_shown : (sides : List Side) (values : Values) (told : Told) → classes_at sides values ≡ Some told → is_shown sides values ≡ true
+    → told_by sides values ≡ Some told
+told_shown sides values told classes shown = rw shown classes
+
+told_is : (sides : List Side) (values : Values) (told other : Told) → classes_at sides values ≡ Some told → told_by sides values ≡ Some other → told ≡ other
+told_is sides values told other classes tells = by_shown (is_shown sides values) refl tells
+  where
+    by_shown : (b : Bool) → is_shown sides values ≡ b → (if is_shown sides values then classes_at sides values else None) ≡ Some other → told ≡ other
+    by_shown true is h = some_same told other (sym classes ∙ (rw is at h))
+    by_shown false is h = absurd (none_some other (rw is at h))
+
+-- ---- nothing more
+
+pub none_more : (sides : List Side) (least : ℕ) (before : List Sample) → All (IsSample sides least) before → Ascend before → AreMore sides least before before
+none_more sides least before samples ascend = record { kept = λ told h. h; samples = samples; ascend = ascend }
+
+-- where no class is
+pub none_told : (sides : List Side) (least : ℕ) (values : Values) (samples : List Sample) → length values.values ≡ 11
+    → None ≡ classes_at sides values → AreAllFound sides least 11 values samples
+none_told sides least values samples eleven none =
+    all_at_leaf sides least values samples eleven (λ told tells. absurd (never told tells))
+  where
+    never : (told : Told) → told_by sides values ≡ Some told → ⊥
+    never told tells = by_shown (is_shown sides values) refl tells
+      where
+        by_shown : (b : Bool) → is_shown sides values ≡ b → (if is_shown sides values then classes_at sides values else None) ≡ Some told → ⊥
+        by_shown true is h = none_some told (none ∙ (rw is at h))
+        by_shown false is h = none_some told (rw is at h)
+
+-- where it isn't to be told
+pub not_shown : (sides : List Side) (least : ℕ) (values : Values) (samples : List Sample) → length values.values ≡ 11
+    → is_shown sides values ≡ false → AreAllFound sides least 11 values samples
+not_shown sides least values samples eleven hidden =
+    all_at_leaf sides least values samples eleven (λ told tells. absurd (none_some told (rw hidden at tells)))
+
+-- where it is there
+pub there_before : (sides : List Side) (least : ℕ) (values : Values) (told : Told) (samples : List Sample) → length values.values ≡ 11
+    → classes_at sides values ≡ Some told → IsTrue (told_fits told) → All (IsSample sides least) samples
+    → Any (λ s. number_of s ≡ told_number told) samples → AreAllFound sides least 11 values samples
+there_before sides least values told samples eleven classes fits all (k, sample, within, is, same) =
+    all_at_leaf sides least values samples eleven (λ other tells.
+    subst (λ (t : Told). Contains (told_of samples) t) (told_is sides values told other classes tells)
+    (k, within_too, get_or-map (λ s. s.told) samples k sample told within ∙ at_place))
+  where
+    within_too : k < length (map (λ (s : Sample). s.told) samples)
+    within_too =
+        let same = length-map samples (λ (s : Sample). s.told) in
+        omega arith
+
+    here : get_or samples k sample ≡ sample
+    here = is
+
+    at_place : (get_or samples k sample).told ≡ told
+    at_place = ap (λ (s : Sample). s.told) here ∙ told_same sample.told told (subst (λ (s : Sample). IsTrue (told_fits s.told)) here (all k sample within).fits) fits same
+
+-- ---- one more
+
+pub leaf_more : (sides : List Side) (least : ℕ) (values : Values) (told : Told) (before after : List Sample) → classes_at sides values ≡ Some told
+    → is_shown sides values ≡ true → IsOf least fields values → IsTrue (told_fits told) → All (IsSample sides least) before → Ascend before
+    → after ≡ put_in (record { told = told; values = values }) before → AreMore sides least before after
+leaf_more sides least values told before after classes shown of fits samples ascend grown =
+    let new : Sample = record { told = told; values = values } in
+    subst (λ (after : List Sample). AreMore sides least before after) (sym grown) (record {
       kept = kept_by_put_in new before;
-      samples = All-put_in (IsSample endings rows least) new before (record { class = leaf_class endings rows new.values places (Some row) left first ∙ ap (λ (c : FrameClass). Some c) (sym is); values = values; fits = fits }) samples;
+      samples = All-put_in (IsSample sides least) new before (record { told = told_shown sides values told classes shown; values = of; fits = fits }) samples;
       ascend = ascend_by_put_in new before ascend;
     })
 
-pub leaf_every : (endings : List Ending) (rows : List Row) (least : ℕ) (row : Row) (new : Sample) (places : List ℕ) (before after : List Sample)
-    → AreLeft rows fields new.values places → Some row ≡ slice_get (rows_at rows places) 0 → new.class ≡ class_of_row endings row new.values
-    → IsTrue (class_fits new.class) → All (IsSample endings rows least) before
-    → after ≡ put_in new before → AreAllFound endings rows least fields new.values after
-leaf_every endings rows least row new places before after left first is fits samples grown =
-    subst (λ (after : List Sample). AreAllFound endings rows least fields new.values after) (sym grown) (record {
-      found = λ others class within near has.
-          let same : Some class ≡ Some new.class = sym has ∙ sym (class_near endings rows new.values others near) ∙ leaf_class endings rows new.values places (Some row) left first ∙ ap (λ (c : FrameClass). Some c) (sym is) in
-          subst (λ (c : FrameClass). Contains (classes_of (put_in new before)) c) (sym (some_same class new.class same)) there;
-    })
-  where
-    there : Contains (classes_of (put_in new before)) new.class
-    there = there_by_put_in new before (λ k d within equal. class_same (get_or before k d).class new.class (samples k d within).fits fits equal)
+pub leaf_every : (sides : List Side) (least : ℕ) (values : Values) (told : Told) (before after : List Sample) → length values.values ≡ 11
+    → classes_at sides values ≡ Some told → IsTrue (told_fits told) → All (IsSample sides least) before
+    → after ≡ put_in (record { told = told; values = values }) before → AreAllFound sides least 11 values after
+leaf_every sides least values told before after eleven classes fits samples grown =
+    let new : Sample = record { told = told; values = values } in
+    subst (λ (after : List Sample). AreAllFound sides least 11 values after) (sym grown)
+    (all_at_leaf sides least values (put_in new before) eleven (λ other tells.
+    subst (λ (t : Told). Contains (told_of (put_in new before)) t) (told_is sides values told other classes tells)
+    (there_by_put_in new before (λ k d within equal. told_same (get_or before k d).told told (samples k d within).fits fits equal))))
 
--- ---- where none is
+-- ---- all frames
 
-pub none_more : (endings : List Ending) (rows : List Row) (least : ℕ) (before : List Sample) → All (IsSample endings rows least) before → Ascend before
-    → AreMore endings rows least before before
-none_more endings rows least before samples ascend = record { kept = λ class h. h; samples = samples; ascend = ascend }
-
-pub none_every : (endings : List Ending) (rows : List Row) (least : ℕ) (values : Values) (places : List ℕ) (before : List Sample)
-    → AreLeft rows fields values places → None ≡ slice_get (rows_at rows places) 0 → AreAllFound endings rows least fields values before
-none_every endings rows least values places before left first =
+pub told_of_all : (sides : List Side) (least : ℕ) (before after : List Sample) → AreMore sides least before after
+    → ((values : Values) → AreAllFound sides least 0 values after) → AreTold sides least after
+told_of_all sides least before after more every =
     record {
-      found = λ others class within near has.
-          absurd (none_some class (sym (leaf_class endings rows values places None left first) ∙ class_near endings rows values others near ∙ has));
+      samples_tell = more.samples;
+      every = λ others told of eleven tells. (every others).found others told of (eleven, refl) tells;
+      ascend = more.ascend;
     }
-  where
-    none_some : (c : FrameClass) → None ≡ Some c → ⊥
-    none_some c e = cc

@@ -38,14 +38,14 @@ at_field P h FirstEligible = h 9 Length (omega arith)
 at_field P h SecondEligible = h 10 Length (omega arith)
 
 -- a field that is set to what it is
-with_itself : (field : Field) (values : Values) → with_value field (value_at field values) values ≡ values
+pub with_itself : (field : Field) (values : Values) → with_value field (value_at field values) values ≡ values
 with_itself field values = ap of_items (set-get_or values.values (place_of field) 0)
   where
     of_items : List ℕ → Values
     of_items items = record { values = items }
 
 -- what is read of the VID is the priority
-reads_vid : (source : DscpSource) (values : Values)
+pub reads_vid : (source : DscpSource) (values : Values)
     → dscp_reads source values (vid_behind source.tags) (value_at (vid_behind source.tags) values) ≡ mapped source (dscp_behind source.tags values)
 reads_vid source values =
     let type : place_of (type_behind source.tags) < place_of (vid_behind source.tags) = type_before source.tags in
@@ -64,7 +64,7 @@ priority_same FirstTag one other same = ap (λ (n : ℕ). n % 2 ^ 3) (same First
 priority_same SecondTag one other same = ap (λ (n : ℕ). n % 2 ^ 3) (same SecondPriority)
 priority_same (Dscp source) one other same = sym (reads_vid source one) ∙ same (vid_behind source.tags) ∙ reads_vid source other
 
-ending_same : (endings : List Ending) (e : Ends) (one other : Values)
+pub ending_same : (endings : List Ending) (e : Ends) (one other : Values)
     → ((field : Field) → ends_read e one field (value_at field one) ≡ ends_read e other field (value_at field other))
     → ending_of endings e one ≡ ending_of endings e other
 ending_same endings (ends.Dropped reason) one other same = refl

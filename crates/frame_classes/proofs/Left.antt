@@ -10,7 +10,7 @@ use Rattle.frame_rows.specs.declared.row.Row.{Row}
 use Rattle.frame_rows.specs.Field.{fields, value_at}
 use Rattle.frame_rows.specs.Row.{passes, row_admits}
 use Rattle.frame_classes.specs.Choices.{test_at}
-use Rattle.frame_classes.specs.Splitting.{rows_at}
+use Rattle.frame_classes.specs.Left.{rows_at}
 
 -- ---- at places
 

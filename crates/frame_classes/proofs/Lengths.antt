@@ -1,8 +1,9 @@
 -- Lengths that stand for all: each the greatest of those that rows don't tell apart.
-use Rattle.std.proofs.Common.{◌≡◌, ℕ, zero, suc, ◌+◌, ◌*◌, ◌<◌, ◌≤◌, ◌==◌, ◌&&◌, ◌||◌, Bool, true, false, List, [], ◌∷◌, arith, refl, sym, subst, get_or, min, nat_le, nat_lt, ◌⊎◌, inl, inr}
-use Rattle.std.specs.Prelude.{All, Any, Contains, IsTrue}
+use Rattle.std.proofs.Common.{◌≡◌, ℕ, zero, suc, ◌+◌, ◌*◌, ◌<◌, ◌≤◌, ◌==◌, ◌&&◌, ◌||◌, Bool, true, false, List, [], ◌∷◌, arith, refl, sym, subst, get_or, min, nat_le, nat_lt, ◌⊎◌, inl, inr, Option, Some, None}
+use Rattle.std.specs.Prelude.{All, Any, Contains}
 use Rattle.std.proofs.lemmas.Bool.{eqb-true, leb-false, leb-true, ltb-false, ltb-true, true≢false}
 use Rattle.std.proofs.lemmas.List.{get_or_default}
+use Rattle.std.proofs.lemmas.List.Elements.{All-weaker}
 use Rattle.std.proofs.Math.Nat.{min-eq_left, min-le_left}
 use Rattle.frame_rows.specs.declared.ask.Ask.{Ask}
 use Rattle.frame_rows.specs.declared.ask.Ask.TheVariants.{Any as Anything, Exactly, Between, TagType, NoTagType, Ethertype}
@@ -16,11 +17,14 @@ use Rattle.frame_rows.specs.declared.row.Row.{Row}
 use Rattle.frame_rows.specs.Ask.{admits}
 use Rattle.frame_classes.specs.Choices.{IsTried, are_alike}
 use Rattle.frame_rows.specs.Field.{fields, value_at}
-use Rattle.frame_rows.specs.Fits.{asks_length, ends_fit, is_least, is_most, row_fits}
-use Rattle.frame_rows.specs.Row.{ask_at, ends_read}
-use Rattle.frame_classes.specs.Splitting.{AreChoices, AreLeft, CanBe, IsNear, IsOf, Stands, rows_at}
+use Rattle.frame_rows.specs.Fits.{asks_length, ends_fit, is_least, is_most, marking_fits}
+use Rattle.frame_rows.specs.Row.{ask_at, ends_read, marking_reads}
+use Rattle.frame_classes.specs.Splitting.{CanBe, IsCovered as IsStoodFor, IsNear, IsOf, Stands}
+use Rattle.frame_classes.specs.Left.{rows_at}
+use Rattle.frame_rows.specs.Sight.{Side}
+use Rattle.frame_rows.specs.declared.source.DscpSource.{DscpSource}
 use Rattle.frame_classes.proofs.Numbers.{still_left}
-use Rattle.frame_classes.proofs.Standing.{ends_fits_at, fits_at, other_can_be}
+use Rattle.frame_classes.proofs.Standing.{CoverBy, FitsSome, IsCase, ends_fits_at, fits_at, marking_fits_at, other_can_be}
 use Rattle.frame_classes.proofs.Types.{alike_stands}
 
 -- ---- lengths that nothing tells apart
@@ -190,14 +194,36 @@ same_reads (ends.ByPriority source) values others length other fits same = by_so
         let few : d.tags < 3 = ltb-true d.tags 3 h in
         rw (same_least (16 + 4 * d.tags) length other (dscp_end d.tags length other few same) same.longer) refl
 
-same_length : (left : List Row) (values others : Values) (length : ℕ) → All (λ row. asks_length (ask_at row Length) ≡ true) left
-    → All (λ row. ends_fit row.ends ≡ true) left → IsSame length (value_at Length others) → Stands left Length values others length
-same_length left values others length asks fits same =
+same_marks : (m : Option DscpSource) (values others : Values) (length other : ℕ) → marking_fits m ≡ true → IsSame length other
+    → marking_reads m values Length length ≡ marking_reads m others Length other
+same_marks None values others length other fits same = refl
+same_marks (Some d) values others length other fits same =
+    let few : d.tags < 3 = ltb-true d.tags 3 fits in
+    rw (same_least (16 + 4 * d.tags) length other (dscp_end d.tags length other few same) same.longer) refl
+
+-- what rows that fit ask and read of lengths, whatever the input TPID is
+record LengthFits (row : Row) : Type 0 where
+  pub asks : asks_length (ask_at row Length) ≡ true
+  pub ends : ends_fit row.ends ≡ true
+  pub marking : marking_fits row.marking ≡ true
+
+length_fits_by : (sides : List Side) (row : Row) → FitsSome sides row → LengthFits row
+length_fits_by sides row (i, side, within, is, fits) =
+    let input = side.settings.input_tpid in
+    record { asks = fits_at input row fits Length; ends = ends_fits_at input row fits; marking = marking_fits_at input row fits }
+
+same_length : (left : List Row) (values others : Values) (length : ℕ) → All LengthFits left → IsSame length (value_at Length others)
+    → Stands left Length values others length
+same_length left values others length fits same =
     record {
-      each = λ k d h. record {
-        admits = same_admits (ask_at (get_or left k d) Length) length (value_at Length others) (asks k d h) same;
-        reads = λ _. same_reads (get_or left k d).ends values others length (value_at Length others) (fits k d h) same;
-      };
+      each = λ k d h.
+          let row = get_or left k d in
+          let fit = fits k d h in
+          record {
+            admits = same_admits (ask_at row Length) length (value_at Length others) fit.asks same;
+            reads = λ _. same_reads row.ends values others length (value_at Length others) fit.ends same;
+            marks = λ _. same_marks row.marking values others length (value_at Length others) fit.marking same;
+          };
       longer = λ _. same.longer;
     }
 
@@ -330,10 +356,9 @@ tried_greatest least length other long longer small = by_case (nat_le least leng
             let short : least < 24 = leb-false 24 least h in
             absurd (omega (arith, long))
 
-pub length_choices : (rows : List Row) (least : ℕ) (values : Values) (places choices : List ℕ) (count : ℕ) → count ≡ 7 → AreLeft rows [] values places
-    → All (λ row. asks_length (ask_at row Length) ≡ true) rows → All (λ row. ends_fit row.ends ≡ true) rows
-    → AreCovered rows places values least choices count → AreChoices rows (rows_at rows places) least Length values choices
-length_choices rows least values places choices count all left asks fits covered =
+pub length_choices : (sides : List Side) (rows : List Row) (least : ℕ) (values : Values) (places choices : List ℕ) (count : ℕ) → count ≡ 7
+    → IsCase sides rows [] values places → AreCovered rows places values least choices count → CoverBy sides rows places least Length values choices
+length_choices sides rows least values places choices count all is covered =
     record { within = within; each = each }
   where
     within : All (CanBe least (value_at Length values) Length) choices
@@ -351,44 +376,35 @@ length_choices rows least values places choices count all left asks fits covered
             omega arith
         long c most (inr h) = omega arith
 
-    left_asks : All (λ row. asks_length (ask_at row Length) ≡ true) (rows_at rows places)
-    left_asks = still_left (λ row. asks_length (ask_at row Length) ≡ true) rows [] values places left asks
-
-    left_fits : All (λ row. ends_fit row.ends ≡ true) (rows_at rows places)
-    left_fits = still_left (λ row. ends_fit row.ends ≡ true) rows [] values places left fits
+    left_fits : All LengthFits (rows_at rows places)
+    left_fits = still_left LengthFits rows [] values places is.left (All-weaker (FitsSome sides) LengthFits (length_fits_by sides) rows is.fits)
 
     each : (others : Values) → IsOf least fields others → IsNear rows [] values others
-        → Any (Stands (rows_at rows places) Length values others) choices
+        → IsStoodFor sides places (rows_at rows places) Length values others choices
     each others of near =
         let can = other_can_be least others of Length in
         let found = greatest (value_at Length others) can.below in
         let tried = tried_greatest least (get_or known_lengths found.place 0) (value_at Length others) (can.long refl) found.same.longer found.same.small in
-        by_cover (get_or known_lengths found.place 0) found.same (covered.each found.place (omega (arith, found.within)) tried)
+        inr (inr (
+          inl (record { early = omega arith; type = inr (inl refl) }),
+          by_cover (get_or known_lengths found.place 0) found.same (covered.each found.place (omega (arith, found.within)) tried),
+        ))
       where
         by_cover : (length : ℕ) → IsSame length (value_at Length others) → IsCovered rows places values choices length
             → Any (Stands (rows_at rows places) Length values others) choices
-        by_cover length same (i, c, inside, is, (inl here, greater)) = (
+        by_cover length same (i, c, inside, there, (inl here, greater)) = (
           i,
           c,
           inside,
-          is,
-          subst (Stands (rows_at rows places) Length values others) (sym here)
-              (same_length (rows_at rows places) values others length left_asks left_fits same),
+          there,
+          subst (Stands (rows_at rows places) Length values others) (sym here) (same_length (rows_at rows places) values others length left_fits same),
         )
-        by_cover length same (i, c, inside, is, (inr alike, greater)) =
+        by_cover length same (i, c, inside, there, (inr alike, greater)) =
             let longer = same.longer in (
               i,
               c,
               inside,
-              is,
-              alike_stands rows Length values others c length places alike
-                  (same_length (rows_at rows places) values others length left_asks left_fits same) (λ _. omega arith),
+              there,
+              alike_stands rows Length values others c length places alike (same_length (rows_at rows places) values others length left_fits same)
+                  (λ _. omega arith),
             )
-
--- ---- of rows that fit
-
-pub lengths_fit : (input : ℕ) (rows : List Row) → All (λ row. IsTrue (row_fits input row)) rows → All (λ row. asks_length (ask_at row Length) ≡ true) rows
-lengths_fit input rows fit k d h = fits_at input (get_or rows k d) (fit k d h) Length
-
-pub all_ends_fit : (input : ℕ) (rows : List Row) → All (λ row. IsTrue (row_fits input row)) rows → All (λ row. ends_fit row.ends ≡ true) rows
-all_ends_fit input rows fit k d h = ends_fits_at input (get_or rows k d) (fit k d h)

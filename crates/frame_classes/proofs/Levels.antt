@@ -1,5 +1,5 @@
 -- One level of the splitting: the rows that are left, and the values so far.
-use Rattle.std.proofs.Common.{◌≡◌, ◌≢◌, ℕ, zero, suc, ◌+◌, ◌<◌, ◌≤◌, Bool, false, ◌&&◌, List, [], ◌∷◌, ◌++◌, Some, None, arith, refl, ap, sym, subst, length, length-take, min, take, get_or, cond, ◌∙◌}
+use Rattle.std.proofs.Common.{◌≡◌, ◌≢◌, ℕ, zero, suc, ◌+◌, ◌<◌, ◌≤◌, Bool, true, false, ◌&&◌, List, [], ◌∷◌, ◌++◌, Some, None, arith, refl, ap, sym, subst, length, length-take, min, take, get_or, cond, ◌∙◌}
 use Rattle.std.specs.Prelude.{All, filter, slice_get}
 use Rattle.std.proofs.lemmas.List.{get_or-take, get_or_default}
 use Rattle.std.proofs.lemmas.List.Elements.{All-cons, All-nil, All-push}
@@ -11,10 +11,13 @@ use Rattle.frame_rows.specs.Field.{fields, place_of, value_at, with_value}
 use Rattle.frame_rows.specs.Words.{limit_of}
 use Rattle.frame_rows.specs.Row.{passes, row_admits}
 use Rattle.frame_classes.specs.Choices.{test_at}
-use Rattle.frame_classes.specs.Splitting.{AreLeft, CanBe, IsNear, IsOf, Stands, rows_at}
+use Rattle.frame_rows.specs.Sight.{Side}
+use Rattle.frame_classes.specs.Left.{AreLeftOf, is_of, rows_at, rows_of_side}
+use Rattle.frame_classes.specs.Told.{rows_of_all}
+use Rattle.frame_classes.specs.Splitting.{CanBe, IsOf}
 use Rattle.frame_classes.proofs.Left.{fields-more, filter-filter, passes-append, rows_at-filter}
 use Rattle.frame_classes.proofs.Near.{value-with_other, value-with_same}
-use Rattle.frame_classes.proofs.Step.{near_step, passes_before}
+use Rattle.frame_classes.proofs.Step.{passes_before}
 
 -- ---- levels
 
@@ -58,17 +61,35 @@ passes_changed some field row values value earlier within =
     let has = value-with_same field value values within in
     passes-append some field row (with_value field value values) ∙ rw (before, has) refl
 
-pub left_step : (rows : List Row) (some : List Field) (field : Field) (values : Values) (value : ℕ) (places narrower : List ℕ)
+pub left_step : (rows listed : List Row) (some : List Field) (field : Field) (values : Values) (value : ℕ) (places narrower : List ℕ)
     → All (λ earlier. place_of earlier < place_of field) some → place_of field < length values.values
-    → AreLeft rows some values places → narrower ≡ filter (test_at (λ row. row_admits row field value) false rows) places
-    → AreLeft rows (some ++ field ∷ []) (with_value field value values) narrower
-left_step rows some field values value places narrower earlier within left is =
+    → rows_at rows places ≡ filter (λ row. passes some row values) listed
+    → narrower ≡ filter (test_at (λ row. row_admits row field value) false rows) places
+    → rows_at rows narrower ≡ filter (λ row. passes (some ++ field ∷ []) row (with_value field value values)) listed
+left_step rows listed some field values value places narrower earlier within left is =
     ap (rows_at rows) is
     ∙ rows_at-filter rows (λ row. row_admits row field value) places
     ∙ ap (filter (λ row. row_admits row field value)) left
-    ∙ filter-filter (λ row. passes some row values) (λ row. row_admits row field value) rows
-    ∙ filter-same (λ row. passes some row values && row_admits row field value) (λ row. passes (some ++ field ∷ []) row (with_value field value values)) rows
+    ∙ filter-filter (λ row. passes some row values) (λ row. row_admits row field value) listed
+    ∙ filter-same (λ row. passes some row values && row_admits row field value) (λ row. passes (some ++ field ∷ []) row (with_value field value values)) listed
     (λ row. sym (passes_changed some field row values value earlier within))
+
+-- of those that pass one test and another, in either order
+filter-swap : {X : Type 0} (p q : X → Bool) (xs : List X) → filter p (filter q xs) ≡ filter q (filter p xs)
+filter-swap p q xs =
+    filter-filter q p xs ∙ filter-same (λ x. q x && p x) (λ x. p x && q x) xs (λ x. swap (q x) (p x)) ∙ sym (filter-filter p q xs)
+  where
+    swap : (a b : Bool) → (a && b) ≡ (b && a)
+    swap true b = by_second b
+      where
+        by_second : (b : Bool) → b ≡ (b && true)
+        by_second true = refl
+        by_second false = refl
+    swap false b = by_second b
+      where
+        by_second : (b : Bool) → false ≡ (b && false)
+        by_second true = refl
+        by_second false = refl
 
 -- ---- values that a frame can have
 
@@ -133,6 +154,20 @@ field_get (suc (suc (suc (suc (suc (suc (suc (suc (suc zero))))))))) field is = 
 field_get (suc (suc (suc (suc (suc (suc (suc (suc (suc (suc zero)))))))))) field is = some_field SecondEligible field is
 field_get (suc (suc (suc (suc (suc (suc (suc (suc (suc (suc (suc more))))))))))) field is = absurd (none_some field is)
 
+-- each field stands at its place
+pub field_of : (field : Field) → field ≡ get_or fields (place_of field) Length
+field_of Length = refl
+field_of FirstType = refl
+field_of SecondType = refl
+field_of ThirdType = refl
+field_of FirstVid = refl
+field_of SecondVid = refl
+field_of ThirdVid = refl
+field_of FirstPriority = refl
+field_of SecondPriority = refl
+field_of FirstEligible = refl
+field_of SecondEligible = refl
+
 -- the fields up to a level
 pub up_to : (level : ℕ) (field : Field) → level < length fields → slice_get fields level ≡ Some field
     → take (level + 1) fields ≡ take level fields ++ field ∷ []
@@ -154,15 +189,23 @@ is_at level field within is =
       more = fields-more level within ∙ ap (λ (f : Field). take level fields ++ f ∷ []) (sym is);
     }
 
-pub left_level : (rows : List Row) (level : ℕ) (field : Field) (values changed : Values) (value : ℕ) (places narrower : List ℕ) → IsAt level field
-    → level < length fields → length values.values ≡ length fields → changed ≡ with_value field value values
-    → AreLeft rows (take level fields) values places → narrower ≡ filter (test_at (λ row. row_admits row field value) false rows) places
-    → AreLeft rows (take (level + 1) fields) changed narrower
-left_level rows level field values changed value places narrower at within eleven same left is =
+pub left_level : (sides : List Side) (rows : List Row) (level : ℕ) (field : Field) (values changed : Values) (value : ℕ) (places narrower : List ℕ) → IsAt level field
+    → level < length fields → length values.values ≡ length fields → changed ≡ with_value field value values → rows ≡ rows_of_all sides
+    → AreLeftOf sides (take level fields) values places → narrower ≡ filter (test_at (λ row. row_admits row field value) false rows) places
+    → AreLeftOf sides (take (level + 1) fields) changed narrower
+left_level sides rows level field values changed value places narrower at within eleven same together left is =
     let here : place_of field < length values.values = omega (arith, at.place) in
-    subst (λ (some : List Field). AreLeft rows some changed narrower) (sym at.more)
-    (subst (λ (v : Values). AreLeft rows (take level fields ++ field ∷ []) v narrower) (sym same)
-    (left_step rows (take level fields) field values value places narrower at.earlier_fields here left is))
+    let by_rows : narrower ≡ filter (test_at (λ row. row_admits row field value) false (rows_of_all sides)) places =
+    is ∙ ap (λ (xs : List Row). filter (test_at (λ row. row_admits row field value) false xs) places) together in
+    subst (λ (some : List Field). AreLeftOf sides some changed narrower) (sym at.more)
+    (subst (λ (v : Values). AreLeftOf sides (take level fields ++ field ∷ []) v narrower) (sym same) (record {
+      all = left_step (rows_of_all sides) (rows_of_all sides) (take level fields) field values value places narrower at.earlier_fields here left.all by_rows;
+      each = λ side.
+          left_step (rows_of_all sides) (rows_of_side sides side) (take level fields) field values value (filter (is_of sides side) places)
+          (filter (is_of sides side) narrower) at.earlier_fields here (left.each side)
+          (ap (filter (is_of sides side)) by_rows
+          ∙ filter-swap (is_of sides side) (test_at (λ row. row_admits row field value) false (rows_of_all sides)) places);
+    }))
 
 -- the length is the first
 of_first : (least : ℕ) (values : Values) (value : ℕ) → 0 < length values.values → CanBe least (value_at Length values) Length value
@@ -194,21 +237,3 @@ of_level least (suc level) field values changed value at within eleven same is o
   where
     zero_not_suc : (n : ℕ) → 0 ≡ suc n → ⊥
     zero_not_suc n e = omega arith
-
--- what stands for others' values in the field of a level does so for frames
-pub near_level : (rows : List Row) (level : ℕ) (field : Field) (values changed others : Values) (value : ℕ) (places : List ℕ) → IsAt level field
-    → level < length fields → length values.values ≡ length fields → changed ≡ with_value field value values
-    → AreLeft rows (take level fields) values places → IsNear rows (take level fields) values others
-    → Stands (rows_at rows places) field values others value → IsNear rows (take (level + 1) fields) changed others
-near_level rows level field values changed others value places at within eleven same left near stands =
-    let here : place_of field < length values.values = omega (arith, at.place) in
-    subst (λ (some : List Field). IsNear rows some changed others) (sym at.more)
-    (subst (λ (v : Values). IsNear rows (take level fields ++ field ∷ []) v others) (sym same)
-    (near_step rows (take level fields) field values others value at.earlier_fields here some_before near
-    (subst (λ (rs : List Row). Stands rs field values others value) left stands)))
-  where
-    some_before : place_of field ≢ 0 → 0 < length (take level fields)
-    some_before apart = positive level within (λ e. apart (at.place ∙ e))
-      where
-        positive : (n : ℕ) → n < 11 → n ≢ 0 → 0 < length (take n fields)
-        positive n h e = omega (arith, length-take n fields)

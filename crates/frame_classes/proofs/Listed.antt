@@ -1,42 +1,50 @@
--- The classes that are found are those of a port.
+-- What is listed of frames is what is told of all.
 use Rattle.std.proofs.Common.{◌≡◌, ℕ, suc, ◌+◌, ◌-◌, ◌/◌, ◌%◌, ◌^◌, ◌<◌, ◌≤◌, Bool, true, false, List, [], ◌∷◌, ◌++◌, Some, arith, refl, ap, sym, subst, length, length-append, min, get_or, nat_lt, ◌∙◌}
 use Rattle.std.specs.Prelude.{All, Contains, IfOk, Result, Ok, Err, map}
 use Rattle.std.specs.List.Sorted.{IsStrictlyIncreasing}
 use Rattle.std.proofs.lemmas.Bool.{ltb-false, ltb-true, lt-ltb}
-use Rattle.std.proofs.lemmas.List.{get_or_append_left, get_or-append_right}
-use Rattle.std.proofs.lemmas.List.Elements.{All-from_recursion, All-nil}
-use Rattle.mib_state.specs.Entities.{Entities}
-use Rattle.frame_rows.specs.declared.class.Ending.{Ending}
+use Rattle.std.proofs.lemmas.List.{length-map, get_or-map, get_or_append_left, get_or-append_right, get_or_default}
+use Rattle.std.proofs.lemmas.List.Elements.{All-from_recursion}
 use Rattle.frame_rows.specs.declared.class.FrameClass.{FrameClass}
 use Rattle.frame_rows.specs.declared.field.Field.{Field}
 use Rattle.frame_rows.specs.declared.field.Field.TheVariants.{FirstType, SecondType, ThirdType, FirstVid, SecondVid, ThirdVid, FirstPriority, SecondPriority, FirstEligible, SecondEligible}
-use Rattle.frame_rows.specs.declared.field.Values.{Values}
-use Rattle.frame_classes.specs.declared.found.Sample.{Sample}
-use Rattle.frame_rows.specs.declared.row.Row.{Row}
-use Rattle.frame_rows.specs.Class.{class_number, class_of}
-use Rattle.frame_classes.specs.Classes.{AreClasses, IsExample, IsFrame, classes_in}
 use Rattle.frame_rows.specs.Field.{end_of, fields, place_of, value_at, values_of, word_at}
-use Rattle.frame_classes.specs.Found.{Ascend, classes_of, number_of}
+use Rattle.frame_rows.specs.Sight.{Side}
 use Rattle.frame_rows.specs.Words.{limit_of}
-use Rattle.frame_rows.specs.Row.{class_by, row_reads}
-use Rattle.frame_rows.specs.Rows.{Mean}
-use Rattle.frame_classes.specs.Splitting.{AreAllFound, AreExamplesOf, CanBe, IsExampleOf, IsNear, IsOf, IsSample}
 use Rattle.frame_rows.proofs.Words.{type_fits}
+use Rattle.frame_classes.specs.declared.found.Sample.{Sample}
+use Rattle.frame_classes.specs.declared.told.Told.{Told}
+use Rattle.frame_classes.specs.declared.told.Told.TheVariants.{One, Two, Three}
+use Rattle.frame_classes.specs.Classes.{IsFrame}
+use Rattle.frame_classes.specs.Found.{number_of, told_of}
+use Rattle.frame_classes.specs.Listed.{count_told, tell}
+use Rattle.frame_classes.specs.Splitting.{AreExamplesOf, AreTold, CanBe, IsFrameOf, IsOf}
+use Rattle.frame_classes.specs.Told.{told_by, told_number}
 
 -- ---- one example more
 
 pub none_yet : (least : ℕ) (samples : List Sample) → AreExamplesOf least 0 samples []
-none_yet least samples = record { count_same = refl; each = λ k d other h. absurd (omega arith) }
+none_yet least samples =
+    record { count_same = refl; told = λ k d other h. absurd (omega arith); each = λ k d other h. absurd (omega arith) }
 
-pub one_more : (least count : ℕ) (samples : List Sample) (examples more : List (FrameClass × List ℕ)) (example : FrameClass × List ℕ)
+-- an example is that of a sample
+pub record IsExampleOf (least : ℕ) (sample : Sample) (example : Told × List ℕ) : Type 0 where
+  pub told : example.0 ≡ sample.told
+  pub frame : IsFrameOf least sample example.1
+
+pub one_more : (least count : ℕ) (samples : List Sample) (examples more : List (Told × List ℕ)) (example : Told × List ℕ)
     → AreExamplesOf least count samples examples → count < length samples → ((d : Sample) → IsExampleOf least (get_or samples count d) example)
     → more ≡ examples ++ example ∷ [] → AreExamplesOf least (count + 1) samples more
 one_more least count samples examples more example are within is grown =
     let before = are.count_same in
     let all = length-append examples (example ∷ []) in
-    subst (AreExamplesOf least (count + 1) samples) (sym grown) (record { count_same = omega (arith, before, all); each = each })
+    subst (AreExamplesOf least (count + 1) samples) (sym grown) (record {
+      count_same = omega (arith, before, all);
+      told = λ k d other h. (each k d other h).told;
+      each = λ k d other h. (each k d other h).frame;
+    })
   where
-    at_end : (k : ℕ) (d : Sample) (other : FrameClass × List ℕ) → k ≡ count → IsExampleOf least (get_or samples k d) (get_or (examples ++ example ∷ []) k other)
+    at_end : (k : ℕ) (d : Sample) (other : Told × List ℕ) → k ≡ count → IsExampleOf least (get_or samples k d) (get_or (examples ++ example ∷ []) k other)
     at_end k d other e =
         subst (IsExampleOf least (get_or samples k d))
         (sym (get_or-append_right examples (example ∷ []) count k other are.count_same (omega arith) ∙ ap (λ (i : ℕ). get_or (example ∷ []) i other) (none_left k e)))
@@ -45,7 +53,7 @@ one_more least count samples examples more example are within is grown =
         none_left : (k : ℕ) → k ≡ count → k - count ≡ 0
         none_left k e = omega arith
 
-    each : (k : ℕ) (d : Sample) (other : FrameClass × List ℕ) → k < count + 1
+    each : (k : ℕ) (d : Sample) (other : Told × List ℕ) → k < count + 1
         → IsExampleOf least (get_or samples k d) (get_or (examples ++ example ∷ []) k other)
     each k d other h = by_case (nat_lt k count) refl
       where
@@ -53,10 +61,44 @@ one_more least count samples examples more example are within is grown =
         by_case true p =
             let short : k < count = ltb-true k count p in
             let before = are.count_same in
-            subst (IsExampleOf least (get_or samples k d)) (sym (get_or_append_left examples (example ∷ []) other k (omega (arith, before)))) (are.each k d other short)
+            subst (IsExampleOf least (get_or samples k d)) (sym (get_or_append_left examples (example ∷ []) other k (omega (arith, before))))
+            (record { told = are.told k d other short; frame = are.each k d other short })
         by_case false p =
             let long : count ≤ k = ltb-false k count p in
             at_end k d other (omega arith)
+
+-- what classes tell, where one more is listed
+tell_grown : {E X : Type 0} (part : E → X × List ℕ) (told : X → Told) (before : List E) (new : E)
+    → tell told (map part (before ++ new ∷ [])) ≡ tell told (map part before) ++ (told (part new).0, (part new).1) ∷ []
+tell_grown part told [] new = refl
+tell_grown part told (first ∷ rest) new =
+    ap (λ (more : List (Told × List ℕ)). (told (part first).0, (part first).1) ∷ more) (tell_grown part told rest new)
+
+pub one_told : {E X : Type 0} (part : E → X × List ℕ) (told : X → Told) (least place : ℕ) (samples : List Sample) (sample : Sample) (before after : List E) (new : E)
+    → AreExamplesOf least place samples (tell told (map part before)) → place < length samples → sample ≡ get_or samples place sample
+    → sample.told ≡ told (part new).0 → IsFrameOf least sample (part new).1 → after ≡ before ++ new ∷ []
+    → AreExamplesOf least (place + 1) samples (tell told (map part after))
+one_told {E = E} part told least place samples sample before after new are within there is frame grown =
+    one_more least place samples (tell told (map part before)) (tell told (map part after)) (told (part new).0, (part new).1) are within
+    (λ d. subst (λ (s : Sample). IsExampleOf least s (told (part new).0, (part new).1)) (there ∙ get_or_default samples place sample d within)
+    (record { told = sym is; frame = frame }))
+    (ap (λ (items : List E). tell told (map part items)) grown ∙ tell_grown part told before new)
+
+-- what isn't left out
+pub not_one : (told : Told) → count_told told ≡ 1 → ((class : FrameClass) → told ≡ One class → ⊥) → ⊥
+not_one (One class) count other = other class refl
+not_one (Two before after) count other = absurd (omega (arith, count))
+not_one (Three before here after) count other = absurd (omega (arith, count))
+
+pub not_two : (told : Told) → count_told told ≡ 2 → ((before after : FrameClass) → told ≡ Two before after → ⊥) → ⊥
+not_two (One class) count other = absurd (omega (arith, count))
+not_two (Two before after) count other = other before after refl
+not_two (Three before here after) count other = absurd (omega (arith, count))
+
+pub not_three : (told : Told) → count_told told ≡ 3 → ((before here after : FrameClass) → told ≡ Three before here after → ⊥) → ⊥
+not_three (One class) count other = absurd (omega (arith, count))
+not_three (Two before after) count other = absurd (omega (arith, count))
+not_three (Three before here after) count other = other before here after refl
 
 -- ---- the values of a frame are such
 
@@ -83,7 +125,7 @@ part_can_be least bytes field place f end within behind below none fits =
       long = λ first. absurd (omega arith);
     }
 
-of_frame : (least : ℕ) (bytes : List ℕ) → IsFrame least bytes → IsOf least fields (values_of bytes)
+pub of_frame : (least : ℕ) (bytes : List ℕ) → IsFrame least bytes → IsOf least fields (values_of bytes)
 unfolding values_of
 of_frame least bytes frame =
     All-from_recursion (λ field. CanBe least (min 24 (length bytes)) field (value_at field (values_of bytes))) fields (
@@ -126,68 +168,119 @@ of_frame least bytes frame =
         let h = frame.long in
         omega (arith, h)
 
--- ---- all
+-- ---- what is listed
 
-same_classes : (samples : List Sample) (examples : List (FrameClass × List ℕ)) → length examples ≡ length samples
-    → ((k : ℕ) (d : Sample) (other : FrameClass × List ℕ) → k < length samples → (get_or examples k other).0 ≡ (get_or samples k d).class)
-    → classes_in examples ≡ classes_of samples
-same_classes [] [] count each = refl
-same_classes [] (example ∷ rest) count each = absurd (omega arith)
-same_classes (sample ∷ samples) [] count each = absurd (omega arith)
-same_classes (sample ∷ samples) (example ∷ rest) count each =
-    ap (λ (class : FrameClass). class ∷ classes_in rest) (each 0 sample example (omega arith))
-    ∙ ap (λ (classes : List FrameClass). sample.class ∷ classes) (same_classes samples rest (omega arith) (λ k d other h. each (suc k) d other (omega arith)))
+-- the frame beside what is told is told of so
+pub record IsSaid (sides : List Side) (least : ℕ) (example : Told × List ℕ) : Type 0 where
+  pub frame : IsFrame least example.1
+  pub told : told_by sides (values_of example.1) ≡ Some example.0
 
-numbers_same : (samples : List Sample) → map class_number (classes_of samples) ≡ map number_of samples
+told_in : List (Told × List ℕ) → List Told
+told_in examples = map (λ example. example.0) examples
+
+-- it is all that is told of frames, once and in order
+pub record AreSaid (sides : List Side) (least : ℕ) (examples : List (Told × List ℕ)) : Type 0 where
+  pub each : All (IsSaid sides least) examples
+  pub every : (bytes : List ℕ) (told : Told) → IsFrame least bytes → told_by sides (values_of bytes) ≡ Some told
+      → Contains (map (λ (example : Told × List ℕ). example.0) examples) told
+  pub once : IsStrictlyIncreasing (map told_number (map (λ (example : Told × List ℕ). example.0) examples))
+
+same_told : (samples : List Sample) (examples : List (Told × List ℕ)) → length examples ≡ length samples
+    → ((k : ℕ) (d : Sample) (other : Told × List ℕ) → k < length samples → (get_or examples k other).0 ≡ (get_or samples k d).told)
+    → told_in examples ≡ told_of samples
+unfolding told_in
+same_told [] [] count each = refl
+same_told [] (example ∷ rest) count each = absurd (omega arith)
+same_told (sample ∷ samples) [] count each = absurd (omega arith)
+same_told (sample ∷ samples) (example ∷ rest) count each =
+    ap (λ (told : Told). told ∷ told_in rest) (each 0 sample example (omega arith))
+    ∙ ap (λ (told : List Told). sample.told ∷ told) (same_told samples rest (omega arith) (λ k d other h. each (suc k) d other (omega arith)))
+
+numbers_same : (samples : List Sample) → map told_number (told_of samples) ≡ map number_of samples
 numbers_same [] = refl
 numbers_same (sample ∷ rest) = ap (λ (numbers : List ℕ). number_of sample ∷ numbers) (numbers_same rest)
 
-some_same : {X : Type 0} (x y : X) → Some x ≡ Some y → x ≡ y
-some_same x y e = cc
+eleven_values : (bytes : List ℕ) → length (values_of bytes).values ≡ 11
+unfolding values_of
+eleven_values bytes = refl
 
-nothing_near : (rows : List Row) (values others : Values) → IsNear rows [] values others
-nothing_near rows values others =
-    record {
-      alike = λ k d h. refl;
-      read_alike = λ k d h _. All-nil (λ field. row_reads (get_or rows k d) values field (value_at field values) ≡ row_reads (get_or rows k d) others field (value_at field others));
-      longer = λ h. absurd (omega arith);
-    }
-
-pub are_classes : (e : Entities) (port least : ℕ) (endings : List Ending) (rows : List Row) (values : Values) (samples : List Sample)
-    (examples : List (FrameClass × List ℕ)) → Mean e port endings rows → All (IsSample endings rows least) samples → Ascend samples
-    → AreAllFound endings rows least [] values samples → AreExamplesOf least (length samples) samples examples → AreClasses e port least examples
-are_classes e port least endings rows values samples examples mean are ascend found written =
+pub are_said : (sides : List Side) (least : ℕ) (samples : List Sample) (examples : List (Told × List ℕ))
+    → AreTold sides least samples → AreExamplesOf least (length samples) samples examples → AreSaid sides least examples
+unfolding told_in
+are_said sides least samples examples are written =
     record {
       each = each;
-      every = λ bytes frame. subst (λ (classes : List FrameClass). Contains classes (class_of e port bytes)) (sym same)
-          (found.found (values_of bytes) (class_of e port bytes) (of_frame least bytes frame) (nothing_near rows values (values_of bytes)) (mean.class bytes frame.bytes_fit));
-      once = subst IsStrictlyIncreasing (sym (ap (map class_number) same ∙ numbers_same samples)) ascend;
+      every = λ bytes told frame is. subst (λ (list : List Told). Contains list told) (sym same)
+          (are.every (values_of bytes) told (of_frame least bytes frame) (eleven_values bytes) is);
+      once = subst IsStrictlyIncreasing (sym (ap (map told_number) same ∙ numbers_same samples)) are.ascend;
     }
   where
-    same : classes_in examples ≡ classes_of samples
-    same = same_classes samples examples written.count_same (λ k d other h. (written.each k d other h).class)
+    same : told_in examples ≡ told_of samples
+    same = same_told samples examples written.count_same written.told
 
-    each : All (IsExample e port least) examples
+    at : (k : ℕ) (other : Told × List ℕ) → k < length samples → Sample → IsSaid sides least (get_or examples k other)
+    at k other there d =
+        let is = written.each k d other there in
+        let sample = are.samples_tell k d there in
+        record {
+          frame = is.frame sample.values;
+          told = ap (told_by sides) (is.values sample.values) ∙ sample.told ∙ ap (λ (t : Told). Some t) (sym (written.told k d other there));
+        }
+
+    each : All (IsSaid sides least) examples
     each k other h =
         let count = written.count_same in
         let there : k < length samples = omega (arith, count) in
-        at k other there (get_or samples k (nothing k other there))
-      where
-        nothing : (k : ℕ) (other : FrameClass × List ℕ) → k < length samples → Sample
-        nothing k other there = record { class = other.0; values = values }
+        at k other there (record { told = other.0; values = values_of [] })
 
-        at : (k : ℕ) (other : FrameClass × List ℕ) → k < length samples → Sample → IsExample e port least (get_or examples k other)
-        at k other there d =
-            let is = written.each k d other there in
-            let sample = are k d there in
-            let frame = is.frame sample.values in
-            record {
-              frame = frame;
-              has_class =
-                  some_same (class_of e port (get_or examples k other).1) (get_or examples k other).0
-                  (sym (mean.class (get_or examples k other).1 frame.bytes_fit) ∙ ap (class_by endings rows) (is.values sample.values) ∙ sample.class
-                  ∙ ap (λ (c : FrameClass). Some c) (sym is.class));
-            }
+-- ---- as classes
+
+-- what is told by each
+pub said_at : {X : Type 0} (sides : List Side) (least : ℕ) (told : X → Told) (list : List (X × List ℕ)) → All (IsSaid sides least) (tell told list)
+    → (k : ℕ) (d : X × List ℕ) → k < length list → IsSaid sides least (told (get_or list k d).0, (get_or list k d).1)
+said_at {X} sides least told list said k d h =
+    let f : X × List ℕ → Told × List ℕ = λ each. (told each.0, each.1) in
+    let count = length-map list f in
+    subst (IsSaid sides least) (get_or-map f list k d (f d) h) (said k (f d) (omega (arith, count)))
+
+pub told_same : {X : Type 0} (told : X → Told) (list : List (X × List ℕ))
+    → map (λ (example : Told × List ℕ). example.0) (tell told list) ≡ map told (map (λ (each : X × List ℕ). each.0) list)
+told_same told [] = refl
+told_same told (each ∷ rest) = ap (λ (more : List Told). told each.0 ∷ more) (told_same told rest)
+
+pub contains_of : {X Y : Type 0} (f : X → Y) (xs : List X) (x : X) → ((a b : X) → f a ≡ f b → a ≡ b) → Contains (map f xs) (f x) → Contains xs x
+contains_of f xs x back there =
+    let k = there.0 in
+    let count = length-map xs f in
+    let h = there.1 in
+    let within : k < length xs = omega (arith, count, h) in
+    (k, within, back (get_or xs k x) x (sym (get_or-map f xs k x (f x) within) ∙ there.2))
+
+-- numbers that are others and as much more ascend with them
+pub rising_less : {X : Type 0} (f : X → ℕ) (g : X → Told) (more : ℕ) (xs : List X) → ((x : X) → told_number (g x) ≡ f x + more)
+    → IsStrictlyIncreasing (map told_number (map g xs)) → IsStrictlyIncreasing (map f xs)
+rising_less f g more [] is up k h = absurd (omega arith)
+rising_less {X} f g more (x ∷ rest) is up k h =
+    let all : List X = x ∷ rest in
+    let count = length-map all f in
+    let count' = length-map all g in
+    let count'' = length-map (map g all) told_number in
+    let within : k + 1 < length all = omega (arith, count, h) in
+    let here = at k (omega arith) in
+    let next = at (k + 1) within in
+    let here' = at' k (omega arith) in
+    let next' = at' (k + 1) within in
+    let rises = up k (omega (arith, count', count'')) in
+    omega (arith, here, next, here', next', rises)
+  where
+    at : (i : ℕ) → i < length (x ∷ rest) → get_or (map f (x ∷ rest)) i 0 ≡ f (get_or (x ∷ rest) i x)
+    at i within = get_or-map f (x ∷ rest) i x 0 within
+
+    at' : (i : ℕ) → i < length (x ∷ rest) → get_or (map told_number (map g (x ∷ rest))) i 0 ≡ f (get_or (x ∷ rest) i x) + more
+    at' i within =
+        let count = length-map (x ∷ rest) g in
+        get_or-map told_number (map g (x ∷ rest)) i (g x) 0 (omega (arith, count, within))
+        ∙ ap told_number (get_or-map g (x ∷ rest) i x (g x) within) ∙ is (get_or (x ∷ rest) i x)
 
 -- what follows of a result that is Ok
 pub if_ok : {A E : Type 0} (P Q : A → Type 0) (r : Result A E) → ((a : A) → P a → Q a) → IfOk r P → IfOk r Q

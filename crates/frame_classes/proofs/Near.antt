@@ -1,5 +1,5 @@
 -- Values that rows don't tell apart, one field further.
-use Rattle.std.proofs.Common.{◌≡◌, ◌≢◌, ℕ, ◌+◌, ◌*◌, ◌<◌, ◌==◌, Bool, true, false, None, if◌then◌else◌, arith, refl, ap, sym, length, nat_lt, ◌∙◌}
+use Rattle.std.proofs.Common.{◌≡◌, ◌≢◌, ℕ, ◌+◌, ◌*◌, ◌<◌, ◌==◌, Bool, true, false, Option, Some, None, if◌then◌else◌, arith, refl, ap, sym, length, nat_lt, ◌∙◌}
 use Rattle.std.proofs.lemmas.Bool.{eqb-true}
 use Rattle.std.proofs.lemmas.List.{get_or-set_other, get_or-set_same, length-set}
 use Rattle.frame_rows.specs.declared.field.Field.{Field}
@@ -13,7 +13,7 @@ use Rattle.frame_rows.specs.declared.row.Ends.TheVariants as ends
 use Rattle.frame_rows.specs.declared.row.Row.{Row}
 use Rattle.frame_rows.specs.Field.{place_of, type_behind, value_at, vid_behind, with_value}
 use Rattle.frame_rows.specs.Source.{dscp_behind, dscp_in, mapped, packet_of}
-use Rattle.frame_rows.specs.Row.{dscp_reads, ends_read, row_reads, source_reads}
+use Rattle.frame_rows.specs.Row.{dscp_reads, ends_read, marking_reads, row_marks, row_reads, source_reads}
 
 -- ---- one value changed
 
@@ -47,7 +47,7 @@ type_first tags = by_first (nat_lt tags 1) (nat_lt tags 2) refl refl
     by_first false false is is' = rw (is, is') (omega arith)
 
 -- a DSCP depends on the length, the type and the VID alone
-dscp_behind-same : (tags : ℕ) (one other : Values) → value_at Length one ≡ value_at Length other
+pub dscp_behind-same : (tags : ℕ) (one other : Values) → value_at Length one ≡ value_at Length other
     → value_at (type_behind tags) one ≡ value_at (type_behind tags) other → value_at (vid_behind tags) one ≡ value_at (vid_behind tags) other
     → dscp_behind tags one ≡ dscp_behind tags other
 dscp_behind-same tags one other length type vid =
@@ -92,12 +92,21 @@ row_reads-same row field value one other same = by_ends row.ends
     by_ends (ends.Dropped reason) = refl
     by_ends (ends.ByPriority source) = source_reads-same source field value one other same
 
--- a field that comes later isn't read
-pub row_reads-later : (row : Row) (field later : Field) (value other : ℕ) (values : Values) → place_of field < place_of later
-    → place_of later < length values.values
-    → row_reads row (with_value later other values) field value ≡ row_reads row values field value
-row_reads-later row field later value other values before within =
-    row_reads-same row field value (with_value later other values) values (λ tags is.
+pub row_marks-same : (row : Row) (field : Field) (value : ℕ) (one other : Values)
+    → ((tags : ℕ) → (place_of field == place_of (vid_behind tags)) ≡ true
+    → dscp_behind tags (with_value field value one) ≡ dscp_behind tags (with_value field value other))
+    → row_marks row one field value ≡ row_marks row other field value
+row_marks-same row field value one other same = by_marking row.marking
+  where
+    by_marking : (m : Option DscpSource) → marking_reads m one field value ≡ marking_reads m other field value
+    by_marking None = refl
+    by_marking (Some source) = dscp_reads-same source field value one other (same source.tags)
+
+-- no DSCP depends on a field that comes later
+dscp_later : (field later : Field) (value other : ℕ) (values : Values) → place_of field < place_of later → place_of later < length values.values
+    → (tags : ℕ) → (place_of field == place_of (vid_behind tags)) ≡ true
+    → dscp_behind tags (with_value field value (with_value later other values)) ≡ dscp_behind tags (with_value field value values)
+dscp_later field later value other values before within tags is =
     let vid : place_of field ≡ place_of (vid_behind tags) = eqb-true (place_of field) (place_of (vid_behind tags)) is in
     let type : place_of (type_behind tags) < place_of (vid_behind tags) = type_before tags in
     let first : 0 < place_of (type_behind tags) = type_first tags in
@@ -105,10 +114,23 @@ row_reads-later row field later value other values before within =
     dscp_behind-same tags (with_value field value changed) (with_value field value values)
     (kept Length changed (omega arith) ∙ value-with_other later Length other values (omega arith) ∙ sym (kept Length values (omega arith)))
     (kept (type_behind tags) changed (omega arith) ∙ value-with_other later (type_behind tags) other values (omega arith) ∙ sym (kept (type_behind tags) values (omega arith)))
-    (at (vid_behind tags) changed (sym vid) (omega (arith, length-set {A = ℕ})) ∙ sym (at (vid_behind tags) values (sym vid) (omega arith))))
+    (at (vid_behind tags) changed (sym vid) (omega (arith, length-set {A = ℕ})) ∙ sym (at (vid_behind tags) values (sym vid) (omega arith)))
   where
     kept : (g : Field) (w : Values) → place_of g ≢ place_of field → value_at g (with_value field value w) ≡ value_at g w
     kept g w apart = value-with_other field g value w apart
 
     at : (g : Field) (w : Values) → place_of g ≡ place_of field → place_of field < length w.values → value_at g (with_value field value w) ≡ value
     at g w same within = rw same (value-with_same field value w within)
+
+-- a field that comes later isn't read
+pub row_reads-later : (row : Row) (field later : Field) (value other : ℕ) (values : Values) → place_of field < place_of later
+    → place_of later < length values.values
+    → row_reads row (with_value later other values) field value ≡ row_reads row values field value
+row_reads-later row field later value other values before within =
+    row_reads-same row field value (with_value later other values) values (dscp_later field later value other values before within)
+
+pub row_marks-later : (row : Row) (field later : Field) (value other : ℕ) (values : Values) → place_of field < place_of later
+    → place_of later < length values.values
+    → row_marks row (with_value later other values) field value ≡ row_marks row values field value
+row_marks-later row field later value other values before within =
+    row_marks-same row field value (with_value later other values) values (dscp_later field later value other values before within)

@@ -4,9 +4,9 @@ use Rattle.std.specs.Prelude.{All, Contains, map, slice_index}
 use Rattle.std.specs.List.Sorted.{IsStrictlyIncreasing}
 use Rattle.std.proofs.lemmas.Bool.{eqb-false, eqb-true, ltb-false, ltb-true}
 use Rattle.std.proofs.lemmas.List.Elements.{All-cons, All-head, All-tail}
-use Rattle.frame_rows.specs.declared.class.FrameClass.{FrameClass}
+use Rattle.frame_classes.specs.declared.told.Told.{Told}
 use Rattle.frame_classes.specs.declared.found.Sample.{Sample}
-use Rattle.frame_classes.specs.Found.{Ascend, classes_of, number_of, put_in}
+use Rattle.frame_classes.specs.Found.{Ascend, told_of, number_of, put_in}
 
 -- ---- elements
 
@@ -36,40 +36,40 @@ All-put_in P new (first ∷ rest) here all =
     by_tests false false p q others = rw (p, q) (All-cons P new (first ∷ rest) here all)
 
 -- the classes before stay
-pub kept_by_put_in : (new : Sample) (samples : List Sample) (class : FrameClass)
-    → Contains (classes_of samples) class → Contains (classes_of (put_in new samples)) class
-kept_by_put_in new [] class (k, within, is) = absurd (omega arith)
-kept_by_put_in new (first ∷ rest) class there =
-    by_tests (nat_lt (number_of first) (number_of new)) (number_of first == number_of new) refl refl (kept_by_put_in new rest class)
+pub kept_by_put_in : (new : Sample) (samples : List Sample) (told : Told)
+    → Contains (told_of samples) told → Contains (told_of (put_in new samples)) told
+kept_by_put_in new [] told (k, within, is) = absurd (omega arith)
+kept_by_put_in new (first ∷ rest) told there =
+    by_tests (nat_lt (number_of first) (number_of new)) (number_of first == number_of new) refl refl (kept_by_put_in new rest told)
   where
     by_tests : (less same : Bool) → nat_lt (number_of first) (number_of new) ≡ less → (number_of first == number_of new) ≡ same
-        → (Contains (classes_of rest) class → Contains (classes_of (put_in new rest)) class)
-        → Contains (classes_of (put_in new (first ∷ rest))) class
+        → (Contains (told_of rest) told → Contains (told_of (put_in new rest)) told)
+        → Contains (told_of (put_in new (first ∷ rest))) told
     by_tests true same p q others =
-        rw p (contains_by (Contains (first.class ∷ classes_of (put_in new rest)) class) first.class class (classes_of rest)
-        (λ e. subst (λ (c : FrameClass). Contains (first.class ∷ classes_of (put_in new rest)) c) e (contains_first first.class (classes_of (put_in new rest))))
-        (λ later. contains_later first.class class (classes_of (put_in new rest)) (others later)) there)
+        rw p (contains_by (Contains (first.told ∷ told_of (put_in new rest)) told) first.told told (told_of rest)
+        (λ e. subst (λ (c : Told). Contains (first.told ∷ told_of (put_in new rest)) c) e (contains_first first.told (told_of (put_in new rest))))
+        (λ later. contains_later first.told told (told_of (put_in new rest)) (others later)) there)
     by_tests false true p q others = rw (p, q) there
-    by_tests false false p q others = rw (p, q) (contains_later new.class class (classes_of (first ∷ rest)) there)
+    by_tests false false p q others = rw (p, q) (contains_later new.told told (told_of (first ∷ rest)) there)
 
--- the class itself is there, if those with its number are it
-pub there_by_put_in : (new : Sample) (samples : List Sample) → All (λ sample. number_of sample ≡ number_of new → sample.class ≡ new.class) samples
-    → Contains (classes_of (put_in new samples)) new.class
-there_by_put_in new [] same = contains_first new.class []
+-- what is told itself is there, if those with its number are it
+pub there_by_put_in : (new : Sample) (samples : List Sample) → All (λ sample. number_of sample ≡ number_of new → sample.told ≡ new.told) samples
+    → Contains (told_of (put_in new samples)) new.told
+there_by_put_in new [] same = contains_first new.told []
 there_by_put_in new (first ∷ rest) same =
     by_tests (nat_lt (number_of first) (number_of new)) (number_of first == number_of new) refl refl
     (there_by_put_in new rest (All-tail Same first rest same))
   where
     Same : Sample → Type 0
-    Same sample = number_of sample ≡ number_of new → sample.class ≡ new.class
+    Same sample = number_of sample ≡ number_of new → sample.told ≡ new.told
 
     by_tests : (less equal : Bool) → nat_lt (number_of first) (number_of new) ≡ less → (number_of first == number_of new) ≡ equal
-        → Contains (classes_of (put_in new rest)) new.class → Contains (classes_of (put_in new (first ∷ rest))) new.class
-    by_tests true equal p q others = rw p (contains_later first.class new.class (classes_of (put_in new rest)) others)
+        → Contains (told_of (put_in new rest)) new.told → Contains (told_of (put_in new (first ∷ rest))) new.told
+    by_tests true equal p q others = rw p (contains_later first.told new.told (told_of (put_in new rest)) others)
     by_tests false true p q others =
         let is = All-head Same first rest same (eqb-true (number_of first) (number_of new) q) in
-        rw (p, q) (subst (λ (c : FrameClass). Contains (first.class ∷ classes_of rest) c) is (contains_first first.class (classes_of rest)))
-    by_tests false false p q others = rw (p, q) (contains_first new.class (classes_of (first ∷ rest)))
+        rw (p, q) (subst (λ (c : Told). Contains (first.told ∷ told_of rest) c) is (contains_first first.told (told_of rest)))
+    by_tests false false p q others = rw (p, q) (contains_first new.told (told_of (first ∷ rest)))
 
 -- ---- in order
 

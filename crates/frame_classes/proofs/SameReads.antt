@@ -1,5 +1,5 @@
 -- What rows read of one value, behind values that they don't tell apart.
-use Rattle.std.proofs.Common.{◌≡◌, ◌≢◌, ℕ, suc, ◌+◌, ◌*◌, ◌<◌, ◌≤◌, ◌==◌, Bool, true, false, List, None, arith, refl, ap, sym, subst, length, length-take, take, get_or, nat_le, nat_lt, if◌then◌else◌, ◌∙◌}
+use Rattle.std.proofs.Common.{◌≡◌, ◌≢◌, ℕ, suc, ◌+◌, ◌*◌, ◌<◌, ◌≤◌, ◌==◌, Bool, true, false, List, Option, Some, None, arith, refl, ap, sym, subst, length, length-take, take, get_or, nat_le, nat_lt, if◌then◌else◌, ◌∙◌}
 use Rattle.std.specs.Prelude.{All}
 use Rattle.std.proofs.lemmas.Bool.{eq-eqb, eqb-true, le-ltb, leb-false, leb-true, lt-ltb, ne_eqb}
 use Rattle.std.proofs.lemmas.List.{get_or-take, set-get_or}
@@ -16,7 +16,7 @@ use Rattle.frame_rows.specs.declared.row.Ends.TheVariants as ends
 use Rattle.frame_rows.specs.declared.row.Row.{Row}
 use Rattle.frame_rows.specs.Field.{fields, place_of, type_behind, value_at, vid_behind, with_value}
 use Rattle.frame_rows.specs.Source.{dscp_behind, dscp_in, packet_of}
-use Rattle.frame_rows.specs.Row.{dscp_reads, ends_read, packet_number, row_reads, source_reads}
+use Rattle.frame_rows.specs.Row.{dscp_reads, ends_read, marking_reads, packet_number, row_marks, row_reads, source_reads}
 use Rattle.frame_classes.proofs.Near.{dscp_reads-same, type_before, type_first, value-with_other, value-with_same}
 
 -- ---- fields before another
@@ -144,3 +144,18 @@ reads_alike row field values others within alike = by_ends row.ends alike
         → ends_read e values field (value_at field others) ≡ ends_read e others field (value_at field others)
     by_ends (ends.Dropped reason) h = refl
     by_ends (ends.ByPriority source) h = by_source source h
+
+-- what the priorities of added tags depend on is
+abbrev pub MarkAlike : Row → List Field → Values → Values → Type 0
+MarkAlike row some values others = All (λ f. row_marks row values f (value_at f values) ≡ row_marks row others f (value_at f others)) some
+
+pub marks_alike : (row : Row) (field : Field) (values others : Values) → place_of field < length values.values
+    → MarkAlike row (take (place_of field) fields) values others
+    → row_marks row values field (value_at field others) ≡ row_marks row others field (value_at field others)
+marks_alike row field values others within alike = by_marking row.marking alike
+  where
+    by_marking : (m : Option DscpSource)
+        → All (λ f. marking_reads m values f (value_at f values) ≡ marking_reads m others f (value_at f others)) (take (place_of field) fields)
+        → marking_reads m values field (value_at field others) ≡ marking_reads m others field (value_at field others)
+    by_marking None h = refl
+    by_marking (Some source) h = dscp_reads_alike source field values others within h

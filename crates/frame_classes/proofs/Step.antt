@@ -1,5 +1,5 @@
 -- One field further: what stands for other values in it does so for frames.
-use Rattle.std.proofs.Common.{◌≡◌, ◌≢◌, ℕ, zero, suc, ◌<◌, ◌≤◌, ◌==◌, Bool, true, false, ◌&&◌, List, [], ◌∷◌, ◌++◌, arith, refl, ap, sym, subst, length, get_or, cond, ◌∙◌}
+use Rattle.std.proofs.Common.{◌≡◌, ◌≢◌, ℕ, zero, suc, ◌<◌, ◌≤◌, ◌==◌, Bool, true, false, ◌&&◌, List, [], ◌∷◌, ◌++◌, Option, Some, None, arith, refl, ap, sym, subst, length, get_or, cond, ◌∙◌}
 use Rattle.std.specs.Prelude.{All, filter}
 use Rattle.std.proofs.lemmas.Bool.{eqb-false, eqb-true, true≢false}
 use Rattle.std.proofs.lemmas.List.{set-set}
@@ -7,10 +7,15 @@ use Rattle.std.proofs.lemmas.List.Elements.{All-head, All-tail, All-push}
 use Rattle.frame_rows.specs.declared.field.Field.{Field}
 use Rattle.frame_rows.specs.declared.field.Field.TheVariants.{Length}
 use Rattle.frame_rows.specs.declared.field.Values.{Values}
+use Rattle.frame_rows.specs.declared.row.Ends.{Ends}
+use Rattle.frame_rows.specs.declared.row.Ends.TheVariants as ends
 use Rattle.frame_rows.specs.declared.row.Row.{Row}
+use Rattle.frame_rows.specs.declared.source.DscpSource.{DscpSource}
+use Rattle.frame_rows.specs.declared.source.Source.TheVariants.{Dscp}
+use Rattle.frame_meaning.specs.declared.reason.Reason.TheVariants.{Runt}
 use Rattle.frame_rows.specs.Field.{place_of, value_at, with_value}
 use Rattle.frame_rows.specs.Source.{dscp_behind}
-use Rattle.frame_rows.specs.Row.{passes, row_admits, row_reads}
+use Rattle.frame_rows.specs.Row.{ends_read, marking_reads, passes, row_admits, row_marks, row_reads}
 use Rattle.frame_classes.specs.Splitting.{IsNear, Stands, StandsFor}
 use Rattle.frame_classes.proofs.Left.{passes-append}
 use Rattle.frame_classes.proofs.Near.{row_reads-later, row_reads-same, value-with_other, value-with_same}
@@ -52,6 +57,38 @@ reads_before row field later value values before within =
     ap (row_reads row (with_value later value values) field) (value-with_other later field value values (omega arith))
     ∙ row_reads-later row field later (value_at field values) value values before within
 
+-- ---- what added tags read
+
+-- the priorities of added tags, as of a row that ends by them
+ends_by : Option DscpSource → Ends
+ends_by None = ends.Dropped Runt
+ends_by (Some source) = ends.ByPriority (Dscp source)
+
+pub marks_row : Row → Row
+marks_row row = record row { ends = ends_by row.marking }
+
+pub marks_are : (row : Row) (values : Values) (field : Field) (value : ℕ) → row_marks row values field value ≡ row_reads (marks_row row) values field value
+unfolding marks_row ends_by
+marks_are row values field value = by_marking row.marking
+  where
+    by_marking : (m : Option DscpSource) → marking_reads m values field value ≡ ends_read (ends_by m) values field value
+    by_marking None = refl
+    by_marking (Some source) = refl
+
+marks_before : (row : Row) (field later : Field) (value : ℕ) (values : Values) → place_of field < place_of later → place_of later < length values.values
+    → row_marks row (with_value later value values) field (value_at field (with_value later value values)) ≡ row_marks row values field (value_at field values)
+marks_before row field later value values before within =
+    marks_are row (with_value later value values) field (value_at field (with_value later value values))
+    ∙ reads_before (marks_row row) field later value values before within
+    ∙ sym (marks_are row values field (value_at field values))
+
+marks_set : (row : Row) (field : Field) (value : ℕ) (values : Values)
+    → row_marks row (with_value field value values) field value ≡ row_marks row values field value
+marks_set row field value values =
+    marks_are row (with_value field value values) field value ∙ row_reads-set (marks_row row) field value values ∙ sym (marks_are row values field value)
+
+-- ---- fields before
+
 pub passes_before : (some : List Field) (row : Row) (later : Field) (value : ℕ) (values : Values) → All (λ field. place_of field < place_of later) some
     → passes some row (with_value later value values) ≡ passes some row values
 passes_before [] row later value values before = refl
@@ -77,7 +114,7 @@ pub near_step : (rows : List Row) (some : List Field) (field : Field) (values ot
     → IsNear rows some values others → Stands (filter (λ row. passes some row values) rows) field values others value
     → IsNear rows (some ++ field ∷ []) (with_value field value values) others
 near_step rows some field values others value earlier within some_before near stands =
-    record { alike = alike; read_alike = read_alike; longer = λ _. longer }
+    record { alike = alike; read_alike = read_alike; marked_alike = marked_alike; longer = λ _. longer }
   where
     changed : Values
     changed = with_value field value values
@@ -119,6 +156,17 @@ near_step rows some field values others value earlier within some_before near st
         All-push (λ field. row_reads row changed field (value_at field changed) ≡ row_reads row others field (value_at field others)) some field
         (λ i e within_some. reads_before row (get_or some i e) field value values (earlier i e within_some) within ∙ near.read_alike k d h before i e within_some)
         (ap (row_reads row changed field) (value-with_same field value values within) ∙ row_reads-set row field value values ∙ (stands_at k d h before).reads here)
+
+    marked_alike : All (λ row. passes (some ++ field ∷ []) row changed ≡ true
+        → All (λ field. row_marks row changed field (value_at field changed) ≡ row_marks row others field (value_at field others)) (some ++ field ∷ [])) rows
+    marked_alike k d h passes_too =
+        let row = get_or rows k d in
+        let both = sym (passes_changed row) ∙ passes_too in
+        let before = and_left (passes some row values) (row_admits row field value) both in
+        let here = and_right (passes some row values) (row_admits row field value) both in
+        All-push (λ field. row_marks row changed field (value_at field changed) ≡ row_marks row others field (value_at field others)) some field
+        (λ i e within_some. marks_before row (get_or some i e) field value values (earlier i e within_some) within ∙ near.marked_alike k d h before i e within_some)
+        (ap (row_marks row changed field) (value-with_same field value values within) ∙ marks_set row field value values ∙ (stands_at k d h before).marks here)
 
     longer : value_at Length others ≤ value_at Length changed
     longer = by_place (place_of field == 0) refl

@@ -1,45 +1,50 @@
 -- The types that are looked at stand for all.
-use Rattle.std.proofs.Common.{◌≡◌, ℕ, ◌+◌, ◌^◌, ◌<◌, ◌≤◌, ◌==◌, Bool, true, false, List, arith, refl, ap, sym, subst, length, take, get_or, ◌⊎◌, inl, inr}
-use Rattle.std.specs.Prelude.{All, Any, Contains, IsTrue}
-use Rattle.std.proofs.lemmas.Bool.{eqb-true}
+use Rattle.std.proofs.Common.{◌≡◌, ◌≢◌, ℕ, ◌+◌, ◌^◌, ◌<◌, ◌≤◌, ◌==◌, ◌||◌, Bool, true, false, List, [], ◌∷◌, arith, refl, sym, subst, length, take, get_or, ◌⊎◌, inl, inr, ◌∙◌}
+use Rattle.std.specs.Prelude.{All, Any, Contains}
+use Rattle.std.specs.List.{list_any}
+use Rattle.std.proofs.lemmas.Bool.{eqb-true, ne_eqb, true≢false}
 use Rattle.std.proofs.lemmas.List.{get_or_default}
-use Rattle.std.proofs.lemmas.List.Elements.{All-contains, All-from_recursion, All-more, All-weaker}
+use Rattle.std.proofs.lemmas.List.Elements.{All-cons, All-contains, All-from_recursion, All-head, All-more, All-nil, All-tail, All-weaker}
+use Rattle.std.proofs.lemmas.List.Folds.{Any-from_list_any}
 use Rattle.frame_rows.specs.declared.ask.Ask.{Ask}
 use Rattle.frame_rows.specs.declared.field.Field.{Field}
 use Rattle.frame_rows.specs.declared.field.Field.TheVariants.{Length, FirstType, SecondType, ThirdType, FirstVid, SecondVid, ThirdVid, FirstPriority, SecondPriority, FirstEligible, SecondEligible}
 use Rattle.frame_rows.specs.declared.field.Values.{Values}
 use Rattle.frame_rows.specs.declared.row.Row.{Row}
 use Rattle.frame_rows.specs.Field.{end_of, fields, place_of, value_at}
-use Rattle.frame_rows.specs.Fits.{ask_fits, asks_type, row_fits}
+use Rattle.frame_rows.specs.Fits.{ask_fits, asks_type}
+use Rattle.frame_rows.specs.Sight.{Side}
 use Rattle.frame_rows.specs.Words.{limit_of}
 use Rattle.frame_rows.specs.Row.{ask_at}
-use Rattle.frame_classes.specs.Splitting.{AreChoices, AreLeft, CanBe, IsNear, IsOf, Stands, rows_at}
+use Rattle.frame_classes.specs.Splitting.{CanBe, HasSeveral, IsCovered, IsNear, IsOf, Stands, begins_tag}
+use Rattle.frame_classes.specs.Left.{rows_at}
 use Rattle.frame_classes.proofs.Numbers.{still_left}
-use Rattle.frame_classes.proofs.Standing.{field_within, fits_at, same_stands}
-use Rattle.frame_classes.proofs.Types.{Covers, IsPlain, alike_stands, known_types, plain_stands}
+use Rattle.frame_classes.proofs.Standing.{CoverBy, FitsSome, IsCase, field_within, fits_at, same_stands}
+use Rattle.frame_classes.proofs.Several.{several_more, several_none}
+use Rattle.frame_classes.proofs.Types.{AsksSome, Covers, IsPlain, IsPlainFor, alike_stands, known_types, plain_begins, plain_stands}
 
 -- ---- one more
 
-covers_kept : (rows : List Row) (places : List ℕ) (values : Values) (field : Field) (choices more : List ℕ) (value : ℕ)
-    → ((c : ℕ) → Contains choices c → Contains more c) → Covers rows places values field choices value → Covers rows places values field more value
-covers_kept rows places values field choices more value kept (i, c, within, is, stands) =
+covers_kept : (sides : List Side) (count : ℕ) (rows : List Row) (places : List ℕ) (values : Values) (field : Field) (choices more : List ℕ) (value : ℕ)
+    → ((c : ℕ) → Contains choices c → Contains more c) → Covers sides count rows places values field choices value → Covers sides count rows places values field more value
+covers_kept sides count rows places values field choices more value kept (i, c, within, is, stands) =
     let there = kept c (i, within, is) in
     (there.0, c, there.1, there.2, stands)
 
-pub cover_more : (rows : List Row) (places : List ℕ) (values : Values) (field : Field) (choices more : List ℕ) (index : ℕ) → index < 10
-    → ((c : ℕ) → Contains choices c → Contains more c) → Covers rows places values field more (get_or known_types index 0)
-    → All (Covers rows places values field choices) (take index known_types) → All (Covers rows places values field more) (take (index + 1) known_types)
-cover_more rows places values field choices more index within kept here before =
-    All-more (Covers rows places values field more) known_types index 0 within
-    (All-weaker (Covers rows places values field choices) (Covers rows places values field more)
-    (λ value. covers_kept rows places values field choices more value kept) (take index known_types) before) here
+pub cover_more : (sides : List Side) (count : ℕ) (rows : List Row) (places : List ℕ) (values : Values) (field : Field) (choices more : List ℕ) (index : ℕ) → index < 12
+    → ((c : ℕ) → Contains choices c → Contains more c) → Covers sides count rows places values field more (get_or known_types index 0)
+    → All (Covers sides count rows places values field choices) (take index known_types) → All (Covers sides count rows places values field more) (take (index + 1) known_types)
+cover_more sides count rows places values field choices more index within kept here before =
+    All-more (Covers sides count rows places values field more) known_types index 0 within
+    (All-weaker (Covers sides count rows places values field choices) (Covers sides count rows places values field more)
+    (λ value. covers_kept sides count rows places values field choices more value kept) (take index known_types) before) here
 
-cover_kept : (rows : List Row) (places : List ℕ) (values : Values) (field : Field) (choices more : List ℕ)
-    → ((c : ℕ) → Contains choices c → Contains more c) → All (Covers rows places values field choices) (take 10 known_types)
-    → All (Covers rows places values field more) known_types
-cover_kept rows places values field choices more kept before =
-    All-weaker (Covers rows places values field choices) (Covers rows places values field more)
-    (λ value. covers_kept rows places values field choices more value kept) known_types before
+cover_kept : (sides : List Side) (count : ℕ) (rows : List Row) (places : List ℕ) (values : Values) (field : Field) (choices more : List ℕ)
+    → ((c : ℕ) → Contains choices c → Contains more c) → All (Covers sides count rows places values field choices) (take 12 known_types)
+    → All (Covers sides count rows places values field more) known_types
+cover_kept sides count rows places values field choices more kept before =
+    All-weaker (Covers sides count rows places values field choices) (Covers sides count rows places values field more)
+    (λ value. covers_kept sides count rows places values field choices more value kept) known_types before
 
 pub fit_more : (choices more : List ℕ) (value : ℕ) → value < 2 ^ 16 → ((c : ℕ) → Contains more c → Contains choices c ⊎ (c ≡ value))
     → All (λ c. c < 2 ^ 16) choices → All (λ c. c < 2 ^ 16) more
@@ -78,12 +83,117 @@ type_limit SecondPriority behind early = absurd (omega arith)
 type_limit FirstEligible behind early = absurd (omega arith)
 type_limit SecondEligible behind early = absurd (omega arith)
 
-pub type_choices : (rows : List Row) (least : ℕ) (field : Field) (values : Values) (places choices : List ℕ) (input : ℕ)
-    → AreLeft rows (take (place_of field) fields) values places → All (λ row. IsTrue (row_fits input row)) rows → length values.values ≡ 11
+asks_some : (sides : List Side) (field : Field) → 0 < place_of field → place_of field < 4 → (row : Row) → FitsSome sides row → AsksSome sides field row
+asks_some sides field behind early row (i, side, within, is, fits) =
+    (i, side, within, is, early_type side.settings.input_tpid field (ask_at row field) behind early (fits_at side.settings.input_tpid row fits field))
+
+-- ---- a type that is no input TPID
+
+-- one that is looked at, which is plain where it is none
+record IsSpare (type : ℕ) : Type 0 where
+  pub place : ℕ
+  pub within : place < 12
+  pub at : get_or known_types place 0 ≡ type
+  pub plain : (input : ℕ) → (type == input) ≡ false → IsPlain input type
+
+spare_more : (n bound type : ℕ) → HasSeveral n (λ c. IsSpare c × (c < bound)) → bound ≤ type → IsSpare type
+    → HasSeveral (n + 1) (λ c. IsSpare c × (c < type + 1))
+spare_more n bound type several later spare =
+    several_more n (λ c. IsSpare c × (c < bound)) (λ c. IsSpare c × (c < type + 1)) type several (λ c h. below c h.1) (λ c h. (h.0, less c h.1)) (spare, omega arith)
+  where
+    below : (c : ℕ) → c < bound → c ≢ type
+    below c h e = omega arith
+
+    less : (c : ℕ) → c < bound → c < type + 1
+    less c h = omega arith
+
+spare_8 : IsSpare 0x88b5
+spare_8 =
+    record {
+      place = 8;
+      within = omega arith;
+      at = refl;
+      plain = λ input apart.
+          record { customer = refl; service = refl; no_input = apart; ipv4 = refl; ipv6 = refl; arp = refl; discovery = refl; session = refl; eapol = refl };
+    }
+
+spare_9 : IsSpare 0x88b6
+spare_9 =
+    record {
+      place = 9;
+      within = omega arith;
+      at = refl;
+      plain = λ input apart.
+          record { customer = refl; service = refl; no_input = apart; ipv4 = refl; ipv6 = refl; arp = refl; discovery = refl; session = refl; eapol = refl };
+    }
+
+spare_10 : IsSpare 0x88b7
+spare_10 =
+    record {
+      place = 10;
+      within = omega arith;
+      at = refl;
+      plain = λ input apart.
+          record { customer = refl; service = refl; no_input = apart; ipv4 = refl; ipv6 = refl; arp = refl; discovery = refl; session = refl; eapol = refl };
+    }
+
+spare_11 : IsSpare 0x9000
+spare_11 =
+    record {
+      place = 11;
+      within = omega arith;
+      at = refl;
+      plain = λ input apart.
+          record { customer = refl; service = refl; no_input = apart; ipv4 = refl; ipv6 = refl; arp = refl; discovery = refl; session = refl; eapol = refl };
+    }
+
+-- of four one is left where three are avoided
+spare_types : HasSeveral 4 (λ c. IsSpare c × (c < 0x9001))
+spare_types =
+    spare_more 3 0x88b8 0x9000
+    (spare_more 2 0x88b7 0x88b7
+    (spare_more 1 0x88b6 0x88b6 (spare_more 0 0 0x88b5 (several_none (λ c. IsSpare c × (c < 0))) (omega arith) spare_8) (omega arith) spare_9) (omega arith)
+    spare_10) (omega arith) spare_11
+
+abbrev inputs_of : List Side → List ℕ
+inputs_of [] = []
+inputs_of (side ∷ rest) = side.settings.input_tpid ∷ inputs_of rest
+
+length-inputs : (sides : List Side) → length (inputs_of sides) ≡ length sides
+length-inputs [] = refl
+length-inputs (side ∷ rest) =
+    let same = length-inputs rest in
+    omega (arith, same)
+
+none_of_inputs : (sides : List Side) (type : ℕ) → All (λ other. type ≢ other) (inputs_of sides) → All (λ side. (type == side.settings.input_tpid) ≡ false) sides
+none_of_inputs [] type apart = All-nil (λ side. (type == side.settings.input_tpid) ≡ false)
+none_of_inputs (side ∷ rest) type apart =
+    All-cons (λ side. (type == side.settings.input_tpid) ≡ false) side rest
+    (ne_eqb type side.settings.input_tpid (All-head (λ other. type ≢ other) side.settings.input_tpid (inputs_of rest) apart))
+    (none_of_inputs rest type (All-tail (λ other. type ≢ other) side.settings.input_tpid (inputs_of rest) apart))
+
+or_left : (a b : Bool) → (a || b) ≡ false → a ≡ false
+or_left true b h = h
+or_left false b h = refl
+
+or_right : (a b : Bool) → (a || b) ≡ false → b ≡ false
+or_right true b h = absurd (true≢false h)
+or_right false b h = h
+
+none_there : (p : Side → Bool) (sides : List Side) → list_any p sides ≡ false → All (λ side. p side ≡ false) sides
+none_there p [] h = All-nil (λ side. p side ≡ false)
+none_there p (side ∷ rest) h =
+    All-cons (λ side. p side ≡ false) side rest (or_left (p side) (list_any p rest) h) (none_there p rest (or_right (p side) (list_any p rest) h))
+
+-- ---- all types
+
+pub type_choices : (sides : List Side) (count : ℕ) (rows : List Row) (least : ℕ) (field : Field) (values : Values) (places choices : List ℕ)
+    → IsCase sides rows (take (place_of field) fields) values places → length sides ≤ 3 → count ≡ length sides → length values.values ≡ 11
     → 0 < place_of field → place_of field < 4 → end_of field ≤ value_at Length values → All (λ c. c < 2 ^ 16) choices
-    → All (Covers rows places values field choices) known_types → Covers rows places values field choices input
-    → AreChoices rows (rows_at rows places) least field values choices
-type_choices rows least field values places choices input left fit eleven behind early long fits covers covers_input =
+    → All (Covers sides count rows places values field choices) known_types
+    → All (λ side. Covers sides count rows places values field choices side.settings.input_tpid) sides
+    → CoverBy sides rows places least field values choices
+type_choices sides count rows least field values places choices case three counted eleven behind early long fits covers covers_inputs =
     record {
       within = All-weaker (λ c. c < 2 ^ 16) (CanBe least (value_at Length values) field)
           (λ c small. record {
@@ -94,75 +204,112 @@ type_choices rows least field values places choices input left fit eleven behind
       each = each;
     }
   where
-    asks : All (λ row. asks_type input (ask_at row field) ≡ true) (rows_at rows places)
+    asks : All (AsksSome sides field) (rows_at rows places)
     asks =
-        still_left (λ row. asks_type input (ask_at row field) ≡ true) rows (take (place_of field) fields) values places left
-        (All-weaker (λ row. IsTrue (row_fits input row)) (λ row. asks_type input (ask_at row field) ≡ true)
-        (λ row h. early_type input field (ask_at row field) behind early (fits_at input row h field)) rows fit)
+        still_left (AsksSome sides field) rows (take (place_of field) fields) values places case.left
+        (All-weaker (FitsSome sides) (AsksSome sides field) (asks_some sides field behind early) rows case.fits)
 
     each : (others : Values) → IsOf least fields others → IsNear rows (take (place_of field) fields) values others
-        → Any (Stands (rows_at rows places) field values others) choices
+        → IsCovered sides places (rows_at rows places) field values others choices
     each others of near =
-        by_value (v == 0x8100) (v == 0x88a8) (v == input) (v == 0x0800) (v == 0x86DD) (v == 0x0806) (v == 0x8863) (v == 0x8864) (v == 0x888E)
-        refl refl refl refl refl refl refl refl refl
+        by_value (v == 0x8100) (v == 0x88a8) (v == 0x0800) (v == 0x86DD) (v == 0x0806) (v == 0x8863) (v == 0x8864) (v == 0x888E)
+        (list_any (λ (side : Side). v == side.settings.input_tpid) sides) refl refl refl refl refl refl refl refl refl
       where
         v : ℕ
         v = value_at field others
 
-        by_cover : (w : ℕ) → Stands (rows_at rows places) field values others w → Covers rows places values field choices w
+        by_cover : (w : ℕ) → Stands (rows_at rows places) field values others w → Covers sides count rows places values field choices w
             → Any (Stands (rows_at rows places) field values others) choices
         by_cover w stands (i, c, within, is, inl same) = (i, c, within, is, subst (Stands (rows_at rows places) field values others) (sym same) stands)
-        by_cover w stands (i, c, within, is, inr alike) =
+        by_cover w stands (i, c, within, is, inr (apart, alike)) =
             (i, c, within, is, alike_stands rows field values others c w places alike stands (λ first. absurd (omega arith)))
 
-        same : (w : ℕ) → (value_at field others == w) ≡ true → Covers rows places values field choices w
-            → Any (Stands (rows_at rows places) field values others) choices
-        same w is covered =
-            by_cover w (same_stands rows field values others w places left near eleven (field_within field) (sym (eqb-true (value_at field others) w is))
-            (λ first. absurd (omega arith))) covered
-
-        plain : IsPlain input (value_at field others) → Any (Stands (rows_at rows places) field values others) choices
-        plain is = by_input (0x88b5 == input) refl
+        known : (w : ℕ) → value_at field others ≡ w → Covers sides count rows places values field choices w
+            → IsCovered sides places (rows_at rows places) field values others choices
+        known w at (i, c, within, is, inl same) = inl (subst (Contains choices) (same ∙ sym at) (i, within, is))
+        known w at (i, c, within, is, inr (apart, alike)) =
+            inr (inr (
+              inl (record { early = early; type = inl (by_apart apart) }),
+              by_cover w (same_stands rows field values others w places case.left near eleven (field_within field) (sym at) (λ first. absurd (omega arith)))
+                  (i, c, within, is, inr (apart, alike)),
+            ))
           where
-            by_input : (b : Bool) → (0x88b5 == input) ≡ b → Any (Stands (rows_at rows places) field values others) choices
-            by_input false apart =
-                by_cover 0x88b5 (plain_stands (rows_at rows places) field input values others 0x88b5 behind early asks
-                (record { customer = refl; service = refl; no_input = apart; ipv4 = refl; ipv6 = refl; arp = refl; discovery = refl; session = refl; eapol = refl }) is)
-                (covers 8 0 (omega arith))
-            by_input true at =
-                let input_is : 0x88b5 ≡ input = eqb-true 0x88b5 input at in
-                by_cover 0x88b6 (plain_stands (rows_at rows places) field input values others 0x88b6 behind early asks
-                (record { customer = refl; service = refl; no_input = ap (λ (n : ℕ). 0x88b6 == n) (sym input_is); ipv4 = refl; ipv6 = refl; arp = refl; discovery = refl; session = refl; eapol = refl }) is)
-                (covers 9 0 (omega arith))
+            by_apart : begins_tag sides w ≡ false ⊎ count ≤ 1 → begins_tag sides (value_at field others) ≡ false ⊎ length sides ≤ 1
+            by_apart (inl none) = inl (subst (λ (n : ℕ). begins_tag sides n ≡ false) (sym at) none)
+            by_apart (inr one) = inr (omega (arith, counted))
 
-        by_value : (c s i four six a d p e : Bool) → (value_at field others == 0x8100) ≡ c → (value_at field others == 0x88a8) ≡ s
-            → (value_at field others == input) ≡ i → (value_at field others == 0x0800) ≡ four → (value_at field others == 0x86DD) ≡ six
+        same : (w : ℕ) → (value_at field others == w) ≡ true → Covers sides count rows places values field choices w
+            → IsCovered sides places (rows_at rows places) field values others choices
+        same w is covered = known w (eqb-true (value_at field others) w is) covered
+
+        input : Any (λ side. (value_at field others == side.settings.input_tpid) ≡ true) sides
+            → IsCovered sides places (rows_at rows places) field values others choices
+        input (i, side, within, is, at) =
+            same side.settings.input_tpid at
+            (All-contains (λ s. Covers sides count rows places values field choices s.settings.input_tpid) sides side covers_inputs (i, within, is))
+
+        plain : IsPlainFor sides (value_at field others) → IsCovered sides places (rows_at rows places) field values others choices
+        plain is =
+            let inputs = length-inputs sides in
+            by_spare (spare_types (inputs_of sides) (omega (arith, inputs)))
+          where
+            by_spare : (c : ℕ) × ((IsSpare c × (c < 0x9001)) × All (λ other. c ≢ other) (inputs_of sides))
+                → IsCovered sides places (rows_at rows places) field values others choices
+            by_spare (c, ((spare, small), apart)) =
+                inr (inr (
+                  inl (record { early = early; type = inl (inl (plain_begins sides (value_at field others) is)) }),
+                  by_cover c (plain_stands sides (rows_at rows places) field values others c behind early asks
+                      (All-weaker (λ side. (c == side.settings.input_tpid) ≡ false) (λ side. IsPlain side.settings.input_tpid c)
+                      (λ side none. spare.plain side.settings.input_tpid none) sides (none_of_inputs sides c apart)) is)
+                      (subst (Covers sides count rows places values field choices) spare.at (covers spare.place 0 spare.within)),
+                ))
+
+        by_value : (c s four six a d p e i : Bool) → (value_at field others == 0x8100) ≡ c → (value_at field others == 0x88a8) ≡ s
+            → (value_at field others == 0x0800) ≡ four → (value_at field others == 0x86DD) ≡ six
             → (value_at field others == 0x0806) ≡ a → (value_at field others == 0x8863) ≡ d → (value_at field others == 0x8864) ≡ p
-            → (value_at field others == 0x888E) ≡ e → Any (Stands (rows_at rows places) field values others) choices
-        by_value true s i four six a d p e hc hs hi h4 h6 ha hd hp he = same 0x8100 hc (covers 0 0 (omega arith))
-        by_value false true i four six a d p e hc hs hi h4 h6 ha hd hp he = same 0x88a8 hs (covers 2 0 (omega arith))
-        by_value false false true four six a d p e hc hs hi h4 h6 ha hd hp he = same input hi covers_input
-        by_value false false false true six a d p e hc hs hi h4 h6 ha hd hp he = same 0x0800 h4 (covers 1 0 (omega arith))
-        by_value false false false false true a d p e hc hs hi h4 h6 ha hd hp he = same 0x86DD h6 (covers 3 0 (omega arith))
-        by_value false false false false false true d p e hc hs hi h4 h6 ha hd hp he = same 0x0806 ha (covers 4 0 (omega arith))
-        by_value false false false false false false true p e hc hs hi h4 h6 ha hd hp he = same 0x8863 hd (covers 5 0 (omega arith))
-        by_value false false false false false false false true e hc hs hi h4 h6 ha hd hp he = same 0x8864 hp (covers 6 0 (omega arith))
-        by_value false false false false false false false false true hc hs hi h4 h6 ha hd hp he = same 0x888E he (covers 7 0 (omega arith))
-        by_value false false false false false false false false false hc hs hi h4 h6 ha hd hp he =
-            plain (record { customer = hc; service = hs; no_input = hi; ipv4 = h4; ipv6 = h6; arp = ha; discovery = hd; session = hp; eapol = he })
+            → (value_at field others == 0x888E) ≡ e → list_any (λ (side : Side). value_at field others == side.settings.input_tpid) sides ≡ i
+            → IsCovered sides places (rows_at rows places) field values others choices
+        by_value true s four six a d p e i hc hs h4 h6 ha hd hp he hi = same 0x8100 hc (covers 0 0 (omega arith))
+        by_value false true four six a d p e i hc hs h4 h6 ha hd hp he hi = same 0x88a8 hs (covers 2 0 (omega arith))
+        by_value false false true six a d p e i hc hs h4 h6 ha hd hp he hi = same 0x0800 h4 (covers 1 0 (omega arith))
+        by_value false false false true a d p e i hc hs h4 h6 ha hd hp he hi = same 0x86DD h6 (covers 3 0 (omega arith))
+        by_value false false false false true d p e i hc hs h4 h6 ha hd hp he hi = same 0x0806 ha (covers 4 0 (omega arith))
+        by_value false false false false false true p e i hc hs h4 h6 ha hd hp he hi = same 0x8863 hd (covers 5 0 (omega arith))
+        by_value false false false false false false true e i hc hs h4 h6 ha hd hp he hi = same 0x8864 hp (covers 6 0 (omega arith))
+        by_value false false false false false false false true i hc hs h4 h6 ha hd hp he hi = same 0x888E he (covers 7 0 (omega arith))
+        by_value false false false false false false false false true hc hs h4 h6 ha hd hp he hi =
+            input (Any-from_list_any (λ (side : Side). value_at field others == side.settings.input_tpid) sides hi)
+        by_value false false false false false false false false false hc hs h4 h6 ha hd hp he hi =
+            plain (All-weaker (λ side. (value_at field others == side.settings.input_tpid) ≡ false) (λ side. IsPlain side.settings.input_tpid (value_at field others))
+            (λ side none. record { customer = hc; service = hs; no_input = none; ipv4 = h4; ipv6 = h6; arp = ha; discovery = hd; session = hp; eapol = he })
+            sides (none_there (λ (side : Side). value_at field others == side.settings.input_tpid) sides hi))
 
 -- by what code looks at
 known_fit : All (λ c. c < 2 ^ 16) known_types
 known_fit =
     All-from_recursion (λ c. c < 2 ^ 16) known_types
-    (omega arith, (omega arith, (omega arith, (omega arith, (omega arith, (omega arith, (omega arith, (omega arith, (omega arith, (omega arith, tt))))))))))
+    (omega arith, (omega arith, (omega arith, (omega arith, (omega arith, (omega arith, (omega arith, (omega arith, (omega arith, (omega arith, (omega arith, (omega arith, tt))))))))))))
 
-pub known_small : (index : ℕ) → index < 10 → get_or known_types index 0 < 2 ^ 16
+pub known_small : (index : ℕ) → index < 12 → get_or known_types index 0 < 2 ^ 16
 known_small index within = known_fit index 0 within
 
-pub cover_all : (rows : List Row) (places : List ℕ) (values : Values) (field : Field) (choices more : List ℕ) (index : ℕ) → index ≡ 10
-    → ((c : ℕ) → Contains choices c → Contains more c) → All (Covers rows places values field choices) (take index known_types)
-    → All (Covers rows places values field more) known_types
-cover_all rows places values field choices more index all kept before =
-    cover_kept rows places values field choices more kept
-    (subst (λ (n : ℕ). All (Covers rows places values field choices) (take n known_types)) all before)
+pub cover_all : (sides : List Side) (count : ℕ) (rows : List Row) (places : List ℕ) (values : Values) (field : Field) (choices more : List ℕ) (index : ℕ)
+    → index ≡ 12 → ((c : ℕ) → Contains choices c → Contains more c) → All (Covers sides count rows places values field choices) (take index known_types)
+    → All (Covers sides count rows places values field more) known_types
+cover_all sides count rows places values field choices more index all kept before =
+    cover_kept sides count rows places values field choices more kept
+    (subst (λ (n : ℕ). All (Covers sides count rows places values field choices) (take n known_types)) all before)
+
+-- ---- input TPIDs, side by side
+
+-- those of the first so many sides
+pub inputs_more : (sides : List Side) (count : ℕ) (rows : List Row) (places : List ℕ) (values : Values) (field : Field) (choices more : List ℕ) (index : ℕ)
+    (d : Side) → index < length sides → ((c : ℕ) → Contains choices c → Contains more c)
+    → Covers sides count rows places values field more (get_or sides index d).settings.input_tpid
+    → All (λ side. Covers sides count rows places values field choices side.settings.input_tpid) (take index sides)
+    → All (λ side. Covers sides count rows places values field more side.settings.input_tpid) (take (index + 1) sides)
+inputs_more sides count rows places values field choices more index d within kept here before =
+    All-more (λ side. Covers sides count rows places values field more side.settings.input_tpid) sides index d within
+    (All-weaker (λ side. Covers sides count rows places values field choices side.settings.input_tpid)
+    (λ side. Covers sides count rows places values field more side.settings.input_tpid)
+    (λ side. covers_kept sides count rows places values field choices more side.settings.input_tpid kept) (take index sides) before) here

@@ -1,9 +1,14 @@
 -- Types that stand for all, and values that are like one that stands for others.
-use Rattle.std.proofs.Common.{◌≡◌, ◌≢◌, ℕ, ◌<◌, ◌≤◌, ◌==◌, Bool, true, false, ◌&&◌, List, [], ◌∷◌, Option, Some, None, arith, refl, sym, subst, get_or, nat_lt, ◌⊎◌, ◌∙◌}
+use Rattle.std.proofs.Common.{◌≡◌, ◌≢◌, ℕ, ◌<◌, ◌≤◌, ◌==◌, Bool, true, false, ◌&&◌, ◌||◌, List, [], ◌∷◌, Option, Some, None, arith, refl, ap, map, sym, subst, get_or, nat_lt, ◌⊎◌, ◌∙◌}
 use Rattle.std.specs.Prelude.{All, Any as HasOne, slice_get}
-use Rattle.std.specs.List.{list_all}
+use Rattle.std.specs.List.{list_all, list_any}
 use Rattle.std.proofs.lemmas.Bool.{eqb-true, ne_eqb, true≢false}
-use Rattle.std.proofs.lemmas.List.Elements.{All-cons, All-nil}
+use Rattle.std.proofs.lemmas.List.Elements.{All-cons, All-contains, All-nil, All-weaker}
+use Rattle.std.proofs.lemmas.List.Folds.{list_any_none}
+use Rattle.frame_rows.specs.Sight.{Side}
+use Rattle.frame_classes.specs.Left.{rows_at}
+use Rattle.frame_classes.specs.Told.{side_by}
+use Rattle.frame_rows.specs.declared.rows.Rows.{Rows}
 use Rattle.tag_view.specs.Tag.{is_tag_type}
 use Rattle.vlan_rule.specs.declared.filter.EthertypeFilter.{EthertypeFilter}
 use Rattle.vlan_rule.specs.declared.filter.EthertypeFilter.TheVariants as ethertype
@@ -26,10 +31,18 @@ use Rattle.frame_classes.specs.Choices.{are_alike, test_at}
 use Rattle.frame_rows.specs.Field.{place_of, type_behind, value_at, vid_behind}
 use Rattle.frame_rows.specs.Fits.{asks_type}
 use Rattle.frame_rows.specs.Source.{packet_of}
-use Rattle.frame_rows.specs.Row.{ask_at, dscp_reads, ends_read, row_admits, row_reads, source_reads}
-use Rattle.frame_classes.specs.Splitting.{Stands, StandsFor, rows_at}
+use Rattle.frame_rows.specs.Row.{ask_at, dscp_reads, ends_read, marking_reads, row_admits, row_marks, row_reads, source_reads}
+use Rattle.frame_classes.specs.Splitting.{Stands, StandsFor, begins_tag}
 
 -- ---- a value that is like one that stands for others
+
+and_left : (a b : Bool) → (a && b) ≡ true → a ≡ true
+and_left true b h = refl
+and_left false b h = h
+
+and_right : (a b : Bool) → (a && b) ≡ true → b ≡ true
+and_right true b h = h
+and_right false b h = absurd (true≢false (sym h))
 
 all_at : (test : Row → Bool) (rows : List Row) (places : List ℕ) → list_all (test_at test true rows) places ≡ true
     → All (λ row. test row ≡ true) (rows_at rows places)
@@ -37,14 +50,6 @@ all_at test rows [] h = All-nil (λ row. test row ≡ true)
 all_at test rows (place ∷ rest) h =
     by_row (slice_get rows place) refl (all_at test rows rest (and_right (test_at test true rows place) (list_all (test_at test true rows) rest) h))
   where
-    and_left : (a b : Bool) → (a && b) ≡ true → a ≡ true
-    and_left true b h = refl
-    and_left false b h = h
-
-    and_right : (a b : Bool) → (a && b) ≡ true → b ≡ true
-    and_right true b h = h
-    and_right false b h = absurd (true≢false (sym h))
-
     by_row : (row : Option Row) → slice_get rows place ≡ row → All (λ row. test row ≡ true) (rows_at rows rest)
         → All (λ row. test row ≡ true) (rows_at rows (place ∷ rest))
     by_row None is others = rw is others
@@ -66,12 +71,19 @@ alike_reads false b one other h is = absurd (true≢false (sym is))
 alike_for : (row : Row) (field : Field) (values others : Values) (one other value : ℕ) → is_alike values field one other row ≡ true
     → StandsFor row field values other others value → StandsFor row field values one others value
 alike_for row field values others one other value alike stands =
-    let same = alike_both (row_admits row field one) (row_admits row field other) (row_reads row values field one) (row_reads row values field other) alike in
+    let read = alike_by (row_admits row field one) (row_admits row field other) (row_reads row values field one) (row_reads row values field other) in
+    let marked = alike_by (row_admits row field one) (row_admits row field other) (row_marks row values field one) (row_marks row values field other) in
+    let alike_read = and_left read marked alike in
+    let alike_marked = and_right read marked alike in
+    let same = alike_both (row_admits row field one) (row_admits row field other) (row_reads row values field one) (row_reads row values field other) alike_read in
     record {
       admits = same ∙ stands.admits;
       reads = λ is.
-          alike_reads (row_admits row field one) (row_admits row field other) (row_reads row values field one) (row_reads row values field other) alike is
+          alike_reads (row_admits row field one) (row_admits row field other) (row_reads row values field one) (row_reads row values field other) alike_read is
           ∙ stands.reads (sym same ∙ is);
+      marks = λ is.
+          alike_reads (row_admits row field one) (row_admits row field other) (row_marks row values field one) (row_marks row values field other) alike_marked is
+          ∙ stands.marks (sym same ∙ is);
     }
 
 pub alike_stands : (rows : List Row) (field : Field) (values others : Values) (one other : ℕ) (places : List ℕ)
@@ -99,7 +111,7 @@ pub record IsPlain (input type : ℕ) : Type 0 where
   pub session : (type == 0x8864) ≡ false
   pub eapol : (type == 0x888E) ≡ false
 
-plain_tag : (input type : ℕ) → IsPlain input type → is_tag_type input type ≡ false
+pub plain_tag : (input type : ℕ) → IsPlain input type → is_tag_type input type ≡ false
 plain_tag input type is = rw (is.customer, is.service, is.no_input) refl
 
 plain_filter : (f : EthertypeFilter) (input one other : ℕ) → IsPlain input one → IsPlain input other → has_type f one ≡ has_type f other
@@ -188,24 +200,57 @@ plain_reads row field input one other values others behind early p q = by_ends r
     by_ends (ends.Dropped reason) = refl
     by_ends (ends.ByPriority source) = by_source source
 
+plain_marks : (row : Row) (field : Field) (input one other : ℕ) (values others : Values) → 0 < place_of field → place_of field < 4
+    → IsPlain input one → IsPlain input other → row_marks row values field one ≡ row_marks row others field other
+plain_marks row field input one other values others behind early p q = by_marking row.marking
+  where
+    by_marking : (m : Option DscpSource) → marking_reads m values field one ≡ marking_reads m others field other
+    by_marking None = refl
+    by_marking (Some source) = plain_dscp source field input one other values others behind early p q
+
+-- for the input TPIDs of all sides
+abbrev pub IsPlainFor : List Side → ℕ → Type 0
+IsPlainFor sides type = All (λ side. IsPlain side.settings.input_tpid type) sides
+
+-- a type is asked for by the input TPID of some side, or none
+abbrev pub AsksSome : List Side → Field → Row → Type 0
+AsksSome sides field row = HasOne (λ side. asks_type side.settings.input_tpid (ask_at row field) ≡ true) sides
+
 -- one of them stands for all
-pub plain_stands : (left : List Row) (field : Field) (input : ℕ) (values others : Values) (type : ℕ) → 0 < place_of field → place_of field < 4
-    → All (λ row. asks_type input (ask_at row field) ≡ true) left → IsPlain input type → IsPlain input (value_at field others)
-    → Stands left field values others type
-plain_stands left field input values others type behind early asks p q =
-    record {
-      each = λ k d h. record {
-        admits = plain_admits (ask_at (get_or left k d) field) input type (value_at field others) (asks k d h) p q;
-        reads = λ _. plain_reads (get_or left k d) field input type (value_at field others) values others behind early p q;
-      };
-      longer = λ first. absurd (omega arith);
-    }
+pub plain_stands : (sides : List Side) (left : List Row) (field : Field) (values others : Values) (type : ℕ) → 0 < place_of field → place_of field < 4
+    → All (AsksSome sides field) left → IsPlainFor sides type → IsPlainFor sides (value_at field others) → Stands left field values others type
+plain_stands sides left field values others type behind early asks p q =
+    record { each = λ k d h. by_side (get_or left k d) (asks k d h); longer = λ first. absurd (omega arith) }
+  where
+    by_side : (row : Row) → AsksSome sides field row → StandsFor row field values type others (value_at field others)
+    by_side row (i, side, within, is, ask) =
+        let input = side.settings.input_tpid in
+        let one = All-contains (λ s. IsPlain s.settings.input_tpid type) sides side p (i, within, is) in
+        let other = All-contains (λ s. IsPlain s.settings.input_tpid (value_at field others)) sides side q (i, within, is) in
+        record {
+          admits = plain_admits (ask_at row field) input type (value_at field others) ask one other;
+          reads = λ _. plain_reads row field input type (value_at field others) values others behind early one other;
+          marks = λ _. plain_marks row field input type (value_at field others) values others behind early one other;
+        }
+
+-- and begins no tag
+pub plain_begins : (sides : List Side) (type : ℕ) → IsPlainFor sides type → begins_tag sides type ≡ false
+plain_begins sides type plain =
+    list_any_none (λ (side : Side). is_tag_type side.settings.input_tpid type) sides
+    (All-weaker (λ side. IsPlain side.settings.input_tpid type) (λ side. is_tag_type side.settings.input_tpid type ≡ false)
+    (λ side h. plain_tag side.settings.input_tpid type h) sides plain)
+
+-- of sides by their rows
+pub begins_by_rows : (sides : List Rows) (type : ℕ) → begins_tag (map side_by sides) type ≡ list_any (λ rows. is_tag_type rows.settings.input_tpid type) sides
+begins_by_rows [] type = refl
+begins_by_rows (rows ∷ rest) type = ap (λ (b : Bool). is_tag_type rows.settings.input_tpid type || b) (begins_by_rows rest type)
 
 -- ---- types that are looked at
 
 abbrev pub known_types : List ℕ
-known_types = 0x8100 ∷ 0x0800 ∷ 0x88a8 ∷ 0x86dd ∷ 0x0806 ∷ 0x8863 ∷ 0x8864 ∷ 0x888e ∷ 0x88b5 ∷ 0x88b6 ∷ []
+known_types = 0x8100 ∷ 0x0800 ∷ 0x88a8 ∷ 0x86dd ∷ 0x0806 ∷ 0x8863 ∷ 0x8864 ∷ 0x888e ∷ 0x88b5 ∷ 0x88b6 ∷ 0x88b7 ∷ 0x9000 ∷ []
 
--- one of some values is another, or like it
-abbrev pub Covers : List Row → List ℕ → Values → Field → List ℕ → ℕ → Type 0
-Covers rows places values field choices value = HasOne (λ c. (c ≡ value) ⊎ (are_alike rows places values field c value ≡ true)) choices
+-- one of some values is another, or like it: this where it begins no tag, or there is one side
+abbrev pub Covers : List Side → ℕ → List Row → List ℕ → Values → Field → List ℕ → ℕ → Type 0
+Covers sides count rows places values field choices value =
+    HasOne (λ c. (c ≡ value) ⊎ ((begins_tag sides value ≡ false ⊎ count ≤ 1) × (are_alike rows places values field c value ≡ true))) choices

@@ -1,10 +1,9 @@
 -- VIDs that stand for all, and the same bits of a packet, which hold its DSCP.
-use Rattle.std.proofs.Common.{◌≡◌, ◌≢◌, ◌++◌, ℕ, ◌+◌, ◌-◌, ◌*◌, ◌/◌, ◌%◌, ◌^◌, ◌<◌, ◌≤◌, ◌==◌, ◌&&◌, ◌||◌, Bool, true, false, List, [], ◌∷◌, Option, Some, None, arith, refl, ap, sym, subst, length, take, get_or, nat_lt, if◌then◌else◌, ◌⊎◌, inl, inr, ◌∙◌}
-use Rattle.std.specs.Prelude.{All, Any, Contains, slice_get}
-use Rattle.std.specs.Option.{option_and_then}
+use Rattle.std.proofs.Common.{◌≡◌, ◌≢◌, ◌++◌, ℕ, ◌+◌, ◌*◌, ◌/◌, ◌%◌, ◌^◌, ◌<◌, ◌≤◌, ◌==◌, ◌&&◌, ◌||◌, Bool, true, false, List, [], ◌∷◌, Option, Some, None, arith, refl, ap, sym, subst, length, take, get_or, nat_lt, if◌then◌else◌, ◌⊎◌, inl, inr, ◌∙◌}
+use Rattle.std.specs.Prelude.{All, Contains}
 use Rattle.std.proofs.lemmas.Bool.{eqb-false, eqb-true, ltb-false, ltb-true, ne_eqb, true≢false}
 use Rattle.std.proofs.lemmas.Option.{same_Some}
-use Rattle.std.proofs.lemmas.List.Elements.{All-cons, All-nil, All-push, All-weaker, Contains-push}
+use Rattle.std.proofs.lemmas.List.Elements.{All-weaker}
 use Rattle.frame_rows.specs.declared.ask.Ask.{Ask}
 use Rattle.frame_rows.specs.declared.ask.Ask.TheVariants.{Any as Anything, Exactly, Between, TagType, NoTagType, Ethertype}
 use Rattle.frame_rows.specs.declared.field.Field.{Field}
@@ -19,28 +18,23 @@ use Rattle.frame_rows.specs.declared.row.Ends.{Ends}
 use Rattle.frame_rows.specs.declared.row.Ends.TheVariants as ends
 use Rattle.frame_rows.specs.declared.row.Row.{Row}
 use Rattle.frame_rows.specs.Ask.{admits}
-use Rattle.frame_rows.specs.Alike.{ends_read_all}
+use Rattle.frame_rows.specs.Alike.{ends_read_all, marking_reads_all, row_reads_all}
 use Rattle.frame_classes.specs.Choices.{IsUnnamed, is_asked, is_named, is_read, is_some_value, is_value, test_at}
 use Rattle.frame_rows.specs.Field.{end_of, fields, place_of, type_behind, value_at, vid_behind, with_value}
 use Rattle.frame_rows.specs.Fits.{asks_number}
 use Rattle.frame_rows.specs.Words.{limit_of, packet_before, type_before}
 use Rattle.frame_rows.specs.Source.{bits_by, dscp_behind, dscp_in, has_dscp, mapped, packet_of}
-use Rattle.frame_rows.specs.Row.{ask_at, dscp_reads, ends_read, named_by}
-use Rattle.frame_classes.specs.Splitting.{AreChoices, AreLeft, CanBe, IsNear, IsOf, Stands, rows_at}
+use Rattle.frame_rows.specs.Row.{ask_at, dscp_reads, ends_read, marking_reads, named_by}
+use Rattle.frame_classes.specs.Splitting.{CanBe, HasSeveral, IsCovered, IsNear, IsOf, Stands, StandsFor}
+use Rattle.frame_classes.specs.Left.{rows_at}
+use Rattle.frame_rows.specs.Sight.{Side}
+use Rattle.frame_classes.proofs.Several.{several_weaker}
 use Rattle.frame_classes.proofs.Near.{value-with_other, value-with_same}
 use Rattle.frame_classes.proofs.Numbers.{none_left, still_left}
-use Rattle.frame_classes.proofs.SameReads.{ReadAlike, reads_alike}
-use Rattle.frame_classes.proofs.Standing.{all_left, field_within, other_can_be, same_stands}
+use Rattle.frame_classes.proofs.SameReads.{MarkAlike, ReadAlike, marks_alike, reads_alike}
+use Rattle.frame_classes.proofs.Standing.{CoverBy, IsCase, all_left, asks_numbers, other_can_be}
 
 -- ---- twelve bits with a DSCP
-
-pub bits_dscp : (packet : Packet) (dscp other : ℕ) → has_dscp packet ≡ true → dscp < 64 → other < 64 → dscp_in packet (bits_by packet dscp other) ≡ Some dscp
-bits_dscp Ipv4 dscp other has small little = ap Some (by_parts ((5 + other / 4) % 16) (other % 4) (omega arith))
-  where
-    by_parts : (high low : ℕ) → low < 4 → (high * 0x100 + dscp * 4 + low) / 2 ^ 2 % 2 ^ 6 ≡ dscp
-    by_parts high low less = omega arith
-bits_dscp Ipv6 dscp other has small little = ap Some (omega arith)
-bits_dscp Other dscp other has small little = absurd (true≢false (sym has))
 
 -- all such bits are looked at
 pub bits_found : (packet : Packet) (dscp vid : ℕ) → has_dscp packet ≡ true → vid < 2 ^ 12 → dscp_in packet vid ≡ Some dscp
@@ -70,6 +64,20 @@ bits_found Ipv6 dscp vid has small is =
     (vid % 64, (omega arith, omega arith))
 bits_found Other dscp vid has small is = absurd (true≢false (sym has))
 
+-- they are different
+pub bits_apart : (packet : Packet) (dscp one other : ℕ) → dscp < 64 → one < other → other < 64 → bits_by packet dscp one ≢ bits_by packet dscp other
+bits_apart Ipv4 dscp one other small less within same =
+    by_parts ((5 + one / 4) % 16) ((5 + other / 4) % 16) (one % 4) (other % 4) refl refl refl refl same
+  where
+    by_parts : (high high' low low' : ℕ) → high ≡ (5 + one / 4) % 16 → high' ≡ (5 + other / 4) % 16 → low ≡ one % 4 → low' ≡ other % 4
+        → high * 0x100 + dscp * 4 + low ≡ high' * 0x100 + dscp * 4 + low' → ⊥
+    by_parts high high' low low' p p' q q' e =
+        let high_same : high ≡ high' = omega arith in
+        let low_same : low ≡ low' = omega arith in
+        omega arith
+bits_apart Ipv6 dscp one other small less within same = omega arith
+bits_apart Other dscp one other small less within same = omega arith
+
 -- which DSCP is in them
 pub dscp_small : (packet : Packet) (vid : ℕ) → has_dscp packet ≡ true → (dscp : ℕ) × ((dscp < 64) × (dscp_in packet vid ≡ Some dscp))
 dscp_small Ipv4 vid has = (vid / 2 ^ 2 % 2 ^ 6, (omega arith, refl))
@@ -83,19 +91,6 @@ no_dscp Ipv6 one other h = absurd (true≢false h)
 no_dscp Other one other h = refl
 
 -- ---- VIDs that are named
-
--- what the row at a place names
-pub named_there : (rows : List Row) (place : ℕ) (field : Field) (value : ℕ) (found : Option ℕ)
-    → found ≡ option_and_then (λ (row : Row). named_by (ask_at row field)) (slice_get rows place)
-    → test_at (λ row. is_value value (named_by (ask_at row field))) false rows place ≡ is_value value found
-named_there rows place field value found is = by_row (slice_get rows place) refl
-  where
-    by_row : (row : Option Row) → slice_get rows place ≡ row → test_at (λ row. is_value value (named_by (ask_at row field))) false rows place ≡ is_value value found
-    by_row None there = rw (is, there) refl
-    by_row (Some row) there = rw (is, there) refl
-
-pub only_that : (value vid : ℕ) → is_value value (Some vid) ≡ true → vid ≡ value
-only_that value vid h = eqb-true vid value h
 
 or_either : (a b : Bool) → (a || b) ≡ true → (a ≡ true) ⊎ (b ≡ true)
 or_either true b h = inl refl
@@ -235,38 +230,81 @@ row_by_dscp (ends.ByPriority source) field values one other behind early within 
         rw is refl
     by_source (Dscp d) h = reads_by_dscp d field values one other behind early within h
 
+marked_by_dscp : (m : Option DscpSource) (field : Field) (values : Values) (one other : ℕ) → 3 < place_of field → place_of field < 7
+    → place_of field < length values.values
+    → (marking_reads_all field m ≡ true → dscp_in (packet_before field values) one ≡ dscp_in (packet_before field values) other)
+    → marking_reads m values field one ≡ marking_reads m values field other
+marked_by_dscp None field values one other behind early within same = refl
+marked_by_dscp (Some source) field values one other behind early within same = reads_by_dscp source field values one other behind early within same
+
 -- ---- one that isn't named stands for all of its DSCP
 
-unnamed_stands : (rows : List Row) (field : Field) (values others : Values) (places : List ℕ) (value : ℕ)
-    → AreLeft rows (take (place_of field) fields) values places → All (λ row. asks_number (ask_at row field) ≡ true) rows
-    → IsNear rows (take (place_of field) fields) values others → length values.values ≡ 11 → 3 < place_of field → place_of field < 7
+-- what is known of a field with a VID, and of the rows that are left
+pub record IsVidCase (sides : List Side) (rows : List Row) (field : Field) (values : Values) (places : List ℕ) : Type 0 where
+  pub rows_are : IsCase sides rows (take (place_of field) fields) values places
+  pub eleven : length values.values ≡ 11
+  pub behind : 3 < place_of field
+  pub early : place_of field < 7
+  pub long : end_of field ≤ value_at Length values
+
+-- rows that depend on a DSCP have the same
+abbrev pub SameDscp : List Row → Field → Values → ℕ → ℕ → Type 0
+SameDscp left field values one other =
+    All (λ row. row_reads_all field row ≡ true → dscp_in (packet_before field values) one ≡ dscp_in (packet_before field values) other) left
+
+unnamed_stands : (sides : List Side) (rows : List Row) (field : Field) (values others : Values) (places : List ℕ) (value : ℕ)
+    → IsVidCase sides rows field values places → IsNear rows (take (place_of field) fields) values others
     → All (λ row. is_value value (named_by (ask_at row field)) ≡ false) (rows_at rows places)
     → All (λ row. is_value (value_at field others) (named_by (ask_at row field)) ≡ false) (rows_at rows places)
-    → All (λ row. ends_read_all field row.ends ≡ true
-    → dscp_in (packet_before field values) value ≡ dscp_in (packet_before field values) (value_at field others)) (rows_at rows places)
+    → SameDscp (rows_at rows places) field values value (value_at field others)
     → Stands (rows_at rows places) field values others value
-unnamed_stands rows field values others places value left numbers near eleven behind early unnamed other_unnamed same =
-    record {
-      each = λ k d h.
-          let row = get_or (rows_at rows places) k d in
-          record {
-            admits = admits_unnamed (ask_at row field) value (value_at field others) (asks k d h) (unnamed k d h) (other_unnamed k d h);
-            reads = λ _.
-                row_by_dscp row.ends field values value (value_at field others) behind early (omega (arith, eleven)) (same k d h)
-                ∙ reads_alike row field values others (omega (arith, eleven)) (alike k d h);
-          };
-      longer = λ first. absurd (omega arith);
-    }
+unnamed_stands sides rows field values others places value is near unnamed other_unnamed same =
+    record { each = each; longer = λ first. absurd (omega (arith, is.behind)) }
   where
     asks : All (λ row. asks_number (ask_at row field) ≡ true) (rows_at rows places)
-    asks = still_left (λ row. asks_number (ask_at row field) ≡ true) rows (take (place_of field) fields) values places left numbers
+    asks =
+        still_left (λ row. asks_number (ask_at row field) ≡ true) rows (take (place_of field) fields) values places is.rows_are.left
+        (asks_numbers sides rows field is.rows_are.fits is.behind)
 
     alike : All (λ row. ReadAlike row (take (place_of field) fields) values others) (rows_at rows places)
     alike =
-        all_left (λ row. ReadAlike row (take (place_of field) fields) values others) rows (take (place_of field) fields) values others places left near
-        (λ row h. h)
+        all_left (λ row. ReadAlike row (take (place_of field) fields) values others) rows (take (place_of field) fields) values others places
+        is.rows_are.left near (λ row read marked. read)
 
-vid_limit : (field : Field) → 3 < place_of field → place_of field < 7 → limit_of field ≡ 2 ^ 12
+    marked_alike : All (λ row. MarkAlike row (take (place_of field) fields) values others) (rows_at rows places)
+    marked_alike =
+        all_left (λ row. MarkAlike row (take (place_of field) fields) values others) rows (take (place_of field) fields) values others places
+        is.rows_are.left near (λ row read marked. marked)
+
+    within : place_of field < length values.values
+    within =
+        let early = is.early in
+        omega (arith, early, is.eleven)
+
+    each : All (λ row. StandsFor row field values value others (value_at field others)) (rows_at rows places)
+    each k d h =
+        let row = get_or (rows_at rows places) k d in
+        record {
+          admits = admits_unnamed (ask_at row field) value (value_at field others) (asks k d h) (unnamed k d h) (other_unnamed k d h);
+          reads = λ _.
+              row_by_dscp row.ends field values value (value_at field others) is.behind is.early within
+              (λ read. same k d h (or_first (ends_read_all field row.ends) (marking_reads_all field row.marking) read))
+              ∙ reads_alike row field values others within (alike k d h);
+          marks = λ _.
+              marked_by_dscp row.marking field values value (value_at field others) is.behind is.early within
+              (λ read. same k d h (or_second (ends_read_all field row.ends) (marking_reads_all field row.marking) read))
+              ∙ marks_alike row field values others within (marked_alike k d h);
+        }
+      where
+        or_first : (a b : Bool) → a ≡ true → (a || b) ≡ true
+        or_first true b h = refl
+        or_first false b h = absurd (true≢false (sym h))
+
+        or_second : (a b : Bool) → b ≡ true → (a || b) ≡ true
+        or_second true b h = refl
+        or_second false b h = h
+
+pub vid_limit : (field : Field) → 3 < place_of field → place_of field < 7 → limit_of field ≡ 2 ^ 12
 vid_limit Length behind early = absurd (omega arith)
 vid_limit FirstType behind early = absurd (omega arith)
 vid_limit SecondType behind early = absurd (omega arith)
@@ -279,22 +317,11 @@ vid_limit SecondPriority behind early = absurd (omega arith)
 vid_limit FirstEligible behind early = absurd (omega arith)
 vid_limit SecondEligible behind early = absurd (omega arith)
 
--- what is known of a field with a VID, and of the rows that are left
-pub record IsVidCase (rows : List Row) (field : Field) (values : Values) (places : List ℕ) : Type 0 where
-  pub asks : All (λ row. asks_number (ask_at row field) ≡ true) rows
-  pub left : AreLeft rows (take (place_of field) fields) values places
-  pub eleven : length values.values ≡ 11
-  pub behind : 3 < place_of field
-  pub early : place_of field < 7
-  pub long : end_of field ≤ value_at Length values
-
-can_be : (rows : List Row) (field : Field) (values : Values) (places : List ℕ) (least value : ℕ) → IsVidCase rows field values places → value < 2 ^ 12
-    → CanBe least (value_at Length values) field value
-can_be rows field values places least value is small =
-    let behind = is.behind in
-    let long = is.long in
+can_be : (field : Field) (values : Values) (least value : ℕ) → 3 < place_of field → place_of field < 7 → end_of field ≤ value_at Length values
+    → value < 2 ^ 12 → CanBe least (value_at Length values) field value
+can_be field values least value behind early long small =
     record {
-      below = subst (λ (n : ℕ). value < n) (sym (vid_limit field is.behind is.early)) small;
+      below = subst (λ (n : ℕ). value < n) (sym (vid_limit field behind early)) small;
       absent = λ short. absurd (omega arith);
       long = λ first. absurd (omega arith);
     }
@@ -314,116 +341,134 @@ nothing_named rows field places value not_asked =
 -- a DSCP isn't there, or isn't read
 same_by_none : (rows : List Row) (field : Field) (values : Values) (places : List ℕ) (one other : ℕ)
     → (has_dscp (packet_before field values) && is_read rows places field) ≡ false
-    → All (λ row. ends_read_all field row.ends ≡ true → dscp_in (packet_before field values) one ≡ dscp_in (packet_before field values) other) (rows_at rows places)
+    → SameDscp (rows_at rows places) field values one other
 same_by_none rows field values places one other h = by_packet (has_dscp (packet_before field values)) refl h
   where
     by_packet : (b : Bool) → has_dscp (packet_before field values) ≡ b → (has_dscp (packet_before field values) && is_read rows places field) ≡ false
-        → All (λ row. ends_read_all field row.ends ≡ true → dscp_in (packet_before field values) one ≡ dscp_in (packet_before field values) other) (rows_at rows places)
+        → SameDscp (rows_at rows places) field values one other
     by_packet true is none =
-        All-weaker (λ row. ends_read_all field row.ends ≡ false)
-        (λ row. ends_read_all field row.ends ≡ true → dscp_in (packet_before field values) one ≡ dscp_in (packet_before field values) other)
+        All-weaker (λ row. row_reads_all field row ≡ false)
+        (λ row. row_reads_all field row ≡ true → dscp_in (packet_before field values) one ≡ dscp_in (packet_before field values) other)
         (λ row not_read reads. absurd (true≢false (sym reads ∙ not_read))) (rows_at rows places)
-        (none_left (λ row. ends_read_all field row.ends) rows places (rw is at none))
+        (none_left (λ row. row_reads_all field row) rows places (rw is at none))
     by_packet false is none = λ k d h _. no_dscp (packet_before field values) one other is
 
-pub plain_choices : (rows : List Row) (least : ℕ) (field : Field) (values : Values) (places choices : List ℕ) (value : ℕ) → IsVidCase rows field values places
-    → (has_dscp (packet_before field values) && is_read rows places field) ≡ false → is_asked rows places field ≡ false → value < limit_of field
-    → choices ≡ value ∷ [] → AreChoices rows (rows_at rows places) least field values choices
-plain_choices rows least field values places choices value is not_told not_asked small only =
-    subst (λ (cs : List ℕ). AreChoices rows (rows_at rows places) least field values cs) (sym only) (record {
-      within = λ k d h. one k d h;
-      each = λ others of near. (
-        0,
-        value,
-        omega arith,
-        refl,
-        unnamed_stands rows field values others places value is.left is.asks near is.eleven is.behind is.early
-            (nothing_named rows field places value not_asked) (nothing_named rows field places (value_at field others) not_asked)
-            (same_by_none rows field values places value (value_at field others) not_told),
-      );
-    })
-  where
-    can : CanBe least (value_at Length values) field value
-    can = can_be rows field values places least value is (subst (λ (n : ℕ). value < n) (vid_limit field is.behind is.early) small)
-
-    one : All (CanBe least (value_at Length values) field) (value ∷ [])
-    one = All-cons (CanBe least (value_at Length values) field) value [] can (All-nil (CanBe least (value_at Length values) field))
-
--- ---- where some are named
-
--- each that is named, and beside them one that isn't
-pub named_choices : (rows : List Row) (least : ℕ) (field : Field) (values : Values) (places choices : List ℕ) → IsVidCase rows field values places
-    → All (λ c. c < 2 ^ 12) choices → ((c : ℕ) → c < 2 ^ 12 → is_named rows places field c ≡ true → Contains choices c)
-    → ((v : ℕ) → v < 2 ^ 12 → is_named rows places field v ≡ false
-    → Any (λ c. (is_named rows places field c ≡ false)
-    × All (λ row. ends_read_all field row.ends ≡ true → dscp_in (packet_before field values) c ≡ dscp_in (packet_before field values) v) (rows_at rows places)) choices)
-    → AreChoices rows (rows_at rows places) least field values choices
-named_choices rows least field values places choices is fit named unnamed =
+-- several, each of which stands for all
+pub plain_choices : (sides : List Side) (rows : List Row) (least : ℕ) (field : Field) (values : Values) (places choices : List ℕ) (count : ℕ)
+    → IsVidCase sides rows field values places → count ≡ length sides
+    → (has_dscp (packet_before field values) && is_read rows places field) ≡ false → is_asked rows places field ≡ false
+    → All (λ c. c < 2 ^ 12) choices → HasSeveral count (λ c. Contains choices c) ⊎ ((v : ℕ) → v < 2 ^ 12 → Contains choices v)
+    → CoverBy sides rows places least field values choices
+plain_choices sides rows least field values places choices count is counted not_told not_asked fit several =
     record {
-      within = All-weaker (λ c. c < 2 ^ 12) (CanBe least (value_at Length values) field) (λ c small. can_be rows field values places least c is small) choices fit;
+      within = All-weaker (λ c. c < 2 ^ 12) (CanBe least (value_at Length values) field)
+          (λ c small. can_be field values least c is.behind is.early is.long small) choices fit;
       each = each;
     }
   where
     each : (others : Values) → IsOf least fields others → IsNear rows (take (place_of field) fields) values others
-        → Any (Stands (rows_at rows places) field values others) choices
+        → IsCovered sides places (rows_at rows places) field values others choices
+    each others of near = by_case several
+      where
+        stands : (c : ℕ) → Stands (rows_at rows places) field values others c
+        stands c =
+            unnamed_stands sides rows field values others places c is near (nothing_named rows field places c not_asked)
+            (nothing_named rows field places (value_at field others) not_asked) (same_by_none rows field values places c (value_at field others) not_told)
+
+        by_case : HasSeveral count (λ c. Contains choices c) ⊎ ((v : ℕ) → v < 2 ^ 12 → Contains choices v)
+            → IsCovered sides places (rows_at rows places) field values others choices
+        by_case (inl some) =
+            inr (inl (
+              is.behind,
+              subst (λ (n : ℕ). HasSeveral n (λ c. Contains choices c × Stands (rows_at rows places) field values others c)) counted
+                  (several_weaker count (λ c. Contains choices c) (λ c. Contains choices c × Stands (rows_at rows places) field values others c)
+                  (λ c there. (there, stands c)) some),
+            ))
+        by_case (inr all) = inl (all (value_at field others) (other_small least field others is.behind is.early of))
+
+-- ---- where some are named
+
+-- each that is named, and beside them several that aren't
+named_choices : (sides : List Side) (rows : List Row) (least : ℕ) (field : Field) (values : Values) (places choices : List ℕ) (count : ℕ)
+    → IsVidCase sides rows field values places → count ≡ length sides
+    → All (λ c. c < 2 ^ 12) choices → ((c : ℕ) → c < 2 ^ 12 → is_named rows places field c ≡ true → Contains choices c)
+    → ((v : ℕ) → v < 2 ^ 12 → is_named rows places field v ≡ false → Contains choices v
+    ⊎ HasSeveral count (λ c. Contains choices c × ((is_named rows places field c ≡ false) × SameDscp (rows_at rows places) field values c v)))
+    → CoverBy sides rows places least field values choices
+named_choices sides rows least field values places choices count is counted fit named unnamed =
+    record {
+      within = All-weaker (λ c. c < 2 ^ 12) (CanBe least (value_at Length values) field)
+          (λ c small. can_be field values least c is.behind is.early is.long small) choices fit;
+      each = each;
+    }
+  where
+    each : (others : Values) → IsOf least fields others → IsNear rows (take (place_of field) fields) values others
+        → IsCovered sides places (rows_at rows places) field values others choices
     each others of near = by_name (is_named rows places field (value_at field others)) refl
       where
         small : value_at field others < 2 ^ 12
         small = other_small least field others is.behind is.early of
 
-        by_name : (b : Bool) → is_named rows places field (value_at field others) ≡ b → Any (Stands (rows_at rows places) field values others) choices
-        by_name true h =
-            let there = named (value_at field others) small h in
-            let behind = is.behind in (
-              there.0,
-              value_at field others,
-              there.1,
-              there.2,
-              same_stands rows field values others (value_at field others) places is.left near is.eleven (field_within field) refl (λ first. absurd (omega arith)),
-            )
-        by_name false h = by_one (unnamed (value_at field others) small h)
+        stands : is_named rows places field (value_at field others) ≡ false → (c : ℕ)
+            → Contains choices c × ((is_named rows places field c ≡ false) × SameDscp (rows_at rows places) field values c (value_at field others))
+            → Contains choices c × Stands (rows_at rows places) field values others c
+        stands h c (there, (free, same)) = (
+          there,
+          unnamed_stands sides rows field values others places c is near (none_left (λ row. is_value c (named_by (ask_at row field))) rows places free)
+              (none_left (λ row. is_value (value_at field others) (named_by (ask_at row field))) rows places h) same,
+        )
+
+        by_name : (b : Bool) → is_named rows places field (value_at field others) ≡ b
+            → IsCovered sides places (rows_at rows places) field values others choices
+        by_name true h = inl (named (value_at field others) small h)
+        by_name false h = by_case (unnamed (value_at field others) small h)
           where
-            by_one : Any (λ c. (is_named rows places field c ≡ false)
-                × All (λ row. ends_read_all field row.ends ≡ true
-                → dscp_in (packet_before field values) c ≡ dscp_in (packet_before field values) (value_at field others)) (rows_at rows places)) choices
-                → Any (Stands (rows_at rows places) field values others) choices
-            by_one (i, c, within, there, (free, same)) = (
-              i,
-              c,
-              within,
-              there,
-              unnamed_stands rows field values others places c is.left is.asks near is.eleven is.behind is.early
-                  (none_left (λ row. is_value c (named_by (ask_at row field))) rows places free)
-                  (none_left (λ row. is_value (value_at field others) (named_by (ask_at row field))) rows places h) same,
-            )
+            Good : ℕ → Type 0
+            Good c = Contains choices c × ((is_named rows places field c ≡ false) × SameDscp (rows_at rows places) field values c (value_at field others))
+
+            by_case : Contains choices (value_at field others) ⊎ HasSeveral count Good
+                → IsCovered sides places (rows_at rows places) field values others choices
+            by_case (inl there) = inl there
+            by_case (inr some) =
+                inr (inl (
+                  is.behind,
+                  subst (λ (n : ℕ). HasSeveral n (λ c. Contains choices c × Stands (rows_at rows places) field values others c)) counted
+                      (several_weaker count Good (λ c. Contains choices c × Stands (rows_at rows places) field values others c) (stands h) some),
+                ))
+
+either : {X Y Z : Type 0} → (Y → Z) → X ⊎ Y → X ⊎ Z
+either f (inl x) = inl x
+either f (inr y) = inr (f y)
 
 -- where no DSCP is read
-pub by_name_choices : (rows : List Row) (least : ℕ) (field : Field) (values : Values) (places choices : List ℕ) → IsVidCase rows field values places
+pub by_name_choices : (sides : List Side) (rows : List Row) (least : ℕ) (field : Field) (values : Values) (places choices : List ℕ) (count : ℕ)
+    → IsVidCase sides rows field values places → count ≡ length sides
     → (has_dscp (packet_before field values) && is_read rows places field) ≡ false
     → All (λ c. c < 2 ^ 12) choices → ((c : ℕ) → c < 2 ^ 12 → is_named rows places field c ≡ true → Contains choices c)
-    → ((v : ℕ) → v < 2 ^ 12 → is_named rows places field v ≡ false → Any (λ c. is_named rows places field c ≡ false) choices)
-    → AreChoices rows (rows_at rows places) least field values choices
-by_name_choices rows least field values places choices is not_told fit named others =
-    named_choices rows least field values places choices is fit named (λ v small h. free v (others v small h))
-  where
-    free : (v : ℕ) → Any (λ c. is_named rows places field c ≡ false) choices
-        → Any (λ c. (is_named rows places field c ≡ false)
-        × All (λ row. ends_read_all field row.ends ≡ true → dscp_in (packet_before field values) c ≡ dscp_in (packet_before field values) v) (rows_at rows places)) choices
-    free v (i, c, within, there, h) = (i, c, within, there, (h, same_by_none rows field values places c v not_told))
+    → ((v : ℕ) → v < 2 ^ 12 → is_named rows places field v ≡ false
+    → Contains choices v ⊎ HasSeveral count (λ c. Contains choices c × (is_named rows places field c ≡ false)))
+    → CoverBy sides rows places least field values choices
+by_name_choices sides rows least field values places choices count is counted not_told fit named others =
+    named_choices sides rows least field values places choices count is counted fit named
+    (λ v small h.
+    either (several_weaker count (λ c. Contains choices c × (is_named rows places field c ≡ false))
+    (λ c. Contains choices c × ((is_named rows places field c ≡ false) × SameDscp (rows_at rows places) field values c v))
+    (λ c good. (good.0, (good.1, same_by_none rows field values places c v not_told)))) (others v small h))
 
 -- where a DSCP is
-pub by_dscp_choices : (rows : List Row) (least : ℕ) (field : Field) (values : Values) (places choices : List ℕ) → IsVidCase rows field values places
+pub by_dscp_choices : (sides : List Side) (rows : List Row) (least : ℕ) (field : Field) (values : Values) (places choices : List ℕ) (count : ℕ)
+    → IsVidCase sides rows field values places → count ≡ length sides
     → All (λ c. c < 2 ^ 12) choices → ((c : ℕ) → c < 2 ^ 12 → is_named rows places field c ≡ true → Contains choices c)
-    → ((v : ℕ) → v < 2 ^ 12 → is_named rows places field v ≡ false
-    → Any (IsUnnamed rows places field (packet_before field values) (dscp_in (packet_before field values) v)) choices)
-    → AreChoices rows (rows_at rows places) least field values choices
-by_dscp_choices rows least field values places choices is fit named others =
-    named_choices rows least field values places choices is fit named (λ v small h. free v (others v small h))
-  where
-    free : (v : ℕ) → Any (IsUnnamed rows places field (packet_before field values) (dscp_in (packet_before field values) v)) choices
-        → Any (λ c. (is_named rows places field c ≡ false)
-        × All (λ row. ends_read_all field row.ends ≡ true → dscp_in (packet_before field values) c ≡ dscp_in (packet_before field values) v) (rows_at rows places)) choices
-    free v (i, c, within, there, h) = (i, c, within, there, (h.unnamed, λ k d inside _. h.same))
+    → ((v : ℕ) → v < 2 ^ 12 → is_named rows places field v ≡ false → Contains choices v
+    ⊎ HasSeveral count (λ c. Contains choices c × IsUnnamed rows places field (packet_before field values) (dscp_in (packet_before field values) v) c))
+    → CoverBy sides rows places least field values choices
+by_dscp_choices sides rows least field values places choices count is counted fit named others =
+    named_choices sides rows least field values places choices count is counted fit named
+    (λ v small h.
+    either (several_weaker count
+    (λ c. Contains choices c × IsUnnamed rows places field (packet_before field values) (dscp_in (packet_before field values) v) c)
+    (λ c. Contains choices c × ((is_named rows places field c ≡ false) × SameDscp (rows_at rows places) field values c v))
+    (λ c good. (good.0, (good.1.unnamed, λ k d inside _. good.1.same)))) (others v small h))
 
 -- ---- looking at values
 
@@ -437,38 +482,10 @@ one_more P count before here n h = by_place (nat_lt n count) refl
         let same : count ≡ n = omega arith in
         subst P same here
 
--- each VID is behind another, or the first behind the last
-pub every_vid : (P : ℕ → Type 0) (count : ℕ) → 4096 ≤ count → ((n : ℕ) → n < count → P ((n + 1) % 4096)) → (vid : ℕ) → vid < 2 ^ 12 → P vid
-every_vid P count all each vid small = by_first (vid == 0) refl
-  where
-    by_first : (b : Bool) → (vid == 0) ≡ b → P vid
-    by_first true is = subst P (sym (eqb-true vid 0 is)) (each 4095 (omega arith))
-    by_first false is =
-        let apart : vid ≢ 0 = eqb-false vid 0 is in
-        by_one_before (vid - 1) (omega arith)
-      where
-        by_one_before : (n : ℕ) → n + 1 ≡ vid → P vid
-        by_one_before n same =
-            let back : (n + 1) % 4096 ≡ vid = omega arith in
-            subst P back (each n (omega arith))
-
--- what is put behind others is there
-pub any_pushed : (P : ℕ → Type 0) (choices more : List ℕ) (value : ℕ) → more ≡ choices ++ value ∷ [] → P value → Any P more
-any_pushed P choices more value is holds =
-    let there = subst (λ (cs : List ℕ). Contains cs value) (sym is) (Contains-push choices value) in
-    (there.0, value, there.1, there.2, holds)
-
-pub any_kept : (P : ℕ → Type 0) (choices more : List ℕ) → ((c : ℕ) → Contains choices c → Contains more c) → Any P choices → Any P more
-any_kept P choices more kept (i, c, within, is, holds) =
-    let there = kept c (i, within, is) in
-    (there.0, c, there.1, there.2, holds)
-
-pub fit_pushed : (choices more : List ℕ) (value : ℕ) → more ≡ choices ++ value ∷ [] → value < 2 ^ 12 → All (λ c. c < 2 ^ 12) choices → All (λ c. c < 2 ^ 12) more
-fit_pushed choices more value is small before =
-    subst (All (λ (c : ℕ). c < 2 ^ 12)) (sym is) (All-push (λ (c : ℕ). c < 2 ^ 12) choices value before small)
-
-pub not_both : (b : Bool) → b ≡ true → b ≡ false → ⊥
-not_both b p q = true≢false (sym p ∙ q)
+-- where bits are put that aren't named
+pub put_bits : (named : ℕ → Bool) (choices more : List ℕ) (put bits : ℕ) → put ≡ bits → more ≡ (if named put then choices else choices ++ put ∷ [])
+    → more ≡ (if named bits then choices else choices ++ bits ∷ [])
+put_bits named choices more put bits is h = subst (λ (n : ℕ). more ≡ (if named n then choices else choices ++ n ∷ [])) is h
 
 -- ---- what is named, place by place
 
@@ -484,9 +501,3 @@ named_further rows places rest place field choices more is kept here c small (in
         → Contains more c ⊎ (is_named rows rest field c ≡ true)
     by_where (inl first) = inl (here c small first)
     by_where (inr later) = inr later
-
-pub named_all : (rows : List Row) (rest : List ℕ) (field : Field) (choices : List ℕ) → rest ≡ [] → (c : ℕ)
-    → Contains choices c ⊎ (is_named rows rest field c ≡ true) → Contains choices c
-named_all rows rest field choices none c (inl there) = there
-named_all rows rest field choices none c (inr later) =
-    absurd (none_named rows field c (subst (λ (ps : List ℕ). is_named rows ps field c ≡ true) none later))

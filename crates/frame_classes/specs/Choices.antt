@@ -8,7 +8,7 @@ use Rattle.frame_rows.specs.declared.source.Packet.{Packet}
 use Rattle.frame_rows.specs.declared.row.Row.{Row}
 use Rattle.frame_rows.specs.Field.{counted_length}
 use Rattle.frame_rows.specs.Source.{dscp_in}
-use Rattle.frame_rows.specs.Alike.{ends_read_all, is_alike}
+use Rattle.frame_rows.specs.Alike.{is_alike, row_reads_all}
 use Rattle.frame_rows.specs.Row.{ask_at, named_by}
 
 -- a test of the row at a place, if one stands there
@@ -35,7 +35,7 @@ abbrev pub is_asked : List Row → List ℕ → Field → Bool
 is_asked rows left field = list_any (test_at (λ row. is_some_value (named_by (ask_at row field))) false rows) left
 
 abbrev pub is_read : List Row → List ℕ → Field → Bool
-is_read rows left field = list_any (test_at (λ row. ends_read_all field row.ends) false rows) left
+is_read rows left field = list_any (test_at (λ row. row_reads_all field row) false rows) left
 
 -- ---- values that are looked at
 

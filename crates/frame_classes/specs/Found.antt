@@ -1,21 +1,21 @@
--- Classes that are found, in their order.
+-- What is told of frames, in its order.
 use Rattle.std.specs.Prelude.{ℕ, List, [], ◌∷◌, if◌then◌else◌, ◌==◌, map, nat_lt}
 use Rattle.std.specs.List.Sorted.{IsStrictlyIncreasing}
-use Rattle.frame_rows.specs.declared.class.FrameClass.{FrameClass}
+use Rattle.frame_classes.specs.declared.told.Told.{Told}
 use Rattle.frame_classes.specs.declared.found.Sample.{Sample}
-use Rattle.frame_rows.specs.Class.{class_number}
+use Rattle.frame_classes.specs.Told.{told_number}
 
 abbrev pub number_of : Sample → ℕ
-number_of sample = class_number sample.class
+number_of sample = told_number sample.told
 
-abbrev pub classes_of : List Sample → List FrameClass
-classes_of samples = map (λ sample. sample.class) samples
+abbrev pub told_of : List Sample → List Told
+told_of samples = map (λ sample. sample.told) samples
 
--- the classes ascend
+-- it ascends
 abbrev pub Ascend : List Sample → Type 0
 Ascend samples = IsStrictlyIncreasing (map number_of samples)
 
--- with a sample in its place, unless its class is there
+-- with a sample in its place, unless what it tells is there
 abbrev pub put_in : Sample → List Sample → List Sample
 put_in new [] = new ∷ []
 put_in new (first ∷ rest) =

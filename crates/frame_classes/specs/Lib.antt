@@ -1,5 +1,11 @@
 pub mod Classes
+pub mod Differences
 pub mod Frame
+pub mod Told
+pub mod Listed
+pub mod Left
+pub mod Beside
+pub mod Settled
 pub mod Found
 pub mod Choices
 pub mod Splitting

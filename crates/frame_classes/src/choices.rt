@@ -1,28 +1,30 @@
 //! Which values of a field stand for all others.
-ghost use Rattle.std.specs.Prelude.{◌≡◌, ◌<◌, ◌≤◌, ◌+◌, ◌^◌, ◌⊎◌, ℕ, [], ◌∷◌, All, Contains, length, slice_get};
-ghost use Rattle.std.specs.List.{list_any};
+ghost use Rattle.std.specs.Prelude.{◌≡◌, ◌<◌, ◌≤◌, ◌+◌, ◌*◌, ◌^◌, ◌⊎◌, ℕ, [], ◌∷◌, All, Contains, length, map, slice_get};
+ghost use Rattle.std.specs.List.{list_any, range_with_len};
 ghost use Rattle.std.specs.Option.{option_and_then, option_copied};
 ghost use Rattle.arrayvec.specs.ArrayVec.{array_vec_len};
 ghost use Rattle.frame_rows.specs.declared.row.Row.{Row};
 ghost use Rattle.frame_rows.specs.Row.{ask_at, named_by};
 
+use crate::settled::are_rows_settled;
+use crate::sides::{MAX_ROWS, Sides};
 use arrayvec::ArrayVec;
 use frame_rows::{Field, LONG, Packet, Row, Values};
 use tag_view::is_tag_type;
 
-/// The most values of a field that are looked at for one case: those that rows name, and one beside them for each DSCP.
-pub(crate) const MAX_CHOICES: usize = 200;
+/// The most values of a field that are looked at for one case: those that rows name, and three beside them for each DSCP.
+pub(crate) const MAX_CHOICES: usize = 600;
 
 /// Values of a field.
 pub(crate) type Choices = ArrayVec<u16, MAX_CHOICES>;
 
 /// Rows, by their places.
-pub(crate) type Left = ArrayVec<u8, 134>;
+pub(crate) type Left = ArrayVec<u16, MAX_ROWS>;
 
-/// Types, as one sends them first: of tags, of packets, and two of which one at least is no input TPID (IEEE 802, the local
-/// experimental Ethertypes).
-const TYPES: [u16; 10] = [
-    0x8100, 0x0800, 0x88a8, 0x86dd, 0x0806, 0x8863, 0x8864, 0x888e, 0x88b5, 0x88b6,
+/// Types, as one sends them first: of tags, of packets, and four of which one at least is no input TPID (IEEE 802, the local
+/// experimental Ethertypes, the one that an organisation extends, and the one of the configuration test).
+const TYPES: [u16; 12] = [
+    0x8100, 0x0800, 0x88a8, 0x86dd, 0x0806, 0x8863, 0x8864, 0x888e, 0x88b5, 0x88b6, 0x88b7, 0x9000,
 ];
 
 /// Lengths, each the greatest of those that nothing tells apart. The first stands for all that are greater, too.
@@ -43,20 +45,25 @@ pub(crate) struct Case<'r> {
     pub(crate) rows: &'r [Row],
     pub(crate) left: &'r Left,
     pub(crate) values: &'r Values,
+    /// The sides whose rows they are.
+    pub(crate) sides: &'r Sides<'r>,
 }
 
 impl<'r> Case<'r> {
-    ghost use Rattle.std.specs.Prelude.{◌&&◌, Any, IfNone, IfSome, IsTrue, Some, true, false, take};
+    ghost use Rattle.std.specs.Prelude.{◌&&◌, ◌++◌, Any, Some, true, false, if◌then◌else◌, take};
     ghost use Rattle.frame_rows.specs.declared.field.Field.TheVariants.{Length};
     ghost use Rattle.frame_rows.specs.Field.{end_of, fields, place_of, value_at};
-    ghost use Rattle.frame_rows.specs.Fits.{asks_length, asks_number, ends_fit, row_fits};
     ghost use Rattle.frame_rows.specs.Words.{limit_of};
     ghost use Rattle.frame_rows.specs.Source.{dscp_in, has_dscp};
-    ghost use Rattle.frame_rows.specs.Alike.{ends_read_all, is_alike};
+    ghost use Rattle.frame_rows.specs.Alike.{is_alike, row_reads_all};
     ghost use Rattle.frame_classes.specs.Choices.{IsTried, IsUnnamed, are_alike, is_asked, is_named, is_read, is_value, test_at};
-    ghost use Rattle.frame_classes.specs.Splitting.{AreChoices, AreLeft, rows_at};
+    ghost use Rattle.frame_classes.specs.Beside.{AreBeside};
+    ghost use Rattle.frame_classes.specs.Left.{AreLeftOf};
+    ghost use Rattle.frame_classes.specs.Settled.{are_settled, is_settled};
+    ghost use Rattle.frame_classes.specs.Told.{side_by};
+    ghost use Rattle.frame_classes.specs.Splitting.{AreCovering, HasSeveral, begins_tag};
 
-    fn row(&self, place: u8) -> Option<&'r Row>
+    fn row(&self, place: u16) -> Option<&'r Row>
         ensures { option_copied result ≡ slice_get self.now.rows.now place }
     {
         self.rows.get(usize::from(place))
@@ -72,7 +79,7 @@ impl<'r> Case<'r> {
             .all(|place| self.is_alike_at(*place, field, one, other))
     }
 
-    fn is_alike_at(&self, place: u8, field: Field, one: u16, other: u16) -> bool
+    fn is_alike_at(&self, place: u16, field: Field, one: u16, other: u16) -> bool
         ensures { result
             ≡ test_at (is_alike self.now.values.now field one other) true self.now.rows.now place }
     {
@@ -101,7 +108,7 @@ impl<'r> Case<'r> {
     }
 
     /// The value of a field that the row at a place names.
-    fn named_at(&self, place: u8, field: Field) -> Option<u16>
+    fn named_at(&self, place: u16, field: Field) -> Option<u16>
         ensures { result ≡ option_and_then (λ (row : Row). named_by (ask_at row field))
             (slice_get self.now.rows.now place) }
     {
@@ -109,15 +116,15 @@ impl<'r> Case<'r> {
         row.named(field)
     }
 
-    /// Whether the frames of a row that is left end by the value of a field.
+    /// Whether the ending of the frames of a row that is left, or the priority of an added tag, depends on each value of a field.
     fn is_read(&self, field: Field) -> bool
         ensures { result ≡ is_read self.now.rows.now self.now.left.now.items field }
     {
         self.left.iter().any(|place| self.is_read_at(*place, field))
     }
 
-    fn is_read_at(&self, place: u8, field: Field) -> bool
-        ensures { result ≡ test_at (λ row. ends_read_all field row.ends) false self.now.rows.now place }
+    fn is_read_at(&self, place: u16, field: Field) -> bool
+        ensures { result ≡ test_at (λ row. row_reads_all field row) false self.now.rows.now place }
     {
         match self.row(place) {
             Some(row) => row.reads_all(field),
@@ -125,20 +132,22 @@ impl<'r> Case<'r> {
         }
     }
 
-    /// Values that stand for all of a field, in frames of at least so many bytes. The input TPID is that of the rows.
-    pub(crate) fn choices(&self, field: Field, input: u16, least: usize) -> Choices
-        requires fit { All (λ row. IsTrue (row_fits input row)) self.now.rows.now }
-        requires left { AreLeft self.now.rows.now (take (place_of field) fields) self.now.values.now
+    /// Values of a field, in frames of at least so many bytes, with which the sides see frames as they do with each other value.
+    pub(crate) fn choices(&self, field: Field, least: usize) -> Choices
+        requires beside { AreBeside self.now.sides.now.sides.now self.now.rows.now
+            self.now.sides.now.ends }
+        requires same { self.now.rows.now ≡ self.now.sides.now.rows.now }
+        requires left { AreLeftOf (map side_by self.now.sides.now.sides.now) (take (place_of field) fields) self.now.values.now
             self.now.left.now.items }
-        requires few { length self.now.left.now.items ≤ 134 }
-        ensures { AreChoices self.now.rows.now (rows_at self.now.rows.now self.now.left.now.items)
+        requires few { length self.now.left.now.items ≤ 402 }
+        ensures { AreCovering (map side_by self.now.sides.now.sides.now) self.now.left.now.items
             least field self.now.values.now result.items }
     {
         if self.values.get(Field::Length) < field.end() {
             return only(0);
         }
         match field {
-            Field::FirstType | Field::SecondType | Field::ThirdType => self.types(field, input),
+            Field::FirstType | Field::SecondType | Field::ThirdType => self.types(field),
             Field::Length => self.lengths(least),
             Field::FirstVid | Field::SecondVid | Field::ThirdVid => self.vids(field),
             Field::FirstPriority | Field::SecondPriority => self.numbers(field, 8),
@@ -148,7 +157,7 @@ impl<'r> Case<'r> {
 
     /// Puts a value behind the others, if it is like none of them.
     fn put(&self, choices: &mut Choices, field: Field, value: u16)
-        requires { array_vec_len choices.old < 200 }
+        requires { array_vec_len choices.old < 600 }
         ensures kept { (c : ℕ) → Contains choices.old.items c → Contains choices.new.items c }
         ensures only { (c : ℕ) → Contains choices.new.items c
             → Contains choices.old.items c ⊎ (c ≡ value) }
@@ -171,51 +180,92 @@ impl<'r> Case<'r> {
             .any(|other| self.are_alike(field, *other, value))
     }
 
-    /// Whether a type begins a tag.
-    fn is_tag(&self, field: Field, input: u16) -> bool {
-        is_tag_type(self.values.get(field), input)
+    /// Whether a type begins a tag for some side.
+    fn begins_tag(&self, ethertype: u16) -> bool
+        ensures { result ≡ begins_tag (map side_by self.now.sides.now.sides.now) ethertype }
+    {
+        self.sides
+            .sides
+            .iter()
+            .any(|side| is_tag_type(ethertype, side.settings.input_tpid))
     }
 
     /// The type that one sends first: of a tag, but behind two tags that of a packet. Where no tag is before it, it is no type, and has the
     /// length of a packet of IPv4 in a frame of 60 bytes (RFC 791, 3.1).
-    fn first_type(&self, field: Field, input: u16) -> u16
+    fn first_type(&self, field: Field) -> u16
         ensures { result < 2 ^ 16 }
     {
         match field {
-            Field::SecondType if !self.is_tag(Field::FirstType, input) => 46,
-            Field::ThirdType if !self.is_tag(Field::SecondType, input) => 42,
+            Field::SecondType if !self.begins_tag(self.values.get(Field::FirstType)) => 46,
+            Field::ThirdType if !self.begins_tag(self.values.get(Field::SecondType)) => 42,
             Field::ThirdType => 0x0800,
             _ => 0x8100,
         }
     }
 
     /// Types, behind the length.
-    fn types(&self, field: Field, input: u16) -> Choices
-        requires fit { All (λ row. IsTrue (row_fits input row)) self.now.rows.now }
-        requires left { AreLeft self.now.rows.now (take (place_of field) fields) self.now.values.now
+    fn types(&self, field: Field) -> Choices
+        requires beside { AreBeside self.now.sides.now.sides.now self.now.rows.now
+            self.now.sides.now.ends }
+        requires left { AreLeftOf (map side_by self.now.sides.now.sides.now) (take (place_of field) fields) self.now.values.now
             self.now.left.now.items }
         requires eleven { length self.now.values.now.values ≡ 11 }
         requires behind { 0 < place_of field }
         requires early { place_of field < 4 }
         requires long { end_of field ≤ value_at Length self.now.values.now }
-        ensures { (least : ℕ) → AreChoices self.now.rows.now
-            (rows_at self.now.rows.now self.now.left.now.items)
+        ensures { (least : ℕ) → AreCovering (map side_by self.now.sides.now.sides.now) self.now.left.now.items
             least field self.now.values.now result.items }
     {
-        let mut choices = only(self.first_type(field, input));
+        let mut choices = only(self.first_type(field));
         for ethertype in &TYPES {
-            self.put(&mut choices, field, *ethertype);
+            self.put_type(&mut choices, field, *ethertype);
         }
-        self.put(&mut choices, field, input);
+        self.put_inputs(&mut choices, field);
         choices
+    }
+
+    /// Puts the input TPID of each side.
+    fn put_inputs(&self, choices: &mut Choices, field: Field)
+        requires beside { AreBeside self.now.sides.now.sides.now self.now.rows.now
+            self.now.sides.now.ends }
+        requires room { length choices.old.items ≤ 500 }
+        ensures kept { (c : ℕ) → Contains choices.old.items c → Contains choices.new.items c }
+        ensures fit { All (λ c. c < 2 ^ 16) choices.old.items → All (λ c. c < 2 ^ 16) choices.new.items }
+        ensures stands { All (λ side. Any (λ c. (c ≡ side.settings.input_tpid)
+            ⊎ ((begins_tag (map side_by self.now.sides.now.sides.now) side.settings.input_tpid ≡ false ⊎ (length self.now.sides.now.sides.now ≤ 1))
+            × (are_alike self.now.rows.now self.now.left.now.items self.now.values.now field c side.settings.input_tpid ≡ true)))
+            choices.new.items) (map side_by self.now.sides.now.sides.now) }
+    {
+        for side in self.sides.sides {
+            self.put_type(choices, field, side.settings.input_tpid);
+        }
+    }
+
+    /// Puts a type behind the others: of several sides each that begins a tag, and any other if it is like none of them.
+    fn put_type(&self, choices: &mut Choices, field: Field, ethertype: u16)
+        requires room { array_vec_len choices.old < 600 }
+        ensures kept { (c : ℕ) → Contains choices.old.items c → Contains choices.new.items c }
+        ensures only { (c : ℕ) → Contains choices.new.items c
+            → Contains choices.old.items c ⊎ (c ≡ ethertype) }
+        ensures stands { Any (λ c. (c ≡ ethertype)
+            ⊎ ((begins_tag (map side_by self.now.sides.now.sides.now) ethertype ≡ false ⊎ (length self.now.sides.now.sides.now ≤ 1))
+            × (are_alike self.now.rows.now self.now.left.now.items self.now.values.now field c ethertype ≡ true)))
+            choices.new.items }
+        ensures len { array_vec_len choices.new ≤ array_vec_len choices.old + 1 }
+    {
+        if self.sides.count() > 1 && self.begins_tag(ethertype) {
+            return put_once(choices, ethertype);
+        }
+        self.put(choices, field, ethertype);
     }
 
     /// Lengths, each the greatest of those that rows don't tell apart, in frames of at least so many bytes.
     fn lengths(&self, least: usize) -> Choices
-        requires asks { All (λ row. asks_length (ask_at row Length) ≡ true) self.now.rows.now }
-        requires ends { All (λ row. ends_fit row.ends ≡ true) self.now.rows.now }
-        requires left { AreLeft self.now.rows.now [] self.now.values.now self.now.left.now.items }
-        ensures { AreChoices self.now.rows.now (rows_at self.now.rows.now self.now.left.now.items)
+        requires beside { AreBeside self.now.sides.now.sides.now self.now.rows.now
+            self.now.sides.now.ends }
+        requires left { AreLeftOf (map side_by self.now.sides.now.sides.now) [] self.now.values.now
+            self.now.left.now.items }
+        ensures { AreCovering (map side_by self.now.sides.now.sides.now) self.now.left.now.items
             least Length self.now.values.now result.items }
     {
         let mut choices = Choices::new();
@@ -227,7 +277,7 @@ impl<'r> Case<'r> {
 
     /// Puts a length that a frame of at least so many bytes can have behind the others, if it is like none of them.
     fn put_length(&self, choices: &mut Choices, length: u16, least: usize)
-        requires { array_vec_len choices.old < 200 }
+        requires { array_vec_len choices.old < 600 }
         ensures kept { (c : ℕ) → Contains choices.old.items c → Contains choices.new.items c }
         ensures only { (c : ℕ) → Contains choices.new.items c
             → Contains choices.old.items c ⊎ ((c ≡ length) × IsTried least length) }
@@ -243,42 +293,93 @@ impl<'r> Case<'r> {
         }
     }
 
-    /// Of numbers under `end`, one that stands for all where nothing is asked; all where frames end by them.
+    /// Numbers under `end`: all where a row asks for one or depends on them; else as many as there are sides, or one where that
+    /// stands for all.
     fn numbers(&self, field: Field, end: u16) -> Choices
-        requires asks { All (λ row. asks_number (ask_at row field) ≡ true) self.now.rows.now }
-        requires left { AreLeft self.now.rows.now (take (place_of field) fields) self.now.values.now
+        requires beside { AreBeside self.now.sides.now.sides.now self.now.rows.now
+            self.now.sides.now.ends }
+        requires same { self.now.rows.now ≡ self.now.sides.now.rows.now }
+        requires left { AreLeftOf (map side_by self.now.sides.now.sides.now) (take (place_of field) fields) self.now.values.now
             self.now.left.now.items }
         requires eleven { length self.now.values.now.values ≡ 11 }
         requires late { 6 < place_of field }
         requires end { end ≡ limit_of field }
-        requires few { end ≤ 200 }
+        requires few { end ≤ 8 }
         requires long { end_of field ≤ value_at Length self.now.values.now }
-        ensures { (least : ℕ) → AreChoices self.now.rows.now
-            (rows_at self.now.rows.now self.now.left.now.items)
+        ensures { (least : ℕ) → AreCovering (map side_by self.now.sides.now.sides.now) self.now.left.now.items
             least field self.now.values.now result.items }
     {
-        if !self.is_read(field) && !self.is_asked(field) {
+        if self.is_read(field) || self.is_asked(field) {
+            return up_to(end);
+        }
+        if self.is_settled(field) {
             return only(self.values.plain(field));
         }
+        self.several(field, end)
+    }
+
+    /// Whether one value of a priority, or of a drop eligible indicator, that no row asks or ends by stands for all.
+    fn is_settled(&self, field: Field) -> bool
+        requires beside { AreBeside self.now.sides.now.sides.now self.now.rows.now
+            self.now.sides.now.ends }
+        requires same { self.now.rows.now ≡ self.now.sides.now.rows.now }
+        ensures { result ≡ is_settled (map side_by self.now.sides.now.sides.now) self.now.left.now.items field }
+    {
+        match self.sides.count() {
+            0 | 1 => true,
+            2 => self.are_settled(0, 1, field),
+            _ => self.are_settled(1, 0, field) && self.are_settled(1, 2, field),
+        }
+    }
+
+    /// And for two sides.
+    fn are_settled(&self, one: usize, other: usize, field: Field) -> bool
+        requires beside { AreBeside self.now.sides.now.sides.now self.now.rows.now
+            self.now.sides.now.ends }
+        requires same { self.now.rows.now ≡ self.now.sides.now.rows.now }
+        requires one { one < 3 }
+        requires other { other < 3 }
+        ensures { result ≡ are_settled (map side_by self.now.sides.now.sides.now) self.now.left.now.items field one other }
+    {
+        match (
+            self.sides.first(self.left, one),
+            self.sides.first(self.left, other),
+        ) {
+            (Some(row), Some(beside)) => are_rows_settled(field, row, beside),
+            _ => false,
+        }
+    }
+
+    /// As many values under `end` as there are sides, or all if they are fewer, first the one that one sends.
+    fn several(&self, field: Field, end: u16) -> Choices
+        requires beside { AreBeside self.now.sides.now.sides.now self.now.rows.now
+            self.now.sides.now.ends }
+        requires end { end ≡ limit_of field }
+        requires some { 2 ≤ end }
+        ensures fit { All (λ c. c < end) result.items }
+        ensures several { HasSeveral (length self.now.sides.now.sides.now) (λ c. Contains result.items c)
+            ⊎ ((v : ℕ) → v < end → Contains result.items v) }
+    {
         let mut choices = Choices::new();
-        for number in 0..end {
-            choices.push(number);
+        let plain = self.values.plain(field);
+        for number in 0..(self.sides.count() as u16).min(end) {
+            choices.push((plain + number) % end);
         }
         choices
     }
 
-    /// One VID, or one for each DSCP where frames end by it, beside those that are named; and those.
+    /// As many VIDs as there are sides, or as many for each DSCP where a row depends on it, beside those that are named; and those.
     fn vids(&self, field: Field) -> Choices
-        requires asks { All (λ row. asks_number (ask_at row field) ≡ true) self.now.rows.now }
-        requires left { AreLeft self.now.rows.now (take (place_of field) fields) self.now.values.now
+        requires beside { AreBeside self.now.sides.now.sides.now self.now.rows.now
+            self.now.sides.now.ends }
+        requires left { AreLeftOf (map side_by self.now.sides.now.sides.now) (take (place_of field) fields) self.now.values.now
             self.now.left.now.items }
         requires eleven { length self.now.values.now.values ≡ 11 }
         requires behind { 3 < place_of field }
         requires early { place_of field < 7 }
         requires long { end_of field ≤ value_at Length self.now.values.now }
-        requires few { length self.now.left.now.items ≤ 134 }
-        ensures { (least : ℕ) → AreChoices self.now.rows.now
-            (rows_at self.now.rows.now self.now.left.now.items)
+        requires few { length self.now.left.now.items ≤ 402 }
+        ensures { (least : ℕ) → AreCovering (map side_by self.now.sides.now.sides.now) self.now.left.now.items
             least field self.now.values.now result.items }
     {
         let packet = self.values.packet(field);
@@ -288,10 +389,10 @@ impl<'r> Case<'r> {
         if self.is_asked(field) {
             return self.vids_by_name(field);
         }
-        only(self.values.plain(field))
+        self.several(field, 4096)
     }
 
-    /// Whether the frames of a row that is left end by the DSCP of a packet, which is in a field.
+    /// Whether a row that is left depends on the DSCP of a packet, which is in a field.
     fn is_told_by_dscp(&self, field: Field, packet: Packet) -> bool
         ensures { result ≡ (has_dscp packet
             && is_read self.now.rows.now self.now.left.now.items field) }
@@ -299,15 +400,17 @@ impl<'r> Case<'r> {
         packet.has_dscp() && self.is_read(field)
     }
 
-    /// Each VID that is named, and behind one that isn't.
+    /// Each VID that is named, and before them as many that aren't as there are sides.
     fn vids_by_name(&self, field: Field) -> Choices
-        requires few { length self.now.left.now.items ≤ 134 }
+        requires beside { AreBeside self.now.sides.now.sides.now self.now.rows.now
+            self.now.sides.now.ends }
+        requires few { length self.now.left.now.items ≤ 402 }
         ensures fit { All (λ c. c < 2 ^ 12) result.items }
         ensures named { (c : ℕ) → c < 2 ^ 12
             → is_named self.now.rows.now self.now.left.now.items field c ≡ true → Contains result.items c }
-        ensures others { (v : ℕ) → v < 2 ^ 12
-            → is_named self.now.rows.now self.now.left.now.items field v ≡ false
-            → Any (λ c. is_named self.now.rows.now self.now.left.now.items field c ≡ false) result.items }
+        ensures others { (v : ℕ) → v < 2 ^ 12 → is_named self.now.rows.now self.now.left.now.items field v ≡ false
+            → Contains result.items v ⊎ HasSeveral (length self.now.sides.now.sides.now)
+            (λ c. Contains result.items c × (is_named self.now.rows.now self.now.left.now.items field c ≡ false)) }
     {
         let mut choices = Choices::new();
         self.put_unnamed(&mut choices, field);
@@ -315,16 +418,18 @@ impl<'r> Case<'r> {
         choices
     }
 
-    /// Each VID that is named, and before them one for each DSCP that isn't.
+    /// Each VID that is named, and before them for each DSCP as many that aren't as there are sides.
     fn vids_by_dscp(&self, field: Field, packet: Packet) -> Choices
-        requires few { length self.now.left.now.items ≤ 134 }
+        requires beside { AreBeside self.now.sides.now.sides.now self.now.rows.now
+            self.now.sides.now.ends }
+        requires few { length self.now.left.now.items ≤ 402 }
         requires has { has_dscp packet ≡ true }
         ensures fit { All (λ c. c < 2 ^ 12) result.items }
         ensures named { (c : ℕ) → c < 2 ^ 12
             → is_named self.now.rows.now self.now.left.now.items field c ≡ true → Contains result.items c }
-        ensures others { (v : ℕ) → v < 2 ^ 12
-            → is_named self.now.rows.now self.now.left.now.items field v ≡ false
-            → Any (IsUnnamed self.now.rows.now self.now.left.now.items field packet (dscp_in packet v)) result.items }
+        ensures others { (v : ℕ) → v < 2 ^ 12 → is_named self.now.rows.now self.now.left.now.items field v ≡ false
+            → Contains result.items v ⊎ HasSeveral (length self.now.sides.now.sides.now)
+            (λ c. Contains result.items c × IsUnnamed self.now.rows.now self.now.left.now.items field packet (dscp_in packet v) c) }
     {
         let mut choices = Choices::new();
         self.put_each_dscp(&mut choices, field, packet);
@@ -334,7 +439,7 @@ impl<'r> Case<'r> {
 
     /// Puts each VID that is named.
     fn put_named(&self, choices: &mut Choices, field: Field)
-        requires { length choices.old.items + length self.now.left.now.items ≤ 200 }
+        requires { length choices.old.items + length self.now.left.now.items ≤ 600 }
         ensures kept { (c : ℕ) → Contains choices.old.items c → Contains choices.new.items c }
         ensures fit { All (λ c. c < 2 ^ 12) choices.old.items → All (λ c. c < 2 ^ 12) choices.new.items }
         ensures named { (c : ℕ) → c < 2 ^ 12
@@ -347,8 +452,8 @@ impl<'r> Case<'r> {
     }
 
     /// Puts the VID that the row at a place names, if there is one.
-    fn put_named_at(&self, choices: &mut Choices, place: u8, field: Field)
-        requires { array_vec_len choices.old < 200 }
+    fn put_named_at(&self, choices: &mut Choices, place: u16, field: Field)
+        requires { array_vec_len choices.old < 600 }
         ensures kept { (c : ℕ) → Contains choices.old.items c → Contains choices.new.items c }
         ensures fit { All (λ c. c < 2 ^ 12) choices.old.items → All (λ c. c < 2 ^ 12) choices.new.items }
         ensures named { (c : ℕ) → c < 2 ^ 12
@@ -361,92 +466,104 @@ impl<'r> Case<'r> {
         }
     }
 
-    /// Puts the first VID that isn't named, of those that one sends first.
+    /// Puts the first VIDs that aren't named, of those that one sends first, as many as there are sides.
     fn put_unnamed(&self, choices: &mut Choices, field: Field)
-        requires { choices.old.items ≡ [] }
+        requires beside { AreBeside self.now.sides.now.sides.now self.now.rows.now
+            self.now.sides.now.ends }
+        requires none { choices.old.items ≡ [] }
         ensures fit { All (λ c. c < 2 ^ 12) choices.new.items }
-        ensures others { (v : ℕ) → v < 2 ^ 12
-            → is_named self.now.rows.now self.now.left.now.items field v ≡ false
-            → Any (λ c. is_named self.now.rows.now self.now.left.now.items field c ≡ false) choices.new.items }
-        ensures len { length choices.new.items ≤ 1 }
+        ensures others { (v : ℕ) → v < 2 ^ 12 → is_named self.now.rows.now self.now.left.now.items field v ≡ false
+            → Contains choices.new.items v ⊎ HasSeveral (length self.now.sides.now.sides.now)
+            (λ c. Contains choices.new.items c × (is_named self.now.rows.now self.now.left.now.items field c ≡ false)) }
+        ensures len { length choices.new.items ≤ 3 }
     {
-        if let Some(vid) = self.unnamed(field) {
+        for number in 0..4096u16 {
+            if choices.len() >= self.sides.count() {
+                return;
+            }
+            self.put_if_unnamed(choices, field, (number + 1) % 4096);
+        }
+    }
+
+    /// Puts a VID, if no row that is left names it.
+    fn put_if_unnamed(&self, choices: &mut Choices, field: Field, vid: u16)
+        requires { array_vec_len choices.old < 600 }
+        ensures { choices.new.items ≡ (if is_named self.now.rows.now self.now.left.now.items field vid then choices.old.items else choices.old.items ++ vid ∷ []) }
+    {
+        if !self.is_named(field, vid) {
             choices.push(vid);
         }
     }
 
-    /// The first VID that isn't named, of those that one sends first.
-    fn unnamed(&self, field: Field) -> Option<u16>
-        ensures some { IfSome result (λ vid. (vid < 2 ^ 12)
-            × (is_named self.now.rows.now self.now.left.now.items field vid ≡ false)) }
-        ensures none { IfNone result ((vid : ℕ) → vid < 2 ^ 12
-            → is_named self.now.rows.now self.now.left.now.items field vid ≡ true) }
-    {
-        for number in 0..4096u16 {
-            let vid = (number + 1) % 4096;
-            if !self.is_named(field, vid) {
-                return Some(vid);
-            }
-        }
-        None
-    }
-
-    /// Puts a VID that isn't named for each DSCP that it may be of a packet.
+    /// Puts for each DSCP that a packet may have the first VIDs that aren't named and have it, as many as there are sides.
     fn put_each_dscp(&self, choices: &mut Choices, field: Field, packet: Packet)
+        requires beside { AreBeside self.now.sides.now.sides.now self.now.rows.now
+            self.now.sides.now.ends }
         requires none { choices.old.items ≡ [] }
         requires has { has_dscp packet ≡ true }
         ensures fit { All (λ c. c < 2 ^ 12) choices.new.items }
-        ensures others { (v : ℕ) → v < 2 ^ 12
-            → is_named self.now.rows.now self.now.left.now.items field v ≡ false
-            → Any (IsUnnamed self.now.rows.now self.now.left.now.items field packet (dscp_in packet v))
-            choices.new.items }
-        ensures len { length choices.new.items ≤ 64 }
+        ensures others { (v : ℕ) → v < 2 ^ 12 → is_named self.now.rows.now self.now.left.now.items field v ≡ false
+            → Contains choices.new.items v ⊎ HasSeveral (length self.now.sides.now.sides.now)
+            (λ c. Contains choices.new.items c × IsUnnamed self.now.rows.now self.now.left.now.items field packet (dscp_in packet v) c) }
+        ensures len { length choices.new.items ≤ 192 }
     {
         for dscp in 0..64u16 {
             self.put_dscp(choices, field, packet, dscp);
         }
     }
 
-    /// Puts the first VID that isn't named and has a DSCP, under 64.
+    /// Puts the first VIDs that aren't named and have a DSCP, under 64, as many as there are sides.
     fn put_dscp(&self, choices: &mut Choices, field: Field, packet: Packet, dscp: u16)
-        requires room { array_vec_len choices.old < 200 }
+        requires beside { AreBeside self.now.sides.now.sides.now self.now.rows.now
+            self.now.sides.now.ends }
+        requires room { length choices.old.items ≤ 500 }
         requires dscp { dscp < 64 }
         requires has { has_dscp packet ≡ true }
         ensures kept { (c : ℕ) → Contains choices.old.items c → Contains choices.new.items c }
         ensures fit { All (λ c. c < 2 ^ 12) choices.old.items → All (λ c. c < 2 ^ 12) choices.new.items }
-        ensures others { (v : ℕ) → v < 2 ^ 12 → dscp_in packet v ≡ Some dscp
-            → is_named self.now.rows.now self.now.left.now.items field v ≡ false
-            → Any (IsUnnamed self.now.rows.now self.now.left.now.items field packet (Some dscp))
-            choices.new.items }
-        ensures len { length choices.new.items ≤ length choices.old.items + 1 }
+        ensures others { (v : ℕ) → v < 2 ^ 12 → dscp_in packet v ≡ Some dscp → is_named self.now.rows.now self.now.left.now.items field v ≡ false
+            → Contains choices.new.items v ⊎ HasSeveral (length self.now.sides.now.sides.now)
+            (λ c. Contains choices.new.items c × IsUnnamed self.now.rows.now self.now.left.now.items field packet (Some dscp) c) }
+        ensures len { length choices.new.items ≤ length choices.old.items + 3 }
     {
-        if let Some(vid) = self.unnamed_of(field, packet, dscp) {
-            choices.push(vid);
+        let enough = choices.len() + self.sides.count();
+        for other in 0..64u16 {
+            if choices.len() >= enough {
+                return;
+            }
+            self.put_if_unnamed(choices, field, packet.bits(dscp, other));
         }
     }
+}
 
-    /// The first VID that isn't named and has a DSCP, under 64.
-    fn unnamed_of(&self, field: Field, packet: Packet, dscp: u16) -> Option<u16>
-        requires dscp { dscp < 64 }
-        requires has { has_dscp packet ≡ true }
-        ensures some { IfSome result (λ vid. (vid < 2 ^ 12)
-            × IsUnnamed self.now.rows.now self.now.left.now.items field packet (Some dscp) vid) }
-        ensures none { IfNone result ((vid : ℕ) → vid < 2 ^ 12 → dscp_in packet vid ≡ Some dscp
-            → is_named self.now.rows.now self.now.left.now.items field vid ≡ true) }
-    {
-        for other in 0..64u16 {
-            let vid = packet.bits(dscp, other);
-            if !self.is_named(field, vid) {
-                return Some(vid);
-            }
-        }
-        None
+/// The numbers under `end`.
+fn up_to(end: u16) -> Choices
+    requires { end ≤ 8 }
+    ensures { result.items ≡ range_with_len 0 end }
+{
+    let mut choices = Choices::new();
+    for number in 0..end {
+        choices.push(number);
+    }
+    choices
+}
+
+/// Puts a value, if it isn't there.
+fn put_once(choices: &mut Choices, value: u16)
+    requires { array_vec_len choices.old < 600 }
+    ensures kept { (c : ℕ) → Contains choices.old.items c → Contains choices.new.items c }
+    ensures only { (c : ℕ) → Contains choices.new.items c → Contains choices.old.items c ⊎ (c ≡ value) }
+    ensures there { Contains choices.new.items value }
+    ensures len { length choices.new.items ≤ length choices.old.items + 1 }
+{
+    if !choices.contains(&value) {
+        choices.push(value);
     }
 }
 
 /// Puts a VID, if it is one and isn't there.
 fn put_vid(choices: &mut Choices, vid: u16)
-    requires { array_vec_len choices.old < 200 }
+    requires { array_vec_len choices.old < 600 }
     ensures kept { (c : ℕ) → Contains choices.old.items c → Contains choices.new.items c }
     ensures fit { All (λ c. c < 2 ^ 12) choices.old.items → All (λ c. c < 2 ^ 12) choices.new.items }
     ensures there { vid < 2 ^ 12 → Contains choices.new.items vid }

@@ -17,6 +17,30 @@ pub struct ClassExample {
     pub frame: Vec<u8>,
 }
 
+/// The classes of a frame by two configurations that see it otherwise, and its bytes.
+#[derive(Debug, Drop)]
+pub struct Difference {
+    /// Its class by the one.
+    pub before: FrameClass,
+    /// Its class by the other.
+    pub after: FrameClass,
+    /// The frame's bytes, from the destination address on, without a check sequence.
+    pub frame: Vec<u8>,
+}
+
+/// The classes of a frame by three configurations of which the one between sees it otherwise than both others, and its bytes.
+#[derive(Debug, Drop)]
+pub struct Tear {
+    /// Its class by the first.
+    pub before: FrameClass,
+    /// Its class by the one between.
+    pub here: FrameClass,
+    /// Its class by the last.
+    pub after: FrameClass,
+    /// The frame's bytes, from the destination address on, without a check sequence.
+    pub frame: Vec<u8>,
+}
+
 /// The least number of bytes of a frame that a link carries, without its check sequence (IEEE 802.3, 3.2.7).
 const LEAST_SENT: usize = 60;
 

@@ -4,13 +4,14 @@ ghost use Rattle.std.specs.Option.{option_map_or};
 ghost use Rattle.frame_classes.specs.declared.found.Sample.{Sample};
 ghost use Rattle.frame_classes.specs.Found.{Ascend, number_of};
 
-use frame_rows::{FrameClass, Values};
+use crate::told::Told;
+use frame_rows::Values;
 use std::alloc::{AllocError, Global};
 
-/// A class with the values of a frame that has it.
+/// What is told of a frame, with the values of the frame.
 #[derive(Clone, Copy, Debug)]
 pub(crate) struct Sample {
-    pub(crate) class: FrameClass,
+    pub(crate) told: Told,
     pub(crate) values: Values,
 }
 
@@ -21,8 +22,8 @@ pub(crate) struct Found {
 }
 
 impl Found {
-    ghost use Rattle.std.specs.Prelude.{[], IsTrue, OnOk};
-    ghost use Rattle.frame_rows.specs.Class.{class_fits};
+    ghost use Rattle.std.specs.Prelude.{[], Any, IsTrue, OnOk, true};
+    ghost use Rattle.frame_classes.specs.Told.{told_fits, told_number};
     ghost use Rattle.frame_classes.specs.Found.{put_in};
 
     /// None yet.
@@ -34,25 +35,36 @@ impl Found {
         }
     }
 
-    /// Puts a class in its place, unless it stands there.
-    pub(crate) fn put(&mut self, class: FrameClass, values: Values) -> Result<(), AllocError>
-        requires { Ascend self.old.samples.items }
-        ensures fits { OnOk result (IsTrue (class_fits class)) }
-        ensures items { OnOk result (self.new.samples.items
-            ≡ put_in (record { class = class; values = values }) self.old.samples.items) }
+    /// Whether something is there.
+    pub(crate) fn has(&self, told: &Told) -> bool
+        requires { Ascend self.now.samples.items }
+        ensures fits { IsTrue (told_fits told.now) }
+        ensures there { result ≡ true → Any (λ s. number_of s ≡ told_number told.now) self.now.samples.items }
     {
-        let number = class.number();
+        let number = told.number();
+        let samples = self.samples.as_slice();
+        is_at(samples, place_of(samples, number), number)
+    }
+
+    /// Puts something in its place, unless it stands there.
+    pub(crate) fn put(&mut self, told: Told, values: Values) -> Result<(), AllocError>
+        requires { Ascend self.old.samples.items }
+        ensures fits { OnOk result (IsTrue (told_fits told)) }
+        ensures items { OnOk result (self.new.samples.items
+            ≡ put_in (record { told = told; values = values }) self.old.samples.items) }
+    {
+        let number = told.number();
         let samples = self.samples.as_slice();
         let place = place_of(samples, number);
         if !is_at(samples, place, number) {
-            self.samples.insert(place, Sample { class, values })?;
+            self.samples.insert(place, Sample { told, values })?;
         }
         Ok(())
     }
 }
 
 /// How many of some samples, whose classes ascend, have smaller numbers.
-fn place_of(samples: &[Sample], number: u32) -> usize
+fn place_of(samples: &[Sample], number: u128) -> usize
     requires { Ascend samples.now }
     ensures within { result ≤ length samples.now }
     ensures before { (k : ℕ) (d : Sample) → k < result
@@ -64,7 +76,7 @@ fn place_of(samples: &[Sample], number: u32) -> usize
     let mut high = samples.len();
     while low < high {
         let middle = low + (high - low) / 2;
-        if samples[middle].class.number() < number {
+        if samples[middle].told.number() < number {
             low = middle + 1;
         } else {
             high = middle;
@@ -74,12 +86,12 @@ fn place_of(samples: &[Sample], number: u32) -> usize
 }
 
 /// Whether the class of the sample at a place, if one stands there, has a number.
-fn is_at(samples: &[Sample], place: usize, number: u32) -> bool
+fn is_at(samples: &[Sample], place: usize, number: u128) -> bool
     ensures { result ≡ option_map_or (λ (sample : Sample). number_of sample == number)
         (slice_get samples.now place) false }
 {
     match samples.get(place) {
-        Some(sample) => sample.class.number() == number,
+        Some(sample) => sample.told.number() == number,
         None => false,
     }
 }

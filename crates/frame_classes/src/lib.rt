@@ -4,26 +4,34 @@
 //! A port is a list of rows, and the class of a frame is that of the first row that asks nothing else of its fields: so says the
 //! crate `frame_rows`, and nothing here knows what entities mean.
 //!
-//! **Splitting.** Fields are gone through one by one. A case is the rows that are left, which are those that ask nothing else of
-//! the fields before, and a value for each of these fields. For the next field it looks at values that stand for all others: rows
-//! admit them alike, and their frames end alike. Of a type those are the ones that standards name and one more, of a VID those that
-//! rows name and one more, or one more for each DSCP; of a length the greatest with the same fields. At the end the class is that
-//! of the first row that is left.
+//! **What configurations see otherwise.** [`differences`] and [`torn`] compare two and three configurations of a port, for every
+//! frame: of each pair, or three, of classes that some frame has which they see otherwise they show one such frame.
 //!
-//! **Why nothing is left out.** Values are near others where, row by row, both are admitted so far or neither is, and what the
-//! row's ending depends on is the same. Every frame is near some values of each level: at no field it is, and a value that stands
-//! for its own keeps it so. At the last field near values have one class. **Why nothing is too much:** each value that is looked at
-//! is one that a frame can have, and a frame of the values is written, and has them.
+//! **Splitting.** One splitting serves one, two and three configurations side by side. Fields are gone through one by one. A case is
+//! the rows of all sides that are left, which are those that ask nothing else of the fields before, and a value for each of these
+//! fields. For the next field it looks at values that stand for all others: rows admit them alike, their frames end alike, and have
+//! added tags of one priority. Of a type those are the ones that standards name and one more, of a VID those that rows name and as
+//! many more as there are sides, or as many for each DSCP; of a length the greatest with the same fields. At the end each side has
+//! the first of its rows that is left.
 //!
-//! **What it costs.** A case costs its rows. Nothing grows but the list of classes.
+//! **Why nothing is left out.** A frame of which something is told keeps it where one field is set to a value that is looked at. For
+//! classes any value does that stands for its own. The bytes that leave are, by one field, lines: each part of a tag is a constant, or
+//! the field. Two lists of lines that are the same with two values are the same with all; so of as many values as there are sides
+//! one shows the difference. **Why nothing is too much:** each value that is looked at is one that a frame can have, and a frame of the
+//! values is written, and has them.
+//!
+//! **What it costs.** A case costs its rows. Nothing grows but the list that is given.
 #![tactic(auto)]
 
 mod choices;
 mod example;
 mod found;
 mod listing;
+mod settled;
+mod sides;
 mod splitting;
+mod told;
 
-pub use example::ClassExample;
+pub use example::{ClassExample, Difference, Tear};
 pub use frame_rows::{Ending, FrameClass, Use};
-pub use listing::classes;
+pub use listing::{classes, differences, torn};

@@ -1,11 +1,18 @@
-//! The classes of a port.
-ghost use Rattle.std.specs.Prelude.{IfOk, length, map};
-ghost use Rattle.frame_classes.specs.Classes.{AreClasses};
-ghost use Rattle.frame_classes.specs.Splitting.{AreExamplesOf};
+//! The classes of a port, and what configurations see otherwise.
 
-use crate::example::{ClassExample, frame_of};
-use crate::found::Found;
+ghost use Rattle.std.specs.Prelude.{◌≡◌, ◌<◌, ◌≤◌, All, IfOk, length, map};
+ghost use Rattle.frame_classes.specs.Beside.{SideFits, SideMarks};
+ghost use Rattle.frame_classes.specs.Classes.{AreClasses};
+ghost use Rattle.frame_classes.specs.Differences.{AreDifferences, AreTorn};
+ghost use Rattle.frame_classes.specs.Listed.{count_told, of_one, of_three, of_two, tell};
+ghost use Rattle.frame_classes.specs.Splitting.{AreExamplesOf, AreTold};
+ghost use Rattle.frame_classes.specs.Told.{side_by};
+
+use crate::example::{ClassExample, Difference, Tear, frame_of};
+use crate::found::{Found, Sample};
+use crate::sides::{Sides, rows_of};
 use crate::splitting::Splitting;
+use crate::told::Told;
 use frame_rows::Rows;
 use mib_state::Mib;
 use std::alloc::{AllocError, Global};
@@ -22,10 +29,74 @@ pub fn classes(
         (map (λ (e : _). (e.class, e.frame.items)) list.items)) }
 {
     let rows = Rows::of(alloc, mib, port)?;
-    let mut found = Found::new(alloc);
-    let splitting = Splitting { rows: &rows, least };
-    splitting.find_all(&mut found)?;
+    let sides = [rows];
+    let found = found_of(alloc, &sides, least)?;
     examples_of(alloc, port, &found, least)
+}
+
+/// What a port sees otherwise by two configurations, of frames of at least `least` bytes: each pair of a class by the one and a
+/// class by the other that some frame has which they see otherwise, once and in order, with such a frame. A frame is seen by the
+/// GEM port and the bytes with which it leaves, or by the reason to drop it. Every list of bytes counts as a frame. Err only
+/// where memory is refused.
+pub fn differences(
+    alloc: Global,
+    one: &Mib,
+    other: &Mib,
+    port: u16,
+    least: usize,
+) -> Result<Vec<Difference>, AllocError>
+    ensures { IfOk result (λ list. AreDifferences one.now.entities other.now.entities port least
+        (map (λ (d : _). ((d.before, d.after), d.frame.items)) list.items)) }
+{
+    let rows = Rows::of(alloc, one, port)?;
+    let next = Rows::of(alloc, other, port)?;
+    let sides = [rows, next];
+    let found = found_of(alloc, &sides, least)?;
+    differences_of(alloc, port, &found, least)
+}
+
+/// What a configuration between two others sees otherwise than both, of the frames of at least `least` bytes that come in at a
+/// port: each three classes, by the one before, by the one here and by the one after, that some frame has which leaves here with
+/// a GEM port or bytes with which it leaves neither before nor after, or which is dropped here and neither before nor after, once
+/// and in order, with such a frame. For what reason it is dropped doesn't count. Every list of bytes counts as a frame. Err only
+/// where memory is refused.
+pub fn torn(
+    alloc: Global,
+    before: &Mib,
+    here: &Mib,
+    after: &Mib,
+    port: u16,
+    least: usize,
+) -> Result<Vec<Tear>, AllocError>
+    ensures { IfOk result (λ list. AreTorn before.now.entities here.now.entities after.now.entities port least
+        (map (λ (t : _). ((t.before, t.here, t.after), t.frame.items)) list.items)) }
+{
+    let first = Rows::of(alloc, before, port)?;
+    let between = Rows::of(alloc, here, port)?;
+    let last = Rows::of(alloc, after, port)?;
+    let sides = [first, between, last];
+    let found = found_of(alloc, &sides, least)?;
+    tears_of(alloc, port, &found, least)
+}
+
+/// What is told of all frames by some configurations of a port.
+fn found_of(alloc: Global, sides: &[Rows], least: usize) -> Result<Found, AllocError>
+    requires some { 0 < length sides.now }
+    requires three { length sides.now ≤ 3 }
+    requires fit { All SideFits (map side_by sides.now) }
+    requires marked { All SideMarks (map side_by sides.now) }
+    requires few { All (λ (side : _). length side.rows.items ≤ 134) sides.now }
+    ensures { IfOk result (λ found. AreTold (map side_by sides.now) least found.samples.items) }
+{
+    let rows = rows_of(alloc, sides)?;
+    let beside = Sides::of(sides, &rows);
+    let mut found = Found::new(alloc);
+    let splitting = Splitting {
+        sides: &beside,
+        least,
+    };
+    splitting.find_all(&mut found)?;
+    Ok(found)
 }
 
 /// The number of the frame at a place of a port's list, which no other frame of any port's has.
@@ -40,17 +111,65 @@ fn examples_of(
     found: &Found,
     least: usize,
 ) -> Result<Vec<ClassExample>, AllocError>
+    requires { All (λ (s : _). count_told s.told ≡ 1) found.now.samples.items }
     ensures { IfOk result (λ list. AreExamplesOf least (length found.now.samples.items)
-        found.now.samples.items (map (λ (e : _). (e.class, e.frame.items)) list.items)) }
+        found.now.samples.items (tell of_one (map (λ (e : _). (e.class, e.frame.items)) list.items))) }
 {
     let mut examples = Vec::with_capacity(alloc, found.samples.len())?;
     for place in 0..found.samples.len() {
         let sample = &found.samples[place];
-        let frame = frame_of(alloc, &sample.values, least, number_of(port, place))?;
-        examples.push(ClassExample {
-            class: sample.class,
-            frame,
-        })?;
+        if let Told::One(class) = sample.told {
+            let frame = frame_of(alloc, &sample.values, least, number_of(port, place))?;
+            examples.push(ClassExample { class, frame })?;
+        }
     }
     Ok(examples)
+}
+
+/// Each pair of classes with the bytes of its frame.
+fn differences_of(
+    alloc: Global,
+    port: u16,
+    found: &Found,
+    least: usize,
+) -> Result<Vec<Difference>, AllocError>
+    requires { All (λ (s : _). count_told s.told ≡ 2) found.now.samples.items }
+    ensures { IfOk result (λ list. AreExamplesOf least (length found.now.samples.items)
+        found.now.samples.items (tell of_two (map (λ (d : _). ((d.before, d.after), d.frame.items)) list.items))) }
+{
+    let mut differences = Vec::with_capacity(alloc, found.samples.len())?;
+    for place in 0..found.samples.len() {
+        let sample = &found.samples[place];
+        if let Told::Two(before, after) = sample.told {
+            let frame = frame_of(alloc, &sample.values, least, number_of(port, place))?;
+            differences.push(Difference {
+                before,
+                after,
+                frame,
+            })?;
+        }
+    }
+    Ok(differences)
+}
+
+/// Each three classes with the bytes of their frame.
+fn tears_of(alloc: Global, port: u16, found: &Found, least: usize) -> Result<Vec<Tear>, AllocError>
+    requires { All (λ (s : _). count_told s.told ≡ 3) found.now.samples.items }
+    ensures { IfOk result (λ list. AreExamplesOf least (length found.now.samples.items)
+        found.now.samples.items (tell of_three (map (λ (t : _). ((t.before, t.here, t.after), t.frame.items)) list.items))) }
+{
+    let mut tears = Vec::with_capacity(alloc, found.samples.len())?;
+    for place in 0..found.samples.len() {
+        let sample = &found.samples[place];
+        if let Told::Three(before, here, after) = sample.told {
+            let frame = frame_of(alloc, &sample.values, least, number_of(port, place))?;
+            tears.push(Tear {
+                before,
+                here,
+                after,
+                frame,
+            })?;
+        }
+    }
+    Ok(tears)
 }

@@ -1,44 +1,44 @@
 //! Frames told apart, field by field.
 ghost use Rattle.frame_rows.specs.declared.field.Values.{Values};
-ghost use Rattle.frame_rows.specs.declared.row.Row.{Row};
 
 use crate::choices::{Case, Left};
 use crate::found::Found;
-use frame_rows::{Field, Row, Rows, Values};
+use crate::sides::Sides;
+use crate::told::Told;
+use frame_rows::{Field, Values};
 use std::alloc::AllocError;
 
 /// The frames of at least so many bytes that come in at a port, told apart by its rows.
 #[derive(Drop)]
 pub(crate) struct Splitting<'r> {
-    pub(crate) rows: &'r Rows,
+    pub(crate) sides: &'r Sides<'r>,
     pub(crate) least: usize,
 }
 
 impl<'r> Splitting<'r> {
-    ghost use Rattle.std.specs.Prelude.{◌≡◌, ◌≤◌, [], false, All, IsTrue, OnOk, filter, length, slice_get, take};
-    ghost use Rattle.std.specs.Option.{option_copied};
+    ghost use Rattle.std.specs.Prelude.{◌≡◌, ◌≤◌, [], false, All, OnOk, Some, filter, length, map, take};
     ghost use Rattle.frame_rows.specs.Field.{fields};
     ghost use Rattle.frame_rows.specs.Row.{row_admits};
-    ghost use Rattle.frame_rows.specs.Fits.{row_fits};
     ghost use Rattle.frame_classes.specs.Choices.{test_at};
-    ghost use Rattle.frame_classes.specs.Splitting.{AreAllFound, AreLeft, AreMore, IsOf, IsSample, rows_at};
+    ghost use Rattle.frame_classes.specs.Beside.{AreBeside};
+    ghost use Rattle.frame_classes.specs.Left.{AreLeftOf};
+    ghost use Rattle.frame_classes.specs.Told.{classes_at, side_by};
+    ghost use Rattle.frame_classes.specs.Splitting.{AreAllFound, AreMore, IsOf, IsSample};
     ghost use Rattle.frame_classes.specs.Found.{Ascend};
 
-    /// Finds the classes of all frames.
+    /// Finds what is told of all frames.
     pub(crate) fn find_all(&self, found: &mut Found) -> Result<(), AllocError>
-        requires fit { All (λ row. IsTrue (row_fits self.now.rows.now.input row))
-            self.now.rows.now.rows.items }
-        requires few { length self.now.rows.now.rows.items ≤ 134 }
+        requires beside { AreBeside self.now.sides.now.sides.now self.now.sides.now.rows.now
+            self.now.sides.now.ends }
         requires none { found.old.samples.items ≡ [] }
-        ensures more { OnOk result (AreMore self.now.rows.now.endings self.now.rows.now.rows.items
-            self.now.least found.old.samples.items found.new.samples.items) }
-        ensures every { OnOk result ((values : Values) → AreAllFound
-            self.now.rows.now.endings self.now.rows.now.rows.items self.now.least
-            [] values found.new.samples.items) }
+        ensures more { OnOk result (AreMore (map side_by self.now.sides.now.sides.now) self.now.least
+            found.old.samples.items found.new.samples.items) }
+        ensures every { OnOk result ((values : Values) → AreAllFound (map side_by self.now.sides.now.sides.now)
+            self.now.least 0 values found.new.samples.items) }
     {
         let mut left = Left::new();
-        for place in 0..self.rows.rows.len() {
-            left.push(place as u8);
+        for place in 0..self.sides.rows.len() {
+            left.push(place as u16);
         }
         self.find(found, &left, Values::zero(), 0)
     }
@@ -51,31 +51,30 @@ impl<'r> Splitting<'r> {
         values: Values,
         level: usize,
     ) -> Result<(), AllocError>
-        requires fit { All (λ row. IsTrue (row_fits self.now.rows.now.input row))
-            self.now.rows.now.rows.items }
+        requires beside { AreBeside self.now.sides.now.sides.now self.now.sides.now.rows.now
+            self.now.sides.now.ends }
         requires level { level ≤ length fields }
-        requires few { length left.now.items ≤ 134 }
+        requires few { length left.now.items ≤ 402 }
         requires eleven { length values.values ≡ length fields }
-        requires left { AreLeft self.now.rows.now.rows.items (take level fields) values left.now.items }
+        requires left { AreLeftOf (map side_by self.now.sides.now.sides.now) (take level fields) values left.now.items }
         requires values { IsOf self.now.least (take level fields) values }
-        requires samples { All (IsSample self.now.rows.now.endings self.now.rows.now.rows.items
-            self.now.least) found.old.samples.items }
+        requires samples { All (IsSample (map side_by self.now.sides.now.sides.now) self.now.least) found.old.samples.items }
         requires ascend { Ascend found.old.samples.items }
-        ensures more { OnOk result (AreMore self.now.rows.now.endings self.now.rows.now.rows.items
-            self.now.least found.old.samples.items found.new.samples.items) }
-        ensures every { OnOk result (AreAllFound self.now.rows.now.endings
-            self.now.rows.now.rows.items self.now.least
-            (take level fields) values found.new.samples.items) }
+        ensures more { OnOk result (AreMore (map side_by self.now.sides.now.sides.now) self.now.least
+            found.old.samples.items found.new.samples.items) }
+        ensures every { OnOk result (AreAllFound (map side_by self.now.sides.now.sides.now) self.now.least level
+            values found.new.samples.items) }
     {
         let Some(field) = Field::ALL.get(level) else {
             return self.keep(found, left, values);
         };
         let case = Case {
-            rows: self.rows.rows.as_slice(),
+            rows: self.sides.rows,
             left,
             values: &values,
+            sides: self.sides,
         };
-        for value in &case.choices(*field, self.rows.input, self.least) {
+        for value in &case.choices(*field, self.least) {
             let narrower = self.narrowed(left, *field, *value);
             self.find(found, &narrower, values.with(*field, *value), level + 1)?;
         }
@@ -84,10 +83,10 @@ impl<'r> Splitting<'r> {
 
     /// The rows that a value of a field leaves.
     fn narrowed(&self, left: &Left, field: Field, value: u16) -> Left
-        requires { length left.now.items ≤ 134 }
-        ensures few { length result.items ≤ 134 }
+        requires { length left.now.items ≤ 402 }
+        ensures few { length result.items ≤ 402 }
         ensures items { result.items ≡ filter (test_at (λ row. row_admits row field value) false
-            self.now.rows.now.rows.items) left.now.items }
+            self.now.sides.now.rows.now) left.now.items }
     {
         let mut narrower = Left::new();
         for place in left {
@@ -99,43 +98,60 @@ impl<'r> Splitting<'r> {
     }
 
     /// Whether the row at a place, if one stands there, admits a value of a field.
-    fn admits_at(&self, place: u8, field: Field, value: u16) -> bool
+    fn admits_at(&self, place: u16, field: Field, value: u16) -> bool
         ensures { result ≡ test_at (λ row. row_admits row field value) false
-            self.now.rows.now.rows.items place }
+            self.now.sides.now.rows.now place }
     {
-        match self.rows.rows.get(usize::from(place)) {
+        match self.sides.rows.get(usize::from(place)) {
             Some(row) => row.admits(field, value),
             None => false,
         }
     }
 
-    /// Keeps the class of frames with these values, for which these rows are left.
+    /// Keeps what is told of frames with these values, for which these rows are left.
     fn keep(&self, found: &mut Found, left: &Left, values: Values) -> Result<(), AllocError>
-        requires left { AreLeft self.now.rows.now.rows.items fields values left.now.items }
+        requires beside { AreBeside self.now.sides.now.sides.now self.now.sides.now.rows.now
+            self.now.sides.now.ends }
+        requires eleven { length values.values ≡ length fields }
+        requires left { AreLeftOf (map side_by self.now.sides.now.sides.now) fields values left.now.items }
         requires values { IsOf self.now.least fields values }
-        requires samples { All (IsSample self.now.rows.now.endings self.now.rows.now.rows.items
-            self.now.least) found.old.samples.items }
+        requires samples { All (IsSample (map side_by self.now.sides.now.sides.now) self.now.least) found.old.samples.items }
         requires ascend { Ascend found.old.samples.items }
-        ensures more { OnOk result (AreMore self.now.rows.now.endings self.now.rows.now.rows.items
-            self.now.least found.old.samples.items found.new.samples.items) }
-        ensures every { OnOk result (AreAllFound self.now.rows.now.endings
-            self.now.rows.now.rows.items self.now.least fields values found.new.samples.items) }
+        ensures more { OnOk result (AreMore (map side_by self.now.sides.now.sides.now) self.now.least
+            found.old.samples.items found.new.samples.items) }
+        ensures every { OnOk result (AreAllFound (map side_by self.now.sides.now.sides.now) self.now.least 11
+            values found.new.samples.items) }
     {
-        match self.first(left) {
+        match self.sides.classes(left, &values) {
             None => Ok(()),
-            Some(row) => found.put(self.rows.class(row, &values), values),
+            Some(told) => self.keep_told(found, told, left, values),
         }
     }
 
-    /// The first row that is left.
-    fn first(&self, left: &Left) -> Option<&'r Row>
-        ensures { option_copied result ≡ slice_get (rows_at self.now.rows.now.rows.items left.now.items) 0 }
+    /// Keeps what is told of frames with these values, for which these rows are left, if it is to be told and isn't there.
+    fn keep_told(
+        &self,
+        found: &mut Found,
+        told: Told,
+        left: &Left,
+        values: Values,
+    ) -> Result<(), AllocError>
+        requires beside { AreBeside self.now.sides.now.sides.now self.now.sides.now.rows.now
+            self.now.sides.now.ends }
+        requires eleven { length values.values ≡ length fields }
+        requires classes { classes_at (map side_by self.now.sides.now.sides.now) values ≡ Some told }
+        requires left { AreLeftOf (map side_by self.now.sides.now.sides.now) fields values left.now.items }
+        requires values { IsOf self.now.least fields values }
+        requires samples { All (IsSample (map side_by self.now.sides.now.sides.now) self.now.least) found.old.samples.items }
+        requires ascend { Ascend found.old.samples.items }
+        ensures more { OnOk result (AreMore (map side_by self.now.sides.now.sides.now) self.now.least
+            found.old.samples.items found.new.samples.items) }
+        ensures every { OnOk result (AreAllFound (map side_by self.now.sides.now.sides.now) self.now.least 11
+            values found.new.samples.items) }
     {
-        for place in left {
-            if let Some(row) = self.rows.rows.get(usize::from(*place)) {
-                return Some(row);
-            }
+        if found.has(&told) || !self.sides.is_shown(left, &values) {
+            return Ok(());
         }
-        None
+        found.put(told, values)
     }
 }

@@ -1,5 +1,5 @@
 -- Worked examples, computed.
-use Rattle.std.proofs.Common.{◌≡◌, ◌<◌, ℕ, List, [], ◌∷◌, ◌++◌, arith, refl}
+use Rattle.std.proofs.Common.{◌≡◌, ◌<◌, ℕ, true, false, List, [], ◌∷◌, ◌++◌, arith, refl}
 use Rattle.std.specs.Prelude.{replicate}
 use Rattle.tag_view.specs.Frame.{fault_of, frame_of}
 use Rattle.tag_view.specs.Dscp.{dscp_of}
@@ -21,6 +21,8 @@ use Rattle.frame_rows.specs.declared.class.Ending.TheVariants.{Gem, Dropped}
 use Rattle.frame_rows.specs.declared.class.FrameClass.{FrameClass}
 use Rattle.frame_rows.specs.Use.{use_of}
 use Rattle.frame_rows.specs.Class.{class_number, class_of}
+use Rattle.frame_rows.specs.Field.{values_of}
+use Rattle.frame_rows.specs.Sight.{Leaves, Lost, seen_apart, side_of, sight_of}
 
 -- ---- the entities
 
@@ -145,3 +147,22 @@ pub ordered : (class_number (of Unread (Dropped CutTag)) < class_number (of NoTa
     × (class_number (of (Entry 0) (Dropped Direction)) < class_number (of (Entry 1) (Gem 0)))
     × (class_number (of (Entry 127) (Dropped Direction)) < class_number (of NoEntry (Dropped NoRule)))
 ordered = (omega arith, omega arith, omega arith, omega arith, omega arith, omega arith)
+
+-- ---- what is seen
+
+-- frames without a tag get one, and others leave as they came
+pub seen : (sight_of nothing 257 untagged ≡ Lost NoMapper)
+    × (sight_of set_up 257 untagged ≡ Leaves 1024 untagged)
+    × (sight_of with_entry 257 untagged ≡ Leaves 1024 (addresses ++ (0x81 ∷ 0x00 ∷ 0x00 ∷ 0x64 ∷ 0x08 ∷ 0x00 ∷ 0x45 ∷ 0x00 ∷ [])))
+    × (sight_of with_entry 257 (tagged prior_tag) ≡ Leaves 1024 (tagged prior_tag))
+    × (sight_of without_point 257 (tagged prior_tag) ≡ Lost NoInterwork)
+unfolding sight_of meaning forwarded_by table_at input_tpid_of tags_at tags_by entry_for mapper_at gem_port_at gem_port_of gem_port_behind port_id_of carries_upstream pointer_of priority_of frame_of fault_of dscp_of choice matches filter_of ethertype_of rank_of treatment_of kind_of key_of value_of number_of treated treated_by tried_order
+seen = (refl, refl, refl, refl, refl)
+
+-- so the entry makes a difference for frames without a tag, and the pointer for those of priority 5
+pub told_apart : (seen_apart true (side_of set_up 257) (side_of with_entry 257) (values_of untagged) ≡ true)
+    × (seen_apart true (side_of set_up 257) (side_of with_entry 257) (values_of (tagged tag)) ≡ false)
+    × (seen_apart true (side_of with_entry 257) (side_of without_point 257) (values_of (tagged tag)) ≡ false)
+    × (seen_apart true (side_of with_entry 257) (side_of without_point 257) (values_of (tagged prior_tag)) ≡ true)
+unfolding values_of table_at input_tpid_of tags_at tags_by entry_for mapper_at gem_port_at gem_port_of gem_port_behind port_id_of carries_upstream pointer_of priority_of frame_of fault_of dscp_of choice matches filter_of ethertype_of rank_of treatment_of kind_of key_of value_of number_of treated treated_by tried_order
+told_apart = (refl, refl, refl, refl)

@@ -1,6 +1,6 @@
 -- The rows of faults, and what a frame without one is to the other rows.
-use Rattle.std.proofs.Common.{◌≡◌, ℕ, ◌^◌, ◌<◌, ◌≤◌, true, false, ◌&&◌, List, [], ◌∷◌, ◌++◌, Option, Some, Ok, arith, refl, ap, length, drop, min, ◌∙◌}
-use Rattle.std.specs.Prelude.{All, find}
+use Rattle.std.proofs.Common.{◌≡◌, ℕ, ◌^◌, ◌<◌, ◌≤◌, true, false, ◌&&◌, List, [], ◌∷◌, ◌++◌, Some, Ok, arith, refl, ap, length, drop, min, ◌∙◌}
+use Rattle.std.specs.Prelude.{All}
 use Rattle.std.proofs.lemmas.Bool.{le-leb, lt-leb}
 use Rattle.tag_view.specs.Tag.{is_tag_type}
 use Rattle.tag_view.specs.Frame.{Reading, frame_of, tag_at, type_at, with_tags}
@@ -8,19 +8,16 @@ use Rattle.tag_view.specs.Dscp.{dscp_of}
 use Rattle.vlan_rule.specs.declared.filter.EthertypeFilter.{EthertypeFilter}
 use Rattle.vlan_rule.specs.declared.filter.Filter.{Filter}
 use Rattle.vlan_rule.specs.Choice.{are_tags, has_type}
-use Rattle.frame_rows.specs.declared.field.Values.{Values}
 use Rattle.frame_rows.specs.declared.row.Row.{Row}
-use Rattle.frame_rows.specs.Field.{fields, values_of, word_at}
-use Rattle.frame_rows.specs.Row.{first_cut_row, passes, runt_row, second_cut_row}
+use Rattle.frame_rows.specs.Field.{values_of, word_at}
+use Rattle.frame_rows.specs.Row.{first_cut_row, first_row, runt_row, second_cut_row}
 use Rattle.frame_rows.specs.Rows.{fault_rows}
+use Rattle.frame_rows.specs.Sight.{slots}
 use Rattle.frame_rows.proofs.Matching.{and_false, filter_passes, passes_with_one, passes_with_two, passes_without}
 use Rattle.frame_rows.proofs.Priorities.{Describes}
 use Rattle.frame_rows.proofs.Reading.{tagged, twice_tagged, untagged}
+use Rattle.frame_rows.proofs.Slots.{no_slots, one_slot, two_slots}
 use Rattle.frame_rows.proofs.Words.{word_there}
-
--- the first row that passes
-abbrev pub first_row : List Row → Values → Option Row
-first_row rows values = find (λ row. passes fields row values) rows
 
 -- ---- frames with a fault
 
@@ -68,6 +65,8 @@ pub record IsRead (input : ℕ) (bytes : List ℕ) (frame : Reading) : Type 0 wh
       → filter_passes f type input (values_of bytes) ≡ (are_tags input f frame.tags && has_type type (type_at 0 frame.rest))
   pub describes : Describes (values_of bytes) frame.tags (dscp_of frame.rest)
   pub no_fault : (rest : List Row) → first_row (fault_rows input ++ rest) (values_of bytes) ≡ first_row rest (values_of bytes)
+  pub whole : with_tags bytes (length frame.tags) frame.tags ≡ frame
+  pub slots_are : slots (length frame.tags) (values_of bytes) ≡ frame.tags
 
 pub read_untagged : (input : ℕ) (bytes : List ℕ) → 14 ≤ length bytes → is_tag_type input (type_at 12 bytes) ≡ false → All (λ b. b < 2 ^ 8) bytes
     → IsRead input bytes (with_tags bytes 0 [])
@@ -80,6 +79,8 @@ read_untagged input bytes long no_tag fits =
       pass = λ f type. passes_without input (values_of bytes) f type is.passes ∙ ap (λ (n : ℕ). are_tags input f [] && has_type type n) is.type;
       describes = is.describes;
       no_fault = λ rest. rw (lt-leb (min 24 (length bytes)) 13 (omega arith), first) (simp and_false);
+      whole = refl;
+      slots_are = no_slots (values_of bytes);
     }
 
 pub read_tagged : (input : ℕ) (bytes : List ℕ) → 18 ≤ length bytes → is_tag_type input (type_at 12 bytes) ≡ true
@@ -94,6 +95,8 @@ read_tagged input bytes long tag no_tag fits =
       pass = λ f type. passes_with_one input (values_of bytes) (tag_at 0 (drop 12 bytes)) f type is.passes ∙ ap (λ (n : ℕ). are_tags input f (tag_at 0 (drop 12 bytes) ∷ []) && has_type type n) is.type;
       describes = is.describes;
       no_fault = λ rest. rw (lt-leb (min 24 (length bytes)) 13 (omega arith), lt-leb (min 24 (length bytes)) 17 (omega arith), second) (simp and_false);
+      whole = refl;
+      slots_are = one_slot bytes (omega arith) fits;
     }
 
 pub read_twice_tagged : (input : ℕ) (bytes : List ℕ) → 22 ≤ length bytes → is_tag_type input (type_at 12 bytes) ≡ true
@@ -108,4 +111,6 @@ read_twice_tagged input bytes long tag tag' fits =
           ∙ ap (λ (n : ℕ). are_tags input f (tag_at 0 (drop 12 bytes) ∷ tag_at 4 (drop 12 bytes) ∷ []) && has_type type n) is.type;
       describes = is.describes;
       no_fault = λ rest. rw (lt-leb (min 24 (length bytes)) 13 (omega arith), lt-leb (min 24 (length bytes)) 17 (omega arith), lt-leb (min 24 (length bytes)) 21 (omega arith)) (simp and_false);
+      whole = refl;
+      slots_are = two_slots bytes (omega arith) fits;
     }

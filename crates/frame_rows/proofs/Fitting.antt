@@ -1,9 +1,9 @@
 -- The rows of a port ask and read what they may, and aren't many.
-use Rattle.std.proofs.Common.{◌≡◌, ℕ, suc, ◌+◌, ◌≤◌, ◌==◌, Bool, true, false, ◌&&◌, List, [], ◌∷◌, ◌++◌, Option, Some, None, arith, refl, ap, sym, subst, length, length-append, if◌then◌else◌, nat_le}
+use Rattle.std.proofs.Common.{◌≡◌, ℕ, suc, ◌+◌, ◌≤◌, ◌==◌, Bool, true, false, ◌&&◌, ◌||◌, List, [], ◌∷◌, ◌++◌, Option, Some, None, arith, refl, ap, sym, subst, length, length-append, if◌then◌else◌, nat_le}
 use Rattle.std.specs.Prelude.{All, IfSome, IsTrue, nat_lt, slice_index_or}
 use Rattle.std.specs.List.{list_all}
-use Rattle.std.proofs.lemmas.Bool.{eq-eqb, true≢false}
-use Rattle.std.proofs.lemmas.List.Elements.{All-append, All-cons, All-nil}
+use Rattle.std.proofs.lemmas.Bool.{and_from, eq-eqb}
+use Rattle.std.proofs.lemmas.List.Elements.{All-append, All-cons, All-head, All-nil, All-tail}
 use Rattle.tag_view.specs.Tag.{customer_tpid}
 use Rattle.vlan_rule.specs.declared.settings.TableSettings.{TableSettings}
 use Rattle.vlan_rule.specs.declared.filter.EthertypeFilter.{EthertypeFilter}
@@ -22,19 +22,25 @@ use Rattle.vlan_rule.specs.declared.treatment.AddedTag.{AddedTag}
 use Rattle.vlan_rule.specs.declared.treatment.Treatment.{Treatment}
 use Rattle.vlan_rule.specs.declared.treatment.Treatment.TheVariants as treatment
 use Rattle.vlan_rule.specs.Choice.{entry_at}
-use Rattle.vlan_rule.specs.Meaning.{ethertype_of, filter_of, treatment_of}
+use Rattle.vlan_rule.specs.Meaning.{ethertype_of, filter_of, treatment_fits, treatment_of}
+use Rattle.treatment.specs.Compiled.{takes_dscp}
 use Rattle.pmapper.specs.Mapper.{Unmarked}
 use Rattle.explain.specs.Order.{tried_order}
+use Rattle.frame_meaning.specs.declared.reason.Reason.TheVariants.{NoRule}
 use Rattle.frame_meaning.specs.Meaning.{Table, input_tpid_of}
 use Rattle.frame_rows.specs.declared.ask.Ask.TheVariants.{Any}
+use Rattle.frame_rows.specs.declared.source.DscpSource.{DscpSource}
 use Rattle.frame_rows.specs.declared.source.Source.{Source}
 use Rattle.frame_rows.specs.declared.source.Source.TheVariants.{Fixed, FirstTag, SecondTag}
+use Rattle.frame_rows.specs.declared.row.Ends.{Ends}
+use Rattle.frame_rows.specs.declared.row.Ends.TheVariants as ends
 use Rattle.frame_rows.specs.declared.row.Row.{Row}
 use Rattle.frame_rows.specs.Ask.{eligible_ask, priority_ask, vid_ask}
 use Rattle.frame_rows.specs.Field.{fields, place_of}
-use Rattle.frame_rows.specs.Fits.{ask_fits, asks_number, ends_fit, row_fits, source_fits}
-use Rattle.frame_rows.specs.Row.{asks_of, first_cut_row, runt_row, second_cut_row, tags_of}
-use Rattle.frame_rows.specs.Rows.{entry_row, entry_rows, fault_rows, kept_ends, kept_row, kept_rows, rows_by, table_rows, treated_ends, unmatched_row, unmatched_rows}
+use Rattle.frame_rows.specs.Fits.{ask_fits, asks_number, asks_tag, ends_fit, length_fits, marking_fits, row_fits, source_fits, tags_fit}
+use Rattle.frame_rows.specs.Row.{ask_at, asks_of, first_cut_row, runt_row, second_cut_row, tags_of}
+use Rattle.frame_rows.specs.Rows.{IsMarked, entry_row, entry_rows, fault_rows, kept_ends, kept_row, kept_rows, marking_of, no_settings, retag_of, rows_by, settings_by, table_rows, treated_ends, unmatched_row, unmatched_rows}
+use Rattle.frame_rows.specs.Treatments.{Fits, TreatmentsFit}
 use Rattle.frame_rows.specs.Source.{added_source, kept_source, left_source, outermost_added, unmarked_source}
 
 -- ---- what is asked
@@ -128,15 +134,42 @@ kept_fit : (unmarked : Option Unmarked) (tags : ℕ) → nat_lt tags 3 ≡ true 
 kept_fit None tags few = refl
 kept_fit (Some unmarked) tags few = kept_fits unmarked tags few
 
+-- ---- which tags leave
+
+marking_fit : (asked : Bool) (source : DscpSource) → nat_lt source.tags 3 ≡ true → marking_fits (if asked then Some source else None) ≡ true
+marking_fit true source few = few
+marking_fit false source few = refl
+
+retag_fits : (by : Treatment) → treatment_fits by ≡ true → treatment_fits (treatment.Retag (retag_of by)) ≡ true
+retag_fits treatment.Discard fits = refl
+retag_fits (treatment.Retag retag) fits = fits
+
+-- the tags that a filter asks for, and a length that holds them
+tags_asked : (f : Filter) (type : EthertypeFilter) (input : ℕ) (how : Ends) →
+    let asked = λ (place : ℕ). slice_index_or (asks_of f type input) place Any in
+    (nat_lt (tags_of f) 3
+    && ((nat_lt (tags_of f) 1 || asks_tag input (asked 1))
+    && ((nat_lt (tags_of f) 2 || asks_tag input (asked 2)) && length_fits how (tags_of f) (asked 0)))) ≡ true
+tags_asked filter.NoTag type input (ends.Dropped reason) = refl
+tags_asked filter.NoTag type input (ends.ByPriority source) = refl
+tags_asked filter.OneTagDefault type input (ends.Dropped reason) = rw (same_number input) refl
+tags_asked filter.OneTagDefault type input (ends.ByPriority source) = rw (same_number input) refl
+tags_asked (filter.OneTag tag) type input (ends.Dropped reason) = rw (same_number input) refl
+tags_asked (filter.OneTag tag) type input (ends.ByPriority source) = rw (same_number input) refl
+tags_asked filter.TwoTagDefault type input (ends.Dropped reason) = rw (same_number input) refl
+tags_asked filter.TwoTagDefault type input (ends.ByPriority source) = rw (same_number input) refl
+tags_asked (filter.TwoTag outer inner) type input (ends.Dropped reason) = rw (same_number input) refl
+tags_asked (filter.TwoTag outer inner) type input (ends.ByPriority source) = rw (same_number input) refl
+
 -- ---- rows
 
 abbrev pub AllFit : ℕ → List Row → Type 0
 AllFit input rows = All (λ row. IsTrue (row_fits input row)) rows
 
-both : (a b : Bool) → a ≡ true → b ≡ true → IsTrue (a && b)
-both true true p q = refl
-both true false p q = absurd (true≢false (sym q))
-both false b p q = absurd (true≢false (sym p))
+parts_fit : (input : ℕ) (row : Row) → list_all (λ field. ask_fits input field (ask_at row field)) fields ≡ true → ends_fit row.ends ≡ true
+    → marking_fits row.marking ≡ true → tags_fit input row ≡ true → treatment_fits (treatment.Retag row.retag) ≡ true → IsTrue (row_fits input row)
+parts_fit input row asks how marking tags retag =
+    and_from _ _ asks (and_from _ _ how (and_from _ _ marking (and_from _ _ tags retag)))
 
 three_fit : (input : ℕ) (a b c : Row) → IsTrue (row_fits input a) → IsTrue (row_fits input b) → IsTrue (row_fits input c) → AllFit input (a ∷ b ∷ c ∷ [])
 three_fit input a b c p q r =
@@ -157,7 +190,9 @@ faults_fit input =
     three_fit input runt_row (first_cut_row input) (second_cut_row input) (runt_fits input) (first_cut_fits input) (second_cut_fits input)
 
 kept_row_fits : (unmarked : Option Unmarked) (f : Filter) → IsTrue (row_fits customer_tpid (kept_row unmarked f))
-kept_row_fits unmarked f = both _ _ (asks_fit f ethertype.Any customer_tpid) (kept_fit unmarked (tags_of f) (few_tags f))
+kept_row_fits unmarked f =
+    parts_fit customer_tpid (kept_row unmarked f) (asks_fit f ethertype.Any customer_tpid) (kept_fit unmarked (tags_of f) (few_tags f)) refl
+    (tags_asked f ethertype.Any customer_tpid (kept_ends unmarked (tags_of f))) refl
 
 kept_rows_fit : (unmarked : Option Unmarked) → AllFit customer_tpid (kept_rows unmarked)
 kept_rows_fit unmarked =
@@ -165,45 +200,102 @@ kept_rows_fit unmarked =
     (kept_row_fits unmarked filter.NoTag) (kept_row_fits unmarked filter.OneTagDefault) (kept_row_fits unmarked filter.TwoTagDefault)
 
 unmatched_row_fits : (input : ℕ) (f : Filter) → IsTrue (row_fits input (unmatched_row input f))
-unmatched_row_fits input f = both _ _ (asks_fit f ethertype.Any input) refl
+unmatched_row_fits input f =
+    parts_fit input (unmatched_row input f) (asks_fit f ethertype.Any input) refl refl (tags_asked f ethertype.Any input (ends.Dropped NoRule)) refl
 
 unmatched_rows_fit : (input : ℕ) → AllFit input (unmatched_rows input)
 unmatched_rows_fit input =
     three_fit input (unmatched_row input filter.NoTag) (unmatched_row input filter.OneTagDefault) (unmatched_row input filter.TwoTagDefault)
     (unmatched_row_fits input filter.NoTag) (unmatched_row_fits input filter.OneTagDefault) (unmatched_row_fits input filter.TwoTagDefault)
 
-entry_row_fits : (table : Table) (unmarked : Option Unmarked) (number : ℕ) (entry : List ℕ)
+entry_row_fits : (table : Table) (unmarked : Option Unmarked) (number : ℕ) (entry : List ℕ) → treatment_fits (treatment_of entry) ≡ true
     → IsTrue (row_fits table.settings.input_tpid (entry_row table unmarked number entry))
-entry_row_fits table unmarked number entry =
-    both _ _ (asks_fit (filter_of entry) (ethertype_of entry) table.settings.input_tpid)
-    (treated_fit (treatment_of entry) table.settings unmarked (tags_of (filter_of entry)) (few_tags (filter_of entry)))
+entry_row_fits table unmarked number entry fits =
+    let by = treatment_of entry in
+    let tags = tags_of (filter_of entry) in
+    parts_fit table.settings.input_tpid (entry_row table unmarked number entry)
+    (asks_fit (filter_of entry) (ethertype_of entry) table.settings.input_tpid)
+    (treated_fit by table.settings unmarked tags (few_tags (filter_of entry)))
+    (marking_fit (takes_dscp by) (record { tags = tags; map = table.settings.dscp_map; without = 0 }) (few_tags (filter_of entry)))
+    (tags_asked (filter_of entry) (ethertype_of entry) table.settings.input_tpid (treated_ends by table.settings unmarked tags)) (retag_fits by fits)
 
-entry_rows_fit : (table : Table) (unmarked : Option Unmarked) (number : ℕ) (places : List ℕ)
+entry_rows_fit : (table : Table) (unmarked : Option Unmarked) (number : ℕ) (places : List ℕ) → All (Fits table.entries) places
     → AllFit table.settings.input_tpid (entry_rows table unmarked number places)
-entry_rows_fit table unmarked number [] = All-nil (λ row. IsTrue (row_fits table.settings.input_tpid row))
-entry_rows_fit table unmarked number (place ∷ rest) =
+entry_rows_fit table unmarked number [] fits = All-nil (λ row. IsTrue (row_fits table.settings.input_tpid row))
+entry_rows_fit table unmarked number (place ∷ rest) fits =
     All-cons (λ row. IsTrue (row_fits table.settings.input_tpid row)) (entry_row table unmarked number (entry_at table.entries place))
-    (entry_rows table unmarked (number + 1) rest) (entry_row_fits table unmarked number (entry_at table.entries place))
-    (entry_rows_fit table unmarked (number + 1) rest)
+    (entry_rows table unmarked (number + 1) rest)
+    (entry_row_fits table unmarked number (entry_at table.entries place) (All-head (Fits table.entries) place rest fits))
+    (entry_rows_fit table unmarked (number + 1) rest (All-tail (Fits table.entries) place rest fits))
 
-table_fits : (table : Option Table) (unmarked : Option Unmarked) → AllFit (input_tpid_of table) (table_rows table unmarked)
-unfolding input_tpid_of
-table_fits None unmarked = kept_rows_fit unmarked
-table_fits (Some table) unmarked =
+table_fits : (table : Option Table) (unmarked : Option Unmarked) → IfSome table (λ table. TreatmentsFit table.entries)
+    → AllFit (settings_by table).input_tpid (table_rows table unmarked)
+table_fits None unmarked fits = kept_rows_fit unmarked
+table_fits (Some table) unmarked fits =
     All-append (λ row. IsTrue (row_fits table.settings.input_tpid row)) (entry_rows table unmarked 0 (tried_order table.entries))
-    (unmatched_rows table.settings.input_tpid) (entry_rows_fit table unmarked 0 (tried_order table.entries)) (unmatched_rows_fit table.settings.input_tpid)
+    (unmatched_rows table.settings.input_tpid) (entry_rows_fit table unmarked 0 (tried_order table.entries) fits)
+    (unmatched_rows_fit table.settings.input_tpid)
+
+-- by the settings frames are read as by the table
+read_alike : (table : Option Table) → input_tpid_of table ≡ (settings_by table).input_tpid
+unfolding input_tpid_of
+read_alike None = refl
+read_alike (Some table) = refl
 
 -- each row of a port is such
-all_fit : (table : Option Table) (unmarked : Option Unmarked) → AllFit (input_tpid_of table) (rows_by table unmarked)
-all_fit table unmarked =
-    All-append (λ row. IsTrue (row_fits (input_tpid_of table) row)) (fault_rows (input_tpid_of table)) (table_rows table unmarked)
-    (faults_fit (input_tpid_of table)) (table_fits table unmarked)
+all_fit : (table : Option Table) (unmarked : Option Unmarked) → IfSome table (λ table. TreatmentsFit table.entries)
+    → AllFit (settings_by table).input_tpid (rows_by table unmarked)
+all_fit table unmarked fits =
+    All-append (λ row. IsTrue (row_fits (settings_by table).input_tpid row)) (fault_rows (input_tpid_of table)) (table_rows table unmarked)
+    (subst (λ (input : ℕ). AllFit (settings_by table).input_tpid (fault_rows input)) (sym (read_alike table)) (faults_fit (settings_by table).input_tpid))
+    (table_fits table unmarked fits)
 
 -- by what code makes of them
-pub fit_along : (table : Option Table) (unmarked : Option Unmarked) (input : ℕ) (rows : List Row) → input ≡ input_tpid_of table
-    → rows ≡ rows_by table unmarked → AllFit input rows
-fit_along table unmarked input rows p q =
-    subst (λ (n : ℕ). AllFit n rows) (sym p) (subst (λ (x : List Row). AllFit (input_tpid_of table) x) (sym q) (all_fit table unmarked))
+pub fit_along : (table : Option Table) (unmarked : Option Unmarked) (settings : TableSettings) (rows : List Row)
+    → IfSome table (λ table. TreatmentsFit table.entries) → settings ≡ settings_by table → rows ≡ rows_by table unmarked → AllFit settings.input_tpid rows
+fit_along table unmarked settings rows fits p q =
+    subst (λ (s : TableSettings). AllFit s.input_tpid rows) (sym p)
+    (subst (λ (x : List Row). AllFit (settings_by table).input_tpid x) (sym q) (all_fit table unmarked fits))
+
+-- ---- which DSCP is asked for
+
+three_marked : (settings : TableSettings) (a b c : Row) → IsMarked settings a → IsMarked settings b → IsMarked settings c
+    → All (IsMarked settings) (a ∷ b ∷ c ∷ [])
+three_marked settings a b c p q r =
+    All-cons (IsMarked settings) a (b ∷ c ∷ []) p
+    (All-cons (IsMarked settings) b (c ∷ []) q (All-cons (IsMarked settings) c [] r (All-nil (IsMarked settings))))
+
+marked_by : (by : Treatment) (settings : TableSettings) (tags : ℕ) → marking_of by settings tags ≡ marking_of (treatment.Retag (retag_of by)) settings tags
+marked_by treatment.Discard settings tags = refl
+marked_by (treatment.Retag retag) settings tags = refl
+
+entry_rows_marked : (table : Table) (unmarked : Option Unmarked) (number : ℕ) (places : List ℕ)
+    → All (IsMarked table.settings) (entry_rows table unmarked number places)
+entry_rows_marked table unmarked number [] = All-nil (IsMarked table.settings)
+entry_rows_marked table unmarked number (place ∷ rest) =
+    let entry = entry_at table.entries place in
+    All-cons (IsMarked table.settings) (entry_row table unmarked number entry) (entry_rows table unmarked (number + 1) rest)
+    (marked_by (treatment_of entry) table.settings (tags_of (filter_of entry))) (entry_rows_marked table unmarked (number + 1) rest)
+
+table_marked : (table : Option Table) (unmarked : Option Unmarked) → All (IsMarked (settings_by table)) (table_rows table unmarked)
+table_marked None unmarked =
+    three_marked no_settings (kept_row unmarked filter.NoTag) (kept_row unmarked filter.OneTagDefault) (kept_row unmarked filter.TwoTagDefault) refl refl refl
+table_marked (Some table) unmarked =
+    let input = table.settings.input_tpid in
+    All-append (IsMarked table.settings) (entry_rows table unmarked 0 (tried_order table.entries)) (unmatched_rows input)
+    (entry_rows_marked table unmarked 0 (tried_order table.entries))
+    (three_marked table.settings (unmatched_row input filter.NoTag) (unmatched_row input filter.OneTagDefault) (unmatched_row input filter.TwoTagDefault)
+    refl refl refl)
+
+pub marked_along : (table : Option Table) (unmarked : Option Unmarked) (settings : TableSettings) (rows : List Row) → settings ≡ settings_by table
+    → rows ≡ rows_by table unmarked → All (IsMarked settings) rows
+marked_along table unmarked settings rows p q = rw (p, q) all
+  where
+    all : All (IsMarked (settings_by table)) (rows_by table unmarked)
+    all =
+        let input = input_tpid_of table in
+        All-append (IsMarked (settings_by table)) (fault_rows input) (table_rows table unmarked)
+        (three_marked (settings_by table) runt_row (first_cut_row input) (second_cut_row input) refl refl refl) (table_marked table unmarked)
 
 -- ---- how many
 

@@ -9,3 +9,4 @@ pub mod Alike
 pub mod Treatments
 pub mod Rows
 pub mod Fits
+pub mod Sight

@@ -9,6 +9,7 @@ use Rattle.vlan_rule.specs.declared.filter.PriorityFilter.TheVariants as priorit
 use Rattle.vlan_rule.specs.declared.filter.VidFilter.TheVariants as vid
 use Rattle.vlan_rule.specs.declared.filter.TpidFilter.TheVariants as tpid
 use Rattle.vlan_rule.specs.declared.filter.TagFilter.{TagFilter}
+use Rattle.vlan_rule.specs.declared.treatment.Retag.{Retag}
 use Rattle.frame_meaning.specs.declared.reason.Reason.TheVariants.{Runt, CutTag, NoMapper}
 use Rattle.frame_rows.specs.declared.class.Use.TheVariants.{Unread}
 use Rattle.frame_rows.specs.declared.class.Ending.{Ending}
@@ -54,6 +55,10 @@ named_by (Ethertype filter) = None
 
 -- ---- the class of its frames
 
+-- the first row that asks nothing else
+abbrev pub first_row : List Row → Values → Option Row
+first_row rows values = find (λ row. passes fields row values) rows
+
 abbrev pub ending_of : List Ending → Ends → Values → Ending
 ending_of endings (ends.Dropped reason) values = Dropped reason
 ending_of endings (ends.ByPriority source) values = slice_index_or endings (priority_by source values) (Dropped NoMapper)
@@ -63,7 +68,7 @@ class_of_row endings row values = record { used = row.used; ending = ending_of e
 
 -- the class of frames with these values: that of the first row that asks nothing else
 abbrev pub class_by : List Ending → List Row → Values → Option FrameClass
-class_by endings rows values = option_map (λ row. class_of_row endings row values) (find (λ row. passes fields row values) rows)
+class_by endings rows values = option_map (λ row. class_of_row endings row values) (first_row rows values)
 
 -- ---- what the ending depends on
 
@@ -92,6 +97,14 @@ ends_read (ends.ByPriority source) values field value = source_reads source valu
 
 abbrev pub row_reads : Row → Values → Field → ℕ → ℕ
 row_reads row values field value = ends_read row.ends values field value
+
+-- what the priorities of added tags depend on
+abbrev pub marking_reads : Option DscpSource → Values → Field → ℕ → ℕ
+marking_reads None values field value = 0
+marking_reads (Some source) values field value = dscp_reads source values field value
+
+abbrev pub row_marks : Row → Values → Field → ℕ → ℕ
+row_marks row values field value = marking_reads row.marking values field value
 
 -- ---- rows of filters
 
@@ -132,15 +145,35 @@ tags_of (filter.OneTag tag) = 1
 tags_of filter.TwoTagDefault = 2
 tags_of (filter.TwoTag outer inner) = 2
 
+-- ---- tags that stay as they are
+
+abbrev pub keep : Retag
+keep = record { remove = 0; outer = None; inner = None }
+
 -- ---- rows of frames that can't be read
 
 abbrev pub runt_row : Row
-runt_row = record { used = Unread; ends = ends.Dropped Runt; asks = asks_by (Between 0 13) Any Any Any any_tag any_tag }
+runt_row =
+    record {
+      used = Unread;
+      ends = ends.Dropped Runt;
+      asks = asks_by (Between 0 13) Any Any Any any_tag any_tag;
+      tags = 0;
+      retag = keep;
+      marking = None;
+    }
 
 -- those that end within a first tag, and within a second
 abbrev pub first_cut_row : ℕ → Row
 first_cut_row input =
-    record { used = Unread; ends = ends.Dropped CutTag; asks = asks_by (Between 14 17) (TagType input tpid.Any) Any Any any_tag any_tag }
+    record {
+      used = Unread;
+      ends = ends.Dropped CutTag;
+      asks = asks_by (Between 14 17) (TagType input tpid.Any) Any Any any_tag any_tag;
+      tags = 0;
+      retag = keep;
+      marking = None;
+    }
 
 abbrev pub second_cut_row : ℕ → Row
 second_cut_row input =
@@ -148,4 +181,7 @@ second_cut_row input =
       used = Unread;
       ends = ends.Dropped CutTag;
       asks = asks_by (Between 18 21) (TagType input tpid.Any) (TagType input tpid.Any) Any any_tag any_tag;
+      tags = 0;
+      retag = keep;
+      marking = None;
     }

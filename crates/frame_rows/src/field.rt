@@ -54,7 +54,7 @@ impl Field {
     ];
 
     /// Where it stands among them.
-    pub(crate) fn place(self) -> usize
+    pub fn place(self) -> usize
         ensures value { result ≡ place_of self }
         ensures bound { result < 11 }
     {

@@ -12,12 +12,19 @@
 //!
 //! **What they mean.** For all bytes the class of a frame, which is what the port's table uses for it and how the frame ends, is
 //! that of the first row that asks nothing else of its values (`Mean`).
+//!
+//! **What leaves.** A row also says how many tags its frames are read with, how these change, and which DSCP gives an added tag its
+//! priority. So for all bytes what is seen of a frame, which is the GEM port and the bytes with which it leaves or the reason to drop
+//! it, is by that row too (`AreSeen`). The tags with which it leaves are by its values ([`Rows::leaving`]). By two configurations the
+//! sights of a frame differ exactly where the endings of its two rows or these tags do ([`law_of_sights`]): where the rows read unlike
+//! numbers of tags, the bytes that only one reads as a tag stand for one on the other side.
 #![tactic(auto)]
 
 mod ask;
 mod class;
 mod field;
 mod laws;
+mod leaving;
 mod row;
 mod rows;
 mod source;
@@ -25,7 +32,7 @@ mod source;
 pub use ask::Ask;
 pub use class::{Ending, FrameClass, Use};
 pub use field::{FIELD_COUNT, Field, LONG, Values};
-pub use laws::law_of_uses;
+pub use laws::{law_of_sights, law_of_uses};
 pub use row::{Ends, Row};
 pub use rows::Rows;
 pub use source::{DscpSource, Packet, Source};

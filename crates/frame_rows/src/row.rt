@@ -1,13 +1,13 @@
 //! Rows: what is asked of the fields of a frame, and the class of the frames for which it is the first that asks nothing else.
-ghost use Rattle.std.specs.Prelude.{◌≡◌, slice_index_or};
-ghost use Rattle.frame_rows.specs.Row.{asks_by, asks_of, asks_of_none, asks_of_one, asks_of_two, tags_of};
+ghost use Rattle.std.specs.Prelude.{◌≡◌, None, slice_index_or};
+ghost use Rattle.frame_rows.specs.Row.{asks_by, asks_of, asks_of_none, asks_of_one, asks_of_two, keep, tags_of};
 
 use crate::ask::Ask;
 use crate::class::Use;
 use crate::field::{FIELD_COUNT, Field, LONG, Values};
-use crate::source::Source;
+use crate::source::{DscpSource, Source};
 use frame_meaning::Reason;
-use vlan_rule::{EthertypeFilter, Filter, TagFilter};
+use vlan_rule::{EthertypeFilter, Filter, Retag, TagFilter};
 
 /// How the frames of a row end.
 #[derive(Clone, Copy, Debug, PartialEq, Eq)]
@@ -27,12 +27,25 @@ pub struct Row {
     pub ends: Ends,
     /// What it asks of each field, in the order of `Field::ALL`.
     pub asks: [Ask; FIELD_COUNT],
+    /// How many tags its frames are read with, if they can be read.
+    pub tags: u8,
+    /// How their tags change where they leave.
+    pub retag: Retag,
+    /// The DSCP that gives an added tag its priority, if one does.
+    pub marking: Option<DscpSource>,
 }
+
+/// The tags stay as they are.
+pub(crate) const KEEP: Retag = Retag {
+    remove: 0,
+    outer: None,
+    inner: None,
+};
 
 impl Row {
     ghost use Rattle.std.specs.Prelude.{◌≡◌};
-    ghost use Rattle.frame_rows.specs.Row.{ask_at, first_cut_row, named_by, row_admits, row_reads, runt_row, second_cut_row};
-    ghost use Rattle.frame_rows.specs.Alike.{ends_read_all, is_alike};
+    ghost use Rattle.frame_rows.specs.Row.{ask_at, first_cut_row, named_by, row_admits, row_marks, row_reads, runt_row, second_cut_row};
+    ghost use Rattle.frame_rows.specs.Alike.{is_alike, row_reads_all};
 
     /// Whether the value of a field is as the row asks.
     pub fn admits(&self, field: Field, value: u16) -> bool
@@ -61,24 +74,43 @@ impl Row {
         }
     }
 
-    /// Whether it doesn't tell two values of a field apart: it admits both, and its frames end alike, or neither.
+    /// What the priorities of added tags depend on in a field, where it has this value and the fields before it those.
+    pub(crate) fn marks(&self, values: &Values, field: Field, value: u16) -> u16
+        ensures { result ≡ row_marks self.now values.now field value }
+    {
+        match &self.marking {
+            None => 0,
+            Some(source) => source.reads(values, field, value),
+        }
+    }
+
+    /// Whether it doesn't tell two values of a field apart: it admits both, its frames end alike and have added tags of one
+    /// priority, or it admits neither.
     pub fn is_alike(&self, values: &Values, field: Field, one: u16, other: u16) -> bool
         ensures { result ≡ is_alike values.now field one other self.now }
     {
         match (self.admits(field, one), self.admits(field, other)) {
-            (true, true) => self.reads(values, field, one) == self.reads(values, field, other),
+            (true, true) => {
+                self.reads(values, field, one) == self.reads(values, field, other)
+                    && self.marks(values, field, one) == self.marks(values, field, other)
+            }
             (false, false) => true,
             _ => false,
         }
     }
 
-    /// Whether the ending of its frames depends on each value of a field that isn't a type or the length.
+    /// Whether the ending of its frames, or the priority of an added tag, depends on each value of a field that isn't a type or
+    /// the length.
     pub fn reads_all(&self, field: Field) -> bool
-        ensures { result ≡ ends_read_all field self.now.ends }
+        ensures { result ≡ row_reads_all field self.now }
     {
+        let marked = match &self.marking {
+            None => false,
+            Some(source) => source.reads_all(field),
+        };
         match &self.ends {
-            Ends::Dropped(_) => false,
-            Ends::ByPriority(source) => source.reads_all(field),
+            Ends::Dropped(_) => marked,
+            Ends::ByPriority(source) => source.reads_all(field) || marked,
         }
     }
 
@@ -126,11 +158,17 @@ fn unread(reason: Reason, asks: [Ask; FIELD_COUNT]) -> Row
     ensures used { result.used ≡ Use.Unread }
     ensures ends { result.ends ≡ Ends.Dropped reason }
     ensures asks { result.asks ≡ asks }
+    ensures tags { result.tags ≡ 0 }
+    ensures retag { result.retag ≡ keep }
+    ensures marking { result.marking ≡ None }
 {
     Row {
         used: Use::Unread,
         ends: Ends::Dropped(reason),
         asks,
+        tags: 0,
+        retag: KEEP,
+        marking: None,
     }
 }
 

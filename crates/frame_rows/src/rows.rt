@@ -7,19 +7,22 @@ ghost use Rattle.vlan_rule.specs.Rule.{IsRuleOf};
 ghost use Rattle.explain.specs.Order.{tried_order};
 ghost use Rattle.frame_meaning.specs.Meaning.{found_then, gem_port_of, mapper_at, table_at, unmarked_at};
 ghost use Rattle.frame_rows.specs.Treatments.{Fits, TreatmentsFit};
-ghost use Rattle.frame_rows.specs.Rows.{ending_at, endings_at, entry_row, entry_rows, fault_rows, kept_ends, kept_row, kept_rows, rows_of, table_rows, treated_ends, unmatched_row, unmatched_rows};
+ghost use Rattle.frame_rows.specs.Rows.{ending_at, endings_at, entry_row, entry_rows, fault_rows, kept_ends, kept_row, kept_rows, marking_of, retag_of, rows_of, settings_by, table_rows, treated_ends, unmatched_row, unmatched_rows};
+ghost use Rattle.treatment.specs.Compiled.{adds_dscp, is_from_dscp, takes_dscp};
 
 use crate::class::{Ending, FrameClass, Use};
 use crate::field::Values;
-use crate::row::{Ends, Row, asks_of, tag_count};
-use crate::source::Source;
+use crate::row::{Ends, KEEP, Row, asks_of, tag_count};
+use crate::source::{DscpSource, Source};
 use explain::tried_order;
 use frame_meaning::{PortTable, Reason, gem_port_of, input_tpid, mapper_at};
 use mib_state::Mib;
 use pmapper::Mapper;
 use std::alloc::{AllocError, Global};
-use tag_view::CUSTOMER_TPID;
-use vlan_rule::{EthertypeFilter, Filter, Rule, TableSettings, Treatment};
+use tag_view::{CUSTOMER_TPID, DscpMap};
+use vlan_rule::{
+    AddedTag, EthertypeFilter, Filter, PrioritySource, Retag, Rule, TableSettings, Treatment,
+};
 
 /// What the managed entities mean for the frames that come in at a port, as rows: a frame has the class of the first row that
 /// asks nothing else of it.
@@ -28,8 +31,8 @@ pub struct Rows {
     /// The rows: those of frames that can't be read, then those of the table's entries in the order in which they are tried, and those of frames
     /// that no entry matches.
     pub rows: Vec<Row>,
-    /// The input TPID by which they read tags.
-    pub input: u16,
+    /// The table's settings: the input TPID by which tags are read, and what they are added with.
+    pub settings: TableSettings,
     /// How frames of each priority, from 0 to 7, end.
     pub endings: [Ending; 8],
 }
@@ -38,28 +41,31 @@ pub struct Rows {
 pub(crate) const MAX_ROWS: usize = 134;
 
 impl Rows {
-    ghost use Rattle.std.specs.Prelude.{◌≡◌, ◌≤◌, All, IfOk, IsTrue, length, slice_index_or};
-    ghost use Rattle.frame_meaning.specs.Meaning.{input_tpid_of, table_at};
+    ghost use Rattle.std.specs.Prelude.{◌≡◌, ◌≤◌, ◌<◌, ◌^◌, All, IfOk, IsTrue, length, slice_index_or};
     ghost use Rattle.frame_rows.specs.Fits.{row_fits};
-    ghost use Rattle.frame_rows.specs.Rows.{Mean, endings_at, rows_of};
+    ghost use Rattle.frame_rows.specs.Rows.{IsMarked, Mean, endings_at, rows_of, settings_at};
+    ghost use Rattle.frame_rows.specs.Sight.{AreSeen};
     ghost use Rattle.frame_rows.specs.Row.{class_of_row};
 
     /// The rows of a port, for the state of these managed entities. Err only where memory is refused.
     pub fn of(alloc: Global, mib: &Mib, port: u16) -> Result<Rows, AllocError>
         ensures rows { IfOk result (λ rows. rows.rows.items ≡ rows_of mib.now.entities port) }
         ensures endings { IfOk result (λ rows. rows.endings ≡ endings_at mib.now.entities port) }
-        ensures input { IfOk result (λ rows.
-            rows.input ≡ input_tpid_of (table_at mib.now.entities port)) }
+        ensures settings { IfOk result (λ rows. rows.settings ≡ settings_at mib.now.entities port) }
         ensures mean { IfOk result (λ rows.
             Mean mib.now.entities port rows.endings rows.rows.items) }
-        ensures fit { IfOk result (λ rows. All (λ row. IsTrue (row_fits rows.input row))
+        ensures seen { IfOk result (λ rows. AreSeen mib.now.entities port
+            (record { settings = rows.settings; endings = rows.endings; rows = rows.rows.items })) }
+        ensures fit { IfOk result (λ rows. All (λ row. IsTrue (row_fits rows.settings.input_tpid row))
             rows.rows.items) }
+        ensures marked { IfOk result (λ rows. All (IsMarked rows.settings) rows.rows.items) }
+        ensures output { IfOk result (λ rows. rows.settings.output_tpid < 2 ^ 16) }
         ensures few { IfOk result (λ rows. length rows.rows.items ≤ 134) }
     {
         let rows = rows_of(alloc, mib, port)?;
         Ok(Rows {
             rows,
-            input: input_tpid(&PortTable::at(mib, port)),
+            settings: settings_of(&PortTable::at(mib, port)),
             endings: endings_of(mib, port),
         })
     }
@@ -86,6 +92,20 @@ impl Rows {
             Some(ending) => *ending,
             None => Ending::Dropped(Reason::NoMapper),
         }
+    }
+}
+
+/// The settings that tags are added with. Without a table none is.
+fn settings_of(table: &Option<PortTable>) -> TableSettings
+    ensures { result ≡ settings_by table.now }
+{
+    match table {
+        Some(table) => table.settings,
+        None => TableSettings {
+            input_tpid: CUSTOMER_TPID,
+            output_tpid: CUSTOMER_TPID,
+            dscp_map: DscpMap([0; 24]),
+        },
     }
 }
 
@@ -200,6 +220,9 @@ fn kept_row(mapper: Option<&Mapper>, filter: Filter) -> Row
         used: Use::NoTable,
         ends: kept_ends(mapper, tag_count(&filter)),
         asks: asks_of(&filter, EthertypeFilter::Any, CUSTOMER_TPID),
+        tags: tag_count(&filter),
+        retag: KEEP,
+        marking: None,
     }
 }
 
@@ -255,6 +278,61 @@ fn entry_row(rule: &Rule, settings: &TableSettings, mapper: Option<&Mapper>, num
         used: Use::Entry(number),
         ends: treated_ends(&rule.treatment, settings, mapper, tag_count(&rule.filter)),
         asks: asks_of(&rule.filter, rule.ethertype, settings.input_tpid),
+        tags: tag_count(&rule.filter),
+        retag: retag_of(&rule.treatment),
+        marking: marking_of(&rule.treatment, settings, tag_count(&rule.filter)),
+    }
+}
+
+/// How the tags change by a treatment.
+fn retag_of(treatment: &Treatment) -> Retag
+    ensures { result ≡ retag_of treatment.now }
+{
+    match treatment {
+        Treatment::Discard => KEEP,
+        Treatment::Retag(retag) => *retag,
+    }
+}
+
+/// The DSCP that gives an added tag its priority, behind so many tags.
+fn marking_of(treatment: &Treatment, settings: &TableSettings, tags: u8) -> Option<DscpSource>
+    ensures { result ≡ marking_of treatment.now settings.now tags }
+{
+    match takes_dscp(treatment) {
+        false => None,
+        true => Some(DscpSource {
+            tags,
+            map: settings.dscp_map,
+            without: 0,
+        }),
+    }
+}
+
+/// Whether an added tag has the priority of the DSCP.
+fn takes_dscp(treatment: &Treatment) -> bool
+    ensures { result ≡ takes_dscp treatment.now }
+{
+    match treatment {
+        Treatment::Discard => false,
+        Treatment::Retag(retag) => adds_dscp(&retag.outer) || adds_dscp(&retag.inner),
+    }
+}
+
+fn adds_dscp(added: &Option<AddedTag>) -> bool
+    ensures { result ≡ adds_dscp added.now }
+{
+    match added {
+        None => false,
+        Some(added) => is_from_dscp(added.priority),
+    }
+}
+
+fn is_from_dscp(source: PrioritySource) -> bool
+    ensures { result ≡ is_from_dscp source }
+{
+    match source {
+        PrioritySource::Dscp => true,
+        _ => false,
     }
 }
 
@@ -295,5 +373,8 @@ fn unmatched_row(input: u16, filter: Filter) -> Row
         used: Use::NoEntry,
         ends: Ends::Dropped(Reason::NoRule),
         asks: asks_of(&filter, EthertypeFilter::Any, input),
+        tags: tag_count(&filter),
+        retag: KEEP,
+        marking: None,
     }
 }

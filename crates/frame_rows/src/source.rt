@@ -125,7 +125,8 @@ fn value_at_field(field: Field, only: Field, value: u16) -> u16
 }
 
 impl DscpSource {
-    ghost use Rattle.std.specs.Prelude.{◌≡◌, ◌+◌, ◌*◌, ◌<◌, IfSome};
+    ghost use Rattle.std.specs.Prelude.{◌≡◌, ◌==◌, ◌+◌, ◌*◌, ◌<◌, IfSome};
+    ghost use Rattle.frame_rows.specs.Field.{place_of, vid_behind};
     ghost use Rattle.frame_rows.specs.Source.{dscp_behind, mapped};
     ghost use Rattle.frame_rows.specs.Row.{dscp_reads};
 
@@ -137,7 +138,7 @@ impl DscpSource {
     }
 
     /// The priority of frames with these values.
-    fn priority(&self, values: &Values) -> u8
+    pub(crate) fn priority(&self, values: &Values) -> u8
         ensures { result ≡ mapped self.now (dscp_behind self.now.tags values.now) }
     {
         match self.dscp(values) {
@@ -158,8 +159,15 @@ impl DscpSource {
         packet.dscp(values.get(Field::vid_behind(self.tags)))
     }
 
+    /// Whether the priority of frames depends on each value of a field that isn't a type or the length.
+    pub(crate) fn reads_all(&self, field: Field) -> bool
+        ensures { result ≡ (place_of field == place_of (vid_behind self.now.tags)) }
+    {
+        field.place() == Field::vid_behind(self.tags).place()
+    }
+
     /// What the priority of frames depends on in a field, where it has this value and the fields before it those.
-    fn reads(&self, values: &Values, field: Field, value: u16) -> u16
+    pub(crate) fn reads(&self, values: &Values, field: Field, value: u16) -> u16
         ensures { result ≡ dscp_reads self.now values.now field value }
     {
         let place = field.place();
@@ -217,7 +225,7 @@ impl Source {
             Source::Fixed(_) => false,
             Source::FirstTag => place == Field::FirstPriority.place(),
             Source::SecondTag => place == Field::SecondPriority.place(),
-            Source::Dscp(source) => place == Field::vid_behind(source.tags).place(),
+            Source::Dscp(source) => source.reads_all(field),
         }
     }
 

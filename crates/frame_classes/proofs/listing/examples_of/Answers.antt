@@ -1,33 +1,36 @@
-use Rattle.std.proofs.Common.{◌≡◌, ◌<◌, List, ℕ, arith, ap, length, refl, subst, sym, ◌∙◌}
+use Rattle.std.proofs.Common.{◌≡◌, ◌<◌, ◌∙◌, ℕ, List, arith, ap, length, subst, sym}
 use Rattle.std.specs.Prelude.{map}
-use Rattle.std.proofs.lemmas.List.{get_or_default, map-append}
 use Rattle.frame_rows.specs.declared.class.FrameClass.{FrameClass}
 use Rattle.frame_classes.specs.declared.example.ClassExample.{ClassExample}
-use Rattle.frame_classes.specs.declared.found.Sample.{Sample}
-use Rattle.frame_classes.specs.Splitting.{AreExamplesOf, IsExampleOf}
-use Rattle.frame_classes.proofs.Listed.{one_more}
+use Rattle.frame_classes.specs.Listed.{count_told, of_one, tell}
+use Rattle.frame_classes.specs.Splitting.{AreExamplesOf}
+use Rattle.frame_classes.proofs.Listed.{not_one, one_told}
 use Rattle.frame_classes.proofs.listing.examples_of.Goals as goal
+use Rattle.frame_classes.proofs.listing.examples_of.Goals.{in-One+in_ok-frame+in_ok-push, in_default}
 
-pair : ClassExample → FrameClass × List ℕ
-pair e = (e.class, e.frame.items)
+part : ClassExample → FrameClass × List ℕ
+part e = (e.class, e.frame.items)
 
 pub loop-place-preserved : goal.loop-place-preserved
-unfolding pair
+unfolding part
 loop-place-preserved c =
     let samples = c.args.found.now.samples.items in
     let sample = c.index-sample.result.now in
     let count = c.len-place-end.ensures in
     let within : c.loop-place.place < length c.args.found.now.samples.items = omega (arith, count) in
-    one_more c.args.least c.loop-place.place samples (map pair c.loop-place.examples.items) (map pair c.push.new.self.items)
-    (sample.class, c.in_ok-frame.frame.items) c.loop-place.invariant within
-    (λ d. subst (λ (s : Sample). IsExampleOf c.args.least s (sample.class, c.in_ok-frame.frame.items))
-    (sym (get_or_default samples c.loop-place.place d sample within ∙ sym c.index-sample.ensures))
-    (record { class = refl; frame = c.in_ok-frame.ensures.frame; values = c.in_ok-frame.ensures.values }))
-    (ap (map pair) c.in_ok-push.ensures.items ∙ map-append pair c.loop-place.examples.items _)
+    elim c.match-sample.branch [
+      | in-One+in_ok-frame+in_ok-push w ↦
+          one_told part of_one c.args.least c.loop-place.place samples sample c.loop-place.examples.items c.match-sample.examples.items
+          (record { class = w.in-One.class; frame = w.in_ok-frame.frame }) c.loop-place.invariant within c.index-sample.ensures w.in-One.is
+          (record { frame = w.in_ok-frame.ensures.frame; values = w.in_ok-frame.ensures.values })
+          (ap (λ v. v.items) w.examples-is ∙ w.in_ok-push.ensures.items)
+      | in_default w ↦ absurd (not_one sample.told
+          (subst (λ s. count_told s.told ≡ 1) (sym c.index-sample.ensures) (c.requires c.loop-place.place sample within)) w.in_default.not-One)
+    ]
 
 pub returns : goal.returns
 returns c =
     let count = c.len-place-end.ensures in
     let all : c.loop-place.place ≡ length c.args.found.now.samples.items = omega (arith, count) in
-    subst (λ (n : ℕ). AreExamplesOf c.args.least n c.args.found.now.samples.items (map (λ (e : ClassExample). (e.class, e.frame.items)) c.loop-place.examples.items))
+    subst (λ (n : ℕ). AreExamplesOf c.args.least n c.args.found.now.samples.items (tell of_one (map (λ (e : ClassExample). (e.class, e.frame.items)) c.loop-place.examples.items)))
     all c.loop-place.invariant

@@ -1,5 +1,9 @@
 use Rattle.std.proofs.Common.{◌≡◌, arith, rules}
+use Rattle.std.specs.Prelude.{[], map}
+use Rattle.frame_rows.specs.declared.field.Field.TheVariants.{Length}
+use Rattle.frame_classes.specs.Told.{side_by}
 use Rattle.frame_classes.proofs.Lengths.{cover_next, length_choices, none_covered}
+use Rattle.frame_classes.proofs.Standing.{case_of, covering}
 use Rattle.frame_classes.proofs.choices.Case.lengths.Goals as goal
 
 pub loop-length-init : goal.loop-length-init
@@ -24,5 +28,9 @@ loop-length-preserved c =
 pub returns : goal.returns
 returns c =
     let all : c.loop-length.length-index ≡ 7 = omega arith in
-    length_choices c.args.self.now.rows.now c.args.least c.args.self.now.values.now c.args.self.now.left.now.items c.loop-length.choices.items
-    c.loop-length.length-index all c.requires.left c.requires.asks c.requires.ends c.loop-length.invariant.covered
+    let self = c.args.self.now in
+    let sides = self.sides.now in
+    let case = case_of sides.sides.now self.rows.now sides.ends [] self.values.now self.left.now.items c.requires.beside c.requires.left in
+    covering (map side_by sides.sides.now) self.rows.now self.left.now.items c.args.least Length self.values.now c.loop-length.choices.items case.all
+    (length_choices (map side_by sides.sides.now) self.rows.now c.args.least self.values.now self.left.now.items c.loop-length.choices.items
+    c.loop-length.length-index all case c.loop-length.invariant.covered)

@@ -1,22 +1,42 @@
-use Rattle.std.proofs.Common.{◌≡◌, arith, sym}
-use Rattle.frame_rows.specs.Words.{limit_of}
-use Rattle.frame_classes.proofs.Numbers.{all_along, one_more, one_number}
+use Rattle.std.proofs.Common.{length, sym}
+use Rattle.std.specs.Prelude.{map, take}
+use Rattle.std.proofs.lemmas.List.{length-map}
+use Rattle.frame_rows.specs.Field.{fields, place_of}
+use Rattle.frame_classes.specs.Told.{side_by}
+use Rattle.frame_classes.proofs.Numbers.{all_numbers, one_number, several_numbers}
+use Rattle.frame_classes.proofs.Standing.{case_of, covering}
 use Rattle.frame_classes.proofs.choices.Case.numbers.Goals as goal
 
-pub loop-number-preserved : goal.loop-number-preserved
-loop-number-preserved c =
-    one_more c.loop-number.number c.loop-number.choices.items c.push.new.self.items c.loop-number.invariant c.push.ensures.items
+pub returns-then-is_read : goal.returns-then-is_read
+returns-then-is_read c =
+    let self = c.args.self.now in
+    let sides = map side_by self.sides.now.sides.now in
+    let r = c.requires in
+    λ least.
+    covering sides self.rows.now self.left.now.items least c.args.field self.values.now c.up_to.result.items r.beside.together
+    (all_numbers sides self.rows.now least c.args.field self.values.now self.left.now.items c.up_to.result.items c.args.end r.late r.long r.end c.up_to.ensures)
+
+pub returns-then-is_settled : goal.returns-then-is_settled
+returns-then-is_settled c =
+    let self = c.args.self.now in
+    let sides = map side_by self.sides.now.sides.now in
+    let places = self.left.now.items in
+    let r = c.requires in
+    let case = case_of self.sides.now.sides.now self.rows.now self.sides.now.ends (take (place_of c.args.field) fields) self.values.now places r.beside r.left in
+    λ least.
+    covering sides self.rows.now places least c.args.field self.values.now c.only.result.items case.all
+    (one_number sides self.rows.now least c.args.field self.values.now places c.only.result.items c.plain.result case r.late r.long c.plain.ensures
+    (sym c.if-is_read.ensures) (sym c.if-is_asked.ensures) (sym c.if-is_settled.ensures) c.only.ensures)
 
 pub returns : goal.returns
 returns c =
-    let end = c.requires.end in
-    let all : c.loop-number.number ≡ limit_of c.args.field = omega (arith, end) in
+    let self = c.args.self.now in
+    let sides = map side_by self.sides.now.sides.now in
+    let places = self.left.now.items in
+    let r = c.requires in
+    let case = case_of self.sides.now.sides.now self.rows.now self.sides.now.ends (take (place_of c.args.field) fields) self.values.now places r.beside r.left in
     λ least.
-    all_along c.args.self.now.rows.now least c.args.field c.args.self.now.values.now c.args.self.now.left.now.items c.loop-number.choices.items
-    c.loop-number.number c.requires.left c.requires.eleven c.requires.late c.requires.long c.loop-number.invariant all
-
-pub returns-then-not-is_asked : goal.returns-then-not-is_asked
-returns-then-not-is_asked c = λ least.
-    one_number c.args.self.now.rows.now least c.args.field c.args.self.now.values.now c.args.self.now.left.now.items c.only.result.items c.plain.result
-    c.requires.left c.requires.asks c.requires.late c.requires.long c.plain.ensures (sym c.if-not-is_read.ensures) (sym c.if-not-is_asked.ensures)
-    c.only.ensures
+    covering sides self.rows.now places least c.args.field self.values.now c.several.result.items case.all
+    (several_numbers sides self.rows.now least c.args.field self.values.now places c.several.result.items (length self.sides.now.sides.now) c.args.end case
+    r.late r.long r.end (sym (length-map self.sides.now.sides.now side_by)) (sym c.if-is_read.ensures) (sym c.if-is_asked.ensures) c.several.ensures.fit
+    c.several.ensures.several)

@@ -1,6 +1,7 @@
-use Rattle.std.proofs.Common.{◌≤◌, ◌<◌, ◌+◌, ◌^◌, take}
-use Rattle.std.specs.Prelude.{All}
+use Rattle.std.proofs.Common.{◌≤◌, ◌<◌, ◌+◌, ◌^◌, length, take}
+use Rattle.std.specs.Prelude.{All, map}
 use Rattle.arrayvec.specs.ArrayVec.{array_vec_len}
+use Rattle.frame_classes.specs.Told.{side_by}
 use Rattle.frame_classes.proofs.Types.{Covers, known_types}
 use Rattle.frame_classes.proofs.choices.Case.types.Given as goal
 
@@ -10,5 +11,6 @@ invariant-loop-ethertype l =
     record {
       few : array_vec_len l.choices ≤ l.ethertype-index + 1;
       fit : All (λ c. c < 2 ^ 16) l.choices.items;
-      cover : All (Covers l.self.rows.now l.self.left.now.items l.self.values.now l.field l.choices.items) (take l.ethertype-index known_types);
+      cover : All (Covers (map side_by l.self.sides.now.sides.now) (length l.self.sides.now.sides.now) l.self.rows.now l.self.left.now.items l.self.values.now
+          l.field l.choices.items) (take l.ethertype-index known_types);
     }

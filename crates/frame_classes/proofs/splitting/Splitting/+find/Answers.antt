@@ -1,15 +1,24 @@
-use Rattle.std.proofs.Common.{◌≡◌, ◌<◌, ◌≤◌, inr, ℕ, List, arith, ap, subst, sym, take, length, length-set, rules, ◌∙◌}
+use Rattle.std.proofs.Common.{◌≡◌, ◌<◌, ◌≤◌, inr, ℕ, List, [], ◌∷◌, arith, refl, ap, map, subst, sym, take, length, length-set, rules, ◌∙◌}
 use Rattle.std.specs.Prelude.{All, Any}
+use Rattle.std.proofs.lemmas.List.{length-map}
 use Rattle.std.proofs.lemmas.List.Elements.{All-head, All-tail}
 use Rattle.frame_rows.specs.declared.field.Field.TheVariants.{Length}
-use Rattle.frame_rows.specs.declared.row.Row.{Row}
 use Rattle.frame_rows.specs.declared.field.Values.{Values}
 use Rattle.frame_rows.specs.Field.{fields, value_at}
-use Rattle.frame_classes.specs.Splitting.{AreChoices, CanBe, IsNear, IsOf, Stands, rows_at}
-use Rattle.frame_classes.proofs.Going.{AreGoing, going_on}
+use Rattle.frame_classes.specs.Left.{AreLeftOf}
+use Rattle.frame_classes.specs.Splitting.{AreChoices, CanBe, IsOf}
+use Rattle.frame_classes.specs.Told.{side_by}
+use Rattle.frame_classes.proofs.Going.{AreGoing, agree_next, all_gone, going_on}
 use Rattle.frame_classes.proofs.Keeping.{none_more}
-use Rattle.frame_classes.proofs.Levels.{is_at, left_level, near_level, of_level}
+use Rattle.frame_classes.proofs.Kept.{Keeps, choices_of}
+use Rattle.frame_classes.proofs.Levels.{is_at, left_level, of_level}
 use Rattle.frame_classes.proofs.splitting.Splitting.+find.Goals as goal
+
+pub keep-requires-clause-left : goal.keep-requires-clause-left
+keep-requires-clause-left t c =
+    let past : 11 ≤ c.args.level = c.in_default.ensures.lookup.3 in
+    let all : c.args.level ≡ 11 = omega (arith, c.requires.level) in
+    subst (λ (n : ℕ). AreLeftOf (map side_by c.args.self.now.sides.now.sides.now) (take n fields) c.args.values c.args.left.now.items) all c.requires.left
 
 pub keep-requires-clause-values : goal.keep-requires-clause-values
 keep-requires-clause-values t c =
@@ -17,28 +26,36 @@ keep-requires-clause-values t c =
     let all : c.args.level ≡ 11 = omega (arith, c.requires.level) in
     subst (λ (n : ℕ). IsOf c.args.self.now.least (take n fields) c.args.values) all c.requires.values
 
+pub choices-requires-clause-left : goal.choices-requires-clause-left
+choices-requires-clause-left t c =
+    let field = c.in-Some.field.now in
+    let at = is_at c.args.level field c.in-Some.ensures.lookup.3.0 (c.in-Some.ensures.lookup.3.1 Length) in
+    subst (λ (n : ℕ). AreLeftOf (map side_by c.args.self.now.sides.now.sides.now) (take n fields) c.args.values c.args.left.now.items) (sym at.place) c.requires.left
+
 pub loop-value-init : goal.loop-value-init
 loop-value-init t c =
-    let rows = c.args.self.now.rows.now.rows.items in
+    let sides = map side_by c.args.self.now.sides.now.sides.now in
     let field = c.in-Some.field.now in
     let at = is_at c.args.level field c.in-Some.ensures.lookup.3.0 (c.in-Some.ensures.lookup.3.1 Length) in
     let rest = c.into_iter-value-iterator.ensures.into_iter_gives.0 in
-    let choices : AreChoices rows (rows_at rows c.args.left.now.items) c.args.self.now.least field c.args.values c.choices.result.items =
-    subst (λ (rs : List Row). AreChoices rs (rows_at rs c.args.left.now.items) c.args.self.now.least field c.args.values c.choices.result.items)
-    c.as_slice.ensures.value c.choices.ensures in
+    let left = subst (λ (n : ℕ). AreLeftOf sides (take n fields) c.args.values c.args.left.now.items) (sym at.place) c.requires.left in
+    let choices : AreChoices sides c.args.self.now.least field c.args.values c.choices.result.items =
+    choices_of sides c.args.self.now.least field c.args.values c.args.left.now.items c.choices.result.items
+    (omega (arith, length-map c.args.self.now.sides.now.sides.now side_by, c.requires.beside.three)) c.requires.beside.fit c.requires.beside.marked
+    c.requires.eleven left c.choices.ensures in
     record {
-      more = none_more c.args.self.now.rows.now.endings rows c.args.self.now.least c.args.found.now.samples.items c.requires.samples c.requires.ascend;
+      more = none_more sides c.args.self.now.least c.args.found.now.samples.items c.requires.samples c.requires.ascend;
       going = record {
-        each = λ others class of near has.
-            inr (subst (λ (items : List ℕ). Any (Stands (rows_at rows c.args.left.now.items) field c.args.values others) items) (sym rest)
-            (choices.each others of (subst (λ (n : ℕ). IsNear rows (take n fields) c.args.values others) (sym at.place) near)));
+        each = λ others told of agree tells.
+            inr (subst (λ (items : List ℕ). Any (Keeps sides c.args.self.now.least field others told) items) (sym rest)
+            (choices.each others told of agree tells));
       };
       within = subst (λ (items : List ℕ). All (CanBe c.args.self.now.least (value_at Length c.args.values) field) items) (sym rest) choices.within;
     }
 
 pub find-requires : goal.find-requires
 find-requires t c =
-    let rows = c.args.self.now.rows.now.rows.items in
+    let sides = map side_by c.args.self.now.sides.now.sides.now in
     let field = c.in-Some.field.now in
     let within : c.args.level < 11 = c.in-Some.ensures.lookup.3.0 in
     let is = c.in-Some.ensures.lookup.3.1 Length in
@@ -51,7 +68,7 @@ find-requires t c =
     ap (λ (v : Values). length v.values) c.with.ensures ∙ simp length-set (c.requires.eleven) in (
       search rules,
       (
-        c.requires.fit,
+        c.requires.beside,
         (
           omega arith,
           (
@@ -59,7 +76,7 @@ find-requires t c =
             (
               lengths,
               (
-                left_level rows c.args.level field c.args.values c.with.result value c.args.left.now.items c.narrowed-narrower.result.items at within c.requires.eleven c.with.ensures c.requires.left c.narrowed-narrower.ensures.items,
+                left_level sides c.args.self.now.sides.now.rows.now c.args.level field c.args.values c.with.result value c.args.left.now.items c.narrowed-narrower.result.items at within c.requires.eleven c.with.ensures c.requires.beside.together c.requires.left c.narrowed-narrower.ensures.items,
                 (
                   of_level c.args.self.now.least c.args.level field c.args.values c.with.result value at within c.requires.eleven c.with.ensures is c.requires.values can,
                   (c.loop-value.invariant.more.samples, c.loop-value.invariant.more.ascend),
@@ -73,8 +90,7 @@ find-requires t c =
 
 pub loop-value-preserved : goal.loop-value-preserved
 loop-value-preserved t c =
-    let rows = c.args.self.now.rows.now.rows.items in
-    let endings = c.args.self.now.rows.now.endings in
+    let sides = map side_by c.args.self.now.sides.now.sides.now in
     let field = c.in-Some.field.now in
     let within : c.args.level < 11 = c.in-Some.ensures.lookup.3.0 in
     let is = c.in-Some.ensures.lookup.3.1 Length in
@@ -83,19 +99,31 @@ loop-value-preserved t c =
     let steps = c.in-Some-value.ensures.steps in
     record {
       more = record {
-        kept = λ class h. c.in_ok-find.ensures.more.kept class (c.loop-value.invariant.more.kept class h);
+        kept = λ told h. c.in_ok-find.ensures.more.kept told (c.loop-value.invariant.more.kept told h);
         samples = c.in_ok-find.ensures.more.samples;
         ascend = c.in_ok-find.ensures.more.ascend;
       };
       going =
-          going_on endings rows (rows_at rows c.args.left.now.items) c.args.self.now.least (take c.args.level fields) field c.args.values
-          c.loop-value.found.samples.items c.find.new.found.samples.items value c.next.new.self.rest.now
-          (subst (λ (items : List ℕ). AreGoing endings rows (rows_at rows c.args.left.now.items) c.args.self.now.least (take c.args.level fields) field c.args.values c.loop-value.found.samples.items items) steps c.loop-value.invariant.going)
+          going_on sides c.args.self.now.least field c.args.values c.loop-value.found.samples.items c.find.new.found.samples.items value c.next.new.self.rest.now
+          (subst (λ (items : List ℕ). AreGoing sides c.args.self.now.least field c.args.values c.loop-value.found.samples.items items) steps c.loop-value.invariant.going)
           c.in_ok-find.ensures.more.kept
-          (λ others class of near has stands.
-          c.in_ok-find.ensures.every.found others class of
-          (near_level rows c.args.level field c.args.values c.with.result others value c.args.left.now.items at within c.requires.eleven c.with.ensures c.requires.left near stands) has);
+          (λ others told agree keeps.
+          c.in_ok-find.ensures.every.found _ told keeps.0
+          (agree_next c.args.level field c.args.values c.with.result others value at.place (omega (arith, c.requires.eleven)) c.requires.eleven c.with.ensures agree) keeps.1);
       within =
           All-tail (CanBe c.args.self.now.least (value_at Length c.args.values) field) value c.next.new.self.rest.now
           (subst (λ (items : List ℕ). All (CanBe c.args.self.now.least (value_at Length c.args.values) field) items) steps c.loop-value.invariant.within);
     }
+
+nil_of : (xs : List ℕ) → length xs ≡ 0 → xs ≡ []
+nil_of [] e = refl
+nil_of (x ∷ xs) e = absurd (omega arith)
+
+pub returns-clause-every : goal.returns-clause-every
+returns-clause-every t c =
+    let sides = map side_by c.args.self.now.sides.now.sides.now in
+    let field = c.in-Some.field.now in
+    let at = is_at c.args.level field c.in-Some.ensures.lookup.3.0 (c.in-Some.ensures.lookup.3.1 Length) in
+    all_gone sides c.args.self.now.least field c.args.values c.loop-value.found.samples.items c.args.level at.place
+    (subst (λ (items : List ℕ). AreGoing sides c.args.self.now.least field c.args.values c.loop-value.found.samples.items items)
+    (nil_of c.loop-value.value-iterator.rest.now c.in-None.ensures.steps.0) c.loop-value.invariant.going)

@@ -6,7 +6,7 @@ use Rattle.frame_classes.proofs.splitting.Splitting.narrowed.Goals as goal
 
 pub loop-place-init : goal.loop-place-init
 loop-place-init c =
-    let test = test_at (λ row. row_admits row c.args.field c.args.value) false c.args.self.now.rows.now.rows.items in
+    let test = test_at (λ row. row_admits row c.args.field c.args.value) false c.args.self.now.sides.now.rows.now in
     let rest = c.into_iter-place-iterator.ensures.into_iter_gives.0 in
     let none : length c.new-narrower.result.items ≡ 0 = ap length c.new-narrower.ensures in
     let all : length c.into_iter-place-iterator.result.rest.now ≡ length c.args.left.now.items = ap length rest in

@@ -7,8 +7,8 @@ use Rattle.frame_classes.proofs.splitting.Splitting.narrowed.Given as goal
 -- what is left of the places that were looked at, and of the others
 abbrev pub invariant-loop-place : goal.invariant-loop-place
 invariant-loop-place l =
-    let test = test_at (λ row. row_admits row l.field l.value) false l.self.rows.now.rows.items in
+    let test = test_at (λ row. row_admits row l.field l.value) false l.self.sides.now.rows.now in
     record {
       left : l.narrower.items ++ filter test l.place-iterator.rest.now ≡ filter test l.left.items;
-      few : length l.narrower.items + length l.place-iterator.rest.now ≤ 134;
+      few : length l.narrower.items + length l.place-iterator.rest.now ≤ 402;
     }
