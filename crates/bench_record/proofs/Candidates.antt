@@ -13,8 +13,9 @@ use Rattle.bench_history.specs.History.{are_among, have_left, is_among}
 use Rattle.bench_history.specs.declared.extent.Extent.{Extent}
 use Rattle.bench_history.specs.declared.extent.Extent.TheVariants.{Whole, Front}
 use Rattle.bench_record.specs.Cores.{Core, are_same, cores_agree, cut_from, rests_agree, without_zeros}
-use Rattle.bench_record.specs.Index.{IsIndex, Key, has_key, is_long, is_long_by, key_rest, queue_of}
+use Rattle.bench_record.specs.Index.{IsIndex, has_key, is_long, is_long_by, key_rest, queue_of}
 use Rattle.bench_record.specs.Matching.{Frames, SentFrame, candidates, has_core, is_open, is_used_up, is_waiting, leave_at}
+use Rattle.bench_record.specs.declared.core_key.CoreKey.{CoreKey}
 use Rattle.bench_record.specs.declared.open_frames.OpenFrames.{OpenFrames}
 use Rattle.bench_record.proofs.Filters.{filter_alike, filter_both}
 use Rattle.bench_record.proofs.Indexes.{IsFewerOpen}
@@ -52,20 +53,20 @@ rests_front padded shortest Front Front xs ys long_x long_y is =
     (λ so. begins_take xs ys shortest (leb-true shortest (length ys) long_y) so)
     (λ so. sym (begins_take ys xs shortest (leb-true shortest (length xs) long_x) so))
 
-core_has_key : (shortest : ℕ) (core other : Core) (key : Key) → key.0.now ≡ core.addresses → key.1.now ≡ key_rest shortest core.rest
+core_has_key : (shortest : ℕ) (core other : Core) (key : CoreKey) → key.addresses.now ≡ core.addresses → key.rest.now ≡ key_rest shortest core.rest
     → is_long shortest other ≡ true → is_long shortest core ≡ true → cores_agree other core ≡ true
-    → (bytes_eq other.addresses key.0.now && bytes_eq (key_rest shortest other.rest) key.1.now) ≡ true
+    → (bytes_eq other.addresses key.addresses.now && bytes_eq (key_rest shortest other.rest) key.rest.now) ≡ true
 core_has_key shortest core other key addresses rest long_other long_core is =
     let parts = and_parts (bytes_eq other.addresses core.addresses) (rests_agree other.padded other.extent core.extent other.rest core.rest) is in
-    and_from (bytes_eq other.addresses key.0.now) (bytes_eq (key_rest shortest other.rest) key.1.now)
-    ((bytes_eq-Decides other.addresses key.0.now).1 ((bytes_eq-Decides other.addresses core.addresses).0 parts.0 ∙ sym addresses))
-    ((bytes_eq-Decides (key_rest shortest other.rest) key.1.now).1
+    and_from (bytes_eq other.addresses key.addresses.now) (bytes_eq (key_rest shortest other.rest) key.rest.now)
+    ((bytes_eq-Decides other.addresses key.addresses.now).1 ((bytes_eq-Decides other.addresses core.addresses).0 parts.0 ∙ sym addresses))
+    ((bytes_eq-Decides (key_rest shortest other.rest) key.rest.now).1
     (rests_front other.padded shortest other.extent core.extent other.rest core.rest long_other long_core parts.1 ∙ sym rest))
 
 abbrev pub AllLong : ℕ → List SentFrame → Type 0
 AllLong shortest frames = list_all (λ (sent : SentFrame). is_long shortest sent.core) frames ≡ true
 
-has_core_key : (shortest : ℕ) (core : Core) (key : Key) → key.0.now ≡ core.addresses → key.1.now ≡ key_rest shortest core.rest → is_long shortest core ≡ true
+has_core_key : (shortest : ℕ) (core : Core) (key : CoreKey) → key.addresses.now ≡ core.addresses → key.rest.now ≡ key_rest shortest core.rest → is_long shortest core ≡ true
     → (frames : List SentFrame) → AllLong shortest frames → (n : ℕ) → has_core core (slice_get frames n) ≡ true → has_key shortest key (slice_get frames n) ≡ true
 has_core_key shortest core key addresses rest long_core [] long n is = is
 has_core_key shortest core key addresses rest long_core (x ∷ frames) long zero is =
@@ -84,9 +85,9 @@ narrower true false false so = refl
 narrower false k c so = refl
 
 -- the frames of a core among the open ones of its key
-pub found_candidates : (lost : Option ℕ) (since time shortest : ℕ) (frames : Frames) (index : OpenFrames) (core : Core) (key : Key) → since ≤ time
+pub found_candidates : (lost : Option ℕ) (since time shortest : ℕ) (frames : Frames) (index : OpenFrames) (core : Core) (key : CoreKey) → since ≤ time
     → IsIndex lost since shortest frames index → AllLong shortest frames.sent → is_long shortest core ≡ true
-    → key.0.now ≡ core.addresses → key.1.now ≡ key_rest shortest core.rest
+    → key.addresses.now ≡ core.addresses → key.rest.now ≡ key_rest shortest core.rest
     → filter (λ n. has_core core (slice_get frames.sent n)) (filter (is_open lost time frames) (queue_of index key)) ≡ candidates lost time core frames
 found_candidates lost since time shortest frames index core key within is long long_core addresses rest =
     let now : ℕ → Bool = is_open lost time frames in
@@ -99,9 +100,9 @@ found_candidates lost since time shortest frames index core key within is long l
     (λ n. narrower (now n) (keyed n) (cored n) (has_core_key shortest core key addresses rest long_core frames.sent long n)) all
 
 -- where the queue of the key is empty, there are none
-pub no_candidates : (lost : Option ℕ) (since time shortest : ℕ) (frames : Frames) (index : OpenFrames) (core : Core) (key : Key) → since ≤ time
+pub no_candidates : (lost : Option ℕ) (since time shortest : ℕ) (frames : Frames) (index : OpenFrames) (core : Core) (key : CoreKey) → since ≤ time
     → IsIndex lost since shortest frames index → AllLong shortest frames.sent → is_long shortest core ≡ true
-    → key.0.now ≡ core.addresses → key.1.now ≡ key_rest shortest core.rest
+    → key.addresses.now ≡ core.addresses → key.rest.now ≡ key_rest shortest core.rest
     → queue_of index key ≡ [] → [] ≡ candidates lost time core frames
 no_candidates lost since time shortest frames index core key within is long long_core addresses rest empty =
     sym (ap (λ (xs : List ℕ). filter (λ n. has_core core (slice_get frames.sent n)) (filter (is_open lost time frames) xs)) empty)
@@ -184,7 +185,7 @@ left_waiting lost t zero (x ∷ frames) (suc m) is = is
 left_waiting lost t (suc n) (x ∷ frames) zero is = is
 left_waiting lost t (suc n) (x ∷ frames) (suc m) is = left_waiting lost t n frames m is
 
-left_key : (shortest : ℕ) (key : Key) (n : ℕ) (frames : List SentFrame) (m : ℕ)
+left_key : (shortest : ℕ) (key : CoreKey) (n : ℕ) (frames : List SentFrame) (m : ℕ)
     → has_key shortest key (slice_get (leave_at n frames) m) ≡ has_key shortest key (slice_get frames m)
 left_key shortest key n [] m = refl
 left_key shortest key zero (x ∷ frames) zero = refl

@@ -2,20 +2,17 @@
 use Rattle.std.proofs.Common.{◌≡◌, ◌≤◌, ◌<◌, ◌+◌, ℕ, zero, suc, ◌&&◌, Bool, true, false, not, cond, List, [], ◌∷◌, ◌++◌, length, Option, Some, None, refl, ap, sym, ◌∙◌, arith, subst}
 use Rattle.std.specs.Prelude.{filter, nat_lt, if◌then◌else◌, slice_get}
 use Rattle.std.specs.List.{list_all, range_with_len}
-use Rattle.std.specs.Ordering.{is_eq, nat_cmp, ordering_then}
-use Rattle.std.specs.Cmp.Lexicographic.{slice_cmp}
 use Rattle.std.specs.Str.{bytes_eq}
-use Rattle.std.specs.declared.cmp.Ordering.{Ordering}
-use Rattle.std.specs.declared.cmp.Ordering.TheVariants.{Less, Equal, Greater}
 use Rattle.std.proofs.lemmas.Bool.{and_from, and_parts, lt-ltb, ltb-true}
 use Rattle.std.proofs.lemmas.List.{append-nil, length-append, map-id}
 use Rattle.std.proofs.lemmas.List.Elements.{filter-append}
 use Rattle.std.proofs.lemmas.List.Folds.{list_all-append}
 use Rattle.std.proofs.lemmas.List.FromFn.{map-range_with_len_more}
 use Rattle.std.proofs.lemmas.Slice.Eq.{bytes_eq-Decides}
-use Rattle.std.proofs.lemmas.Map.Text.{is_eq-slice_cmp}
-use Rattle.bench_record.specs.Index.{IsIndex, Key, compare_keys, has_key, key_rest, open_of, queue_of}
+use Rattle.bench_record.specs.Index.{IsIndex, has_key, key_rest, open_of, queue_of}
+use Rattle.bench_record.specs.Keys.{is_same_key}
 use Rattle.bench_record.specs.Matching.{Frames, SentFrame, is_lost_before, is_open, is_used_up, is_waiting, later}
+use Rattle.bench_record.specs.declared.core_key.CoreKey.{CoreKey}
 use Rattle.bench_record.specs.declared.open_frames.OpenFrames.{OpenFrames}
 use Rattle.bench_record.proofs.Filters.{filter_alike, filter_below, filter_both, stricter, stricter_of}
 
@@ -49,7 +46,7 @@ index_later lost since time shortest frames index within is =
 pub record IsFewerOpen (lost : Option ℕ) (old new : Frames) : Type 0 where
   pub count : length new.sent ≡ length old.sent
   pub fewer : (t n : ℕ) → is_open lost t new n ≡ true → is_open lost t old n ≡ true
-  pub keys : (shortest : ℕ) (key : Key) (n : ℕ) → has_key shortest key (slice_get new.sent n) ≡ has_key shortest key (slice_get old.sent n)
+  pub keys : (shortest : ℕ) (key : CoreKey) (n : ℕ) → has_key shortest key (slice_get new.sent n) ≡ has_key shortest key (slice_get old.sent n)
 
 pub fewer_open : (lost : Option ℕ) (since shortest : ℕ) (old new : Frames) (index : OpenFrames) → IsFewerOpen lost old new
     → IsIndex lost since shortest old index → IsIndex lost since shortest new index
@@ -75,27 +72,15 @@ fewer_open lost since shortest old new index fewer is =
 
 -- ---- keys
 
-then_eq : (o p : Ordering) → is_eq (ordering_then o p) ≡ (is_eq o && is_eq p)
-then_eq Less p = refl
-then_eq Equal p = refl
-then_eq Greater p = refl
-
--- two keys compare as equal where they have the same bytes
-pub same_keys : (x y : Key) → is_eq (compare_keys x y) ≡ (bytes_eq x.0.now y.0.now && bytes_eq x.1.now y.1.now)
-same_keys x y =
-    then_eq (slice_cmp nat_cmp x.0.now y.0.now) (slice_cmp nat_cmp x.1.now y.1.now)
-    ∙ ap (λ b. b && is_eq (slice_cmp nat_cmp x.1.now y.1.now)) (is_eq-slice_cmp x.0.now y.0.now)
-    ∙ ap (λ b. bytes_eq x.0.now y.0.now && b) (is_eq-slice_cmp x.1.now y.1.now)
-
-one_key : (x y : Key) → is_eq (compare_keys x y) ≡ true → (x.0.now ≡ y.0.now) × (x.1.now ≡ y.1.now)
+one_key : (x y : CoreKey) → is_same_key x y ≡ true → (x.addresses.now ≡ y.addresses.now) × (x.rest.now ≡ y.rest.now)
 one_key x y is =
-    let parts = and_parts (bytes_eq x.0.now y.0.now) (bytes_eq x.1.now y.1.now) (sym (same_keys x y) ∙ is) in
-    ((bytes_eq-Decides x.0.now y.0.now).0 parts.0, (bytes_eq-Decides x.1.now y.1.now).0 parts.1)
+    let parts = and_parts (bytes_eq x.addresses.now y.addresses.now) (bytes_eq x.rest.now y.rest.now) is in
+    ((bytes_eq-Decides x.addresses.now y.addresses.now).0 parts.0, (bytes_eq-Decides x.rest.now y.rest.now).0 parts.1)
 
-has_key_by : (shortest : ℕ) (sent : Option SentFrame) (x y : Key) → x.0.now ≡ y.0.now → x.1.now ≡ y.1.now → has_key shortest x sent ≡ has_key shortest y sent
+has_key_by : (shortest : ℕ) (sent : Option SentFrame) (x y : CoreKey) → x.addresses.now ≡ y.addresses.now → x.rest.now ≡ y.rest.now → has_key shortest x sent ≡ has_key shortest y sent
 has_key_by shortest (Some sent) x y addresses rest =
-    ap (λ (a : List ℕ). bytes_eq sent.core.addresses a && bytes_eq (key_rest shortest sent.core.rest) x.1.now) addresses
-    ∙ ap (λ (r : List ℕ). bytes_eq sent.core.addresses y.0.now && bytes_eq (key_rest shortest sent.core.rest) r) rest
+    ap (λ (a : List ℕ). bytes_eq sent.core.addresses a && bytes_eq (key_rest shortest sent.core.rest) x.rest.now) addresses
+    ∙ ap (λ (r : List ℕ). bytes_eq sent.core.addresses y.addresses.now && bytes_eq (key_rest shortest sent.core.rest) r) rest
 has_key_by shortest None x y addresses rest = refl
 
 -- ---- a queue is cleared of frames that aren't open
@@ -109,18 +94,18 @@ all_kept p q (x ∷ xs) all = here (p x) (and_parts (q x) (list_all q xs) all) (
     here false parts later = later
 
 -- the queue of a key has those that are open at a time, and the others are as they were
-abbrev pub IsCleared : Option ℕ → ℕ → Frames → Key → OpenFrames → OpenFrames → Type 0
+abbrev pub IsCleared : Option ℕ → ℕ → Frames → CoreKey → OpenFrames → OpenFrames → Type 0
 IsCleared lost time frames key old new =
-    (other : Key) → queue_of new other
-    ≡ (if is_eq (compare_keys key other) then filter (is_open lost time frames) (queue_of old key) else queue_of old other)
+    (other : CoreKey) → queue_of new other
+    ≡ (if is_same_key key other then filter (is_open lost time frames) (queue_of old key) else queue_of old other)
 
-module _ (lost : Option ℕ) (time shortest : ℕ) (frames : Frames) (key : Key) (old : OpenFrames) (is : IsIndex lost time shortest frames old) where
-  cleared_within : (other : Key) (b : Bool)
+module _ (lost : Option ℕ) (time shortest : ℕ) (frames : Frames) (key : CoreKey) (old : OpenFrames) (is : IsIndex lost time shortest frames old) where
+  cleared_within : (other : CoreKey) (b : Bool)
       → list_all (λ n. nat_lt n (length frames.sent)) (if b then filter (is_open lost time frames) (queue_of old key) else queue_of old other) ≡ true
   cleared_within other true = all_kept (is_open lost time frames) (λ n. nat_lt n (length frames.sent)) (queue_of old key) (is.within key)
   cleared_within other false = is.within other
 
-  cleared_open : (other : Key) (t : ℕ) → time ≤ t → (b : Bool) → is_eq (compare_keys key other) ≡ b
+  cleared_open : (other : CoreKey) (t : ℕ) → time ≤ t → (b : Bool) → is_same_key key other ≡ b
       → filter (is_open lost t frames) (if b then filter (is_open lost time frames) (queue_of old key) else queue_of old other)
       ≡ open_of lost t shortest frames other
   cleared_open other t later true same =
@@ -134,16 +119,16 @@ module _ (lost : Option ℕ) (time shortest : ℕ) (frames : Frames) (key : Key)
       (λ n. ap (λ (b : Bool). is_open lost t frames n && b) (has_key_by shortest (slice_get frames.sent n) key other keys.0 keys.1)) (range_with_len 0 (length frames.sent))
   cleared_open other t later false same = is.still_open other t later
 
-pub cleared : (lost : Option ℕ) (time shortest : ℕ) (frames : Frames) (key : Key) (old new : OpenFrames) → IsCleared lost time frames key old new
+pub cleared : (lost : Option ℕ) (time shortest : ℕ) (frames : Frames) (key : CoreKey) (old new : OpenFrames) → IsCleared lost time frames key old new
     → IsIndex lost time shortest frames old → IsIndex lost time shortest frames new
 cleared lost time shortest frames key old new are is =
     record {
       within = λ other.
           subst (λ (queue : List ℕ). list_all (λ n. nat_lt n (length frames.sent)) queue ≡ true) (sym (are other))
-          (cleared_within lost time shortest frames key old is other (is_eq (compare_keys key other)));
+          (cleared_within lost time shortest frames key old is other (is_same_key key other));
       still_open = λ other t later.
           ap (λ (queue : List ℕ). filter (is_open lost t frames) queue) (are other)
-          ∙ cleared_open lost time shortest frames key old is other t later (is_eq (compare_keys key other)) refl;
+          ∙ cleared_open lost time shortest frames key old is other t later (is_same_key key other) refl;
     }
 
 -- ---- a frame is sent
@@ -178,10 +163,10 @@ module _ (lost : Option ℕ) (shortest : ℕ) (frames : Frames) (x : SentFrame) 
   open_same t n less = ap (λ (o : Option SentFrame). is_waiting lost t o && not (is_used_up frames.named n)) (get_front frames.sent x n less)
 
   -- the frame itself, if it is open and has a key
-  abbrev itself : ℕ → Key → List ℕ
+  abbrev itself : ℕ → CoreKey → List ℕ
   itself t key = cond (is_open lost t more count && has_key shortest key (Some x)) (count ∷ []) []
 
-  open_more : (t : ℕ) (key : Key) → open_of lost t shortest more key ≡ open_of lost t shortest frames key ++ itself t key
+  open_more : (t : ℕ) (key : CoreKey) → open_of lost t shortest more key ≡ open_of lost t shortest frames key ++ itself t key
   open_more t key =
       let now : ℕ → Bool = λ n. is_open lost t more n && has_key shortest key (slice_get more.sent n) in
       let was : ℕ → Bool = λ n. is_open lost t frames n && has_key shortest key (slice_get frames.sent n) in
@@ -204,7 +189,7 @@ module _ (lost : Option ℕ) (shortest : ℕ) (frames : Frames) (x : SentFrame) 
       filter-append (is_open lost t more) old (count ∷ [])
       ∙ ap (λ (xs : List ℕ). xs ++ cond (is_open lost t more count) (count ∷ []) []) (filter_below count (is_open lost t more) (is_open lost t frames) (open_same t) old below)
 
-  itself_by : (t : ℕ) (key : Key) (b : Bool) → has_key shortest key (Some x) ≡ b → itself t key ≡ cond (is_open lost t more count && b) (count ∷ []) []
+  itself_by : (t : ℕ) (key : CoreKey) (b : Bool) → has_key shortest key (Some x) ≡ b → itself t key ≡ cond (is_open lost t more count && b) (count ∷ []) []
   itself_by t key b is = ap (λ (c : Bool). cond (is_open lost t more count && c) (count ∷ []) []) is
 
   and_true : (b : Bool) → (b && true) ≡ b
@@ -222,11 +207,11 @@ module _ (lost : Option ℕ) (shortest : ℕ) (frames : Frames) (x : SentFrame) 
       and_from (nat_lt n (length more.sent)) (list_all (λ m. nat_lt m (length more.sent)) queue)
       (lt-ltb n (length more.sent) (omega (arith, ltb-true n count parts.0, length-append frames.sent (x ∷ [])))) (wider queue parts.1)
 
-  module _ (since : ℕ) (key : Key) (old new : OpenFrames)
-      (sends : (other : Key) → queue_of new other ≡ (if is_eq (compare_keys key other) then queue_of old key ++ count ∷ [] else queue_of old other))
-      (has : (other : Key) → has_key shortest other (Some x) ≡ is_eq (compare_keys key other))
+  module _ (since : ℕ) (key : CoreKey) (old new : OpenFrames)
+      (sends : (other : CoreKey) → queue_of new other ≡ (if is_same_key key other then queue_of old key ++ count ∷ [] else queue_of old other))
+      (has : (other : CoreKey) → has_key shortest other (Some x) ≡ is_same_key key other)
       (is : IsIndex lost since shortest frames old) where
-    within_by : (other : Key) (b : Bool) → is_eq (compare_keys key other) ≡ b
+    within_by : (other : CoreKey) (b : Bool) → is_same_key key other ≡ b
         → list_all (λ n. nat_lt n (length more.sent)) (if b then queue_of old key ++ count ∷ [] else queue_of old other) ≡ true
     within_by other true same =
         list_all-append (λ n. nat_lt n (length more.sent)) (queue_of old key) (count ∷ [])
@@ -234,7 +219,7 @@ module _ (lost : Option ℕ) (shortest : ℕ) (frames : Frames) (x : SentFrame) 
         (and_from (nat_lt count (length more.sent)) true (lt-ltb count (length more.sent) (omega (arith, length-append frames.sent (x ∷ [])))) refl)
     within_by other false same = wider (queue_of old other) (is.within other)
 
-    open_by : (other : Key) (t : ℕ) → since ≤ t → (b : Bool) → is_eq (compare_keys key other) ≡ b
+    open_by : (other : CoreKey) (t : ℕ) → since ≤ t → (b : Bool) → is_same_key key other ≡ b
         → filter (is_open lost t more) (if b then queue_of old key ++ count ∷ [] else queue_of old other) ≡ open_of lost t shortest more other
     open_by other t later true same =
         let keys = one_key key other same in
@@ -260,7 +245,7 @@ module _ (lost : Option ℕ) (shortest : ℕ) (frames : Frames) (x : SentFrame) 
         record {
           within = λ other.
               subst (λ (queue : List ℕ). list_all (λ n. nat_lt n (length more.sent)) queue ≡ true) (sym (sends other))
-              (within_by other (is_eq (compare_keys key other)) refl);
+              (within_by other (is_same_key key other) refl);
           still_open = λ other t later.
-              ap (λ (queue : List ℕ). filter (is_open lost t more) queue) (sends other) ∙ open_by other t later (is_eq (compare_keys key other)) refl;
+              ap (λ (queue : List ℕ). filter (is_open lost t more) queue) (sends other) ∙ open_by other t later (is_same_key key other) refl;
         }

@@ -6,6 +6,7 @@ pub mod Indexes
 mod Late
 pub mod Orders
 pub mod Parts
+pub mod Queues
 pub mod Recordings
 pub mod Untold
 pub mod Walks

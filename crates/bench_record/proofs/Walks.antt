@@ -10,7 +10,7 @@ use Rattle.omci_msg.specs.Message.{acknowledges, type_of}
 use Rattle.bench_history.specs.Doubts.{IsDoubted}
 use Rattle.bench_history.specs.declared.event.Event.TheVariants.{Sent, Replied, Entered, Lost}
 use Rattle.bench_history.specs.declared.gem.SeenGem.{SeenGem}
-use Rattle.bench_record.specs.Index.{IsSeen, Key, kept_shown, passed_shown, queue_of}
+use Rattle.bench_record.specs.Index.{IsSeen, kept_shown, passed_shown, queue_of}
 use Rattle.bench_record.specs.Matching.{SentFrame, candidates, is_doubtful, is_open, later, leave_at}
 use Rattle.bench_record.specs.Messages.{is_managing, message_of}
 use Rattle.bench_record.specs.Moments.{Sourced, Timed, moment_of_frame, rank_at, rank_of, rank_of_message}
@@ -21,6 +21,7 @@ use Rattle.bench_record.specs.declared.captured.Capture.{Capture}
 use Rattle.bench_record.specs.declared.captured.Source.{Source}
 use Rattle.bench_record.specs.declared.captured.Tap.{Tap}
 use Rattle.bench_record.specs.declared.captured.Tap.TheVariants.{Omci, Into, OutOf}
+use Rattle.bench_record.specs.declared.core_key.CoreKey.{CoreKey}
 use Rattle.bench_record.specs.declared.event.TimedEvent.{TimedEvent}
 use Rattle.bench_record.specs.declared.matching.KeptFrame.{KeptFrame}
 use Rattle.bench_record.specs.declared.passed.Passed.{Passed}
@@ -64,7 +65,7 @@ unwritable_more old new source passed pushed is =
     ∙ ap (λ (p : PassedOver). record p { unwritable = p.unwritable ++ source ∷ [] }) is
 
 -- nothing at all
-pub nothing_kept : (lost : Option ℕ) (walk : Walk) → walk.sent.items ≡ [] → ((key : Key) → queue_of walk.waiting key ≡ []) → IsDoubted [] walk.doubts
+pub nothing_kept : (lost : Option ℕ) (walk : Walk) → walk.sent.items ≡ [] → ((key : CoreKey) → queue_of walk.waiting key ≡ []) → IsDoubted [] walk.doubts
     → walk.replies ≡ 0 → walk.events.items ≡ [] → walk.passed.other.items ≡ [] → walk.passed.unread.items ≡ [] → walk.passed.early.items ≡ []
     → walk.passed.unwritable.items ≡ [] → walk.hidden.items ≡ [] → walk.unnumbered ≡ None → IsSeen lost 0 nothing_seen walk
 nothing_kept lost walk sent waiting doubts replies events others unreads earlies unwritables hidden unnumbered = record {

@@ -1,19 +1,17 @@
 -- The frames that may still leave, as the program finds them by their cores.
 use Rattle.std.specs.Prelude.{◌≡◌, ◌≤◌, ℕ, ◌-◌, ◌*◌, ◌&&◌, Bool, true, false, List, [], filter, length, map, min, take, Option, Some, None, option_map, unwrap_or, nat_le, nat_lt, slice_get}
 use Rattle.std.specs.List.{list_all, range_with_len}
-use Rattle.std.specs.BTreeMap as tree
-use Rattle.std.specs.Borrow.{Bor}
-use Rattle.std.specs.Cmp.Lexicographic.{slice_cmp}
-use Rattle.std.specs.Ordering.{nat_cmp, ordering_then}
+use Rattle.std.specs.HashMap as table
 use Rattle.std.specs.Str.{bytes_eq}
-use Rattle.std.specs.declared.cmp.Ordering.{Ordering}
 use Rattle.bench_history.specs.Doubts.{IsDoubted}
 use Rattle.bench_history.specs.declared.extent.Extent.{Extent}
 use Rattle.bench_history.specs.declared.extent.Extent.TheVariants.{Whole, Front}
 use Rattle.bench_record.specs.Cores.{Core, without_zeros}
+use Rattle.bench_record.specs.Keys.{is_same_key}
 use Rattle.bench_record.specs.Matching.{Frames, SentFrame, is_open}
 use Rattle.bench_record.specs.Recorded.{PassedOver, Seen}
 use Rattle.bench_record.specs.Text.{timed_shown}
+use Rattle.bench_record.specs.declared.core_key.CoreKey.{CoreKey}
 use Rattle.bench_record.specs.declared.frame_core.FrameCore as given
 use Rattle.bench_record.specs.declared.open_frames.OpenFrames.{OpenFrames}
 use Rattle.bench_record.specs.declared.passed.Passed.{Passed}
@@ -48,30 +46,24 @@ shorter shortest core = shorter_by shortest core.extent core.rest
 abbrev pub key_rest : ℕ → List ℕ → List ℕ
 key_rest shortest rest = without_zeros (take shortest rest)
 
--- what a queue is found by: the addresses, and that much of the rest
-abbrev pub Key : Type 0
-Key = Bor (List ℕ) × Bor (List ℕ)
-
-abbrev pub compare_keys : Key → Key → Ordering
-compare_keys x y = ordering_then (slice_cmp nat_cmp x.0.now y.0.now) (slice_cmp nat_cmp x.1.now y.1.now)
-
-abbrev pub has_key : ℕ → Key → Option SentFrame → Bool
-has_key shortest key (Some sent) = bytes_eq sent.core.addresses key.0.now && bytes_eq (key_rest shortest sent.core.rest) key.1.now
+-- a queue is found by the addresses, and that much of the rest
+abbrev pub has_key : ℕ → CoreKey → Option SentFrame → Bool
+has_key shortest key (Some sent) = bytes_eq sent.core.addresses key.addresses.now && bytes_eq (key_rest shortest sent.core.rest) key.rest.now
 has_key shortest key None = false
 
 -- the queue of a key
-abbrev pub queue_of : OpenFrames → Key → List ℕ
-queue_of index key = unwrap_or (option_map (λ queue. queue.items) (tree.get compare_keys index.queues key)) []
+abbrev pub queue_of : OpenFrames → CoreKey → List ℕ
+queue_of index key = unwrap_or (option_map (λ queue. queue.items) (table.get is_same_key index.queues key)) []
 
 -- the open frames of a key, by their numbers
-abbrev pub open_of : Option ℕ → ℕ → ℕ → Frames → Key → List ℕ
+abbrev pub open_of : Option ℕ → ℕ → ℕ → Frames → CoreKey → List ℕ
 open_of lost time shortest frames key =
     filter (λ n. is_open lost time frames n && has_key shortest key (slice_get frames.sent n)) (range_with_len 0 (length frames.sent))
 
 -- for each key, and each time from one on, the queue has the open frames of it; others that were sent may stand there too
 pub record IsIndex (lost : Option ℕ) (since shortest : ℕ) (frames : Frames) (index : OpenFrames) : Type 0 where
-  pub within : (key : Key) → list_all (λ n. nat_lt n (length frames.sent)) (queue_of index key) ≡ true
-  pub still_open : (key : Key) (time : ℕ) → since ≤ time → filter (is_open lost time frames) (queue_of index key) ≡ open_of lost time shortest frames key
+  pub within : (key : CoreKey) → list_all (λ n. nat_lt n (length frames.sent)) (queue_of index key) ≡ true
+  pub still_open : (key : CoreKey) (time : ℕ) → since ≤ time → filter (is_open lost time frames) (queue_of index key) ≡ open_of lost time shortest frames key
 
 -- the first time at which a frame can have been sent that isn't lost before this time
 abbrev pub earliest_of : Option ℕ → ℕ → ℕ

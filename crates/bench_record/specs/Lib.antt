@@ -1,5 +1,6 @@
 pub mod Cores
 pub mod Index
+pub mod Keys
 pub mod Matching
 pub mod Messages
 pub mod Moments

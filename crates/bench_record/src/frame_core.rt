@@ -4,6 +4,7 @@ ghost use Rattle.std.specs.List.{list_any};
 ghost use Rattle.bench_record.specs.Cores.{are_same, begins_tag, begins_type, behind_tags, core_of, cores_agree, cut_from, known_behind, may_begin_tag, rests_agree, without_zeros};
 ghost use Rattle.bench_record.specs.Index.{core_shown, key_rest};
 
+use crate::core_key::CoreKey;
 use bench_history::Extent;
 use tag_view::{CUSTOMER_TPID, SERVICE_TPID};
 
@@ -171,10 +172,13 @@ impl<'a> FrameCore<'a> {
     }
 
     /// What it may be found by among others, where each front has at least so many bytes behind its tags: cores that agree have the same.
-    pub fn key(&self, shortest: usize) -> (&'a [u8], &'a [u8])
-        ensures addresses { result.0.now ≡ self.now.addresses.now }
-        ensures rest { result.1.now ≡ key_rest shortest self.now.rest.now }
+    pub fn key(&self, shortest: usize) -> CoreKey<'a>
+        ensures addresses { result.addresses.now ≡ self.now.addresses.now }
+        ensures rest { result.rest.now ≡ key_rest shortest self.now.rest.now }
     {
-        (self.addresses, without_zeros(first(self.rest, shortest)))
+        CoreKey {
+            addresses: self.addresses,
+            rest: without_zeros(first(self.rest, shortest)),
+        }
     }
 }

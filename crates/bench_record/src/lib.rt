@@ -9,11 +9,12 @@
 //!
 //! **Matching.** A frame that leaves may be each frame of its core that was sent, wasn't seen to leave, isn't past its time and isn't used
 //! up. Where there is one it is that one, where there are several it is one of them, and these are doubtful from then on. The definition
-//! looks through all frames that were sent. The program keeps a queue of frames for each key, in a tree: the addresses, and as many bytes
+//! looks through all frames that were sent. The program keeps a queue of frames for each key, in a hash table: the addresses, and as many bytes
 //! behind the tags as are known of every front, without the zeros that end them. Cores that agree have one key. A frame that isn't open any
-//! more leaves its queue for good when the queue is looked through, since no frame opens again. So a history of n captured frames takes time
-//! in proportion to n log n, and for each frame that leaves to the open frames of its key. Index has what ties the queues to the definition,
-//! and Spans what is kept of when captures begin and end.
+//! more leaves its queue for good when one of its key leaves, since no frame opens again, and a queue without frames leaves the table. So each
+//! frame that leaves takes time in proportion to its length and to the open frames of its key, and only the sorts of n captured frames take
+//! n log n. The hash has no secret: keys that are made to collide are looked through one by one. Index has what ties the queues to the
+//! definition, and Spans what is kept of when captures begin and end.
 //!
 //! **No accusation by the measurement.** A frame that left and is passed over, though it may be one that was sent, is *hidden*: frames that
 //! were sent before it and would be lost no earlier aren't told as lost (`proofs/Untold.antt`). Hidden frames come in order of time, so of
@@ -33,6 +34,7 @@
 #![tactic(auto)]
 
 mod captured;
+mod core_key;
 mod event;
 mod frame_core;
 mod matching;
@@ -46,6 +48,7 @@ mod walk;
 mod writing;
 
 pub use captured::{Capture, CapturedFrame, Side, Source, Tap};
+pub use core_key::CoreKey;
 pub use event::{RecordedEvent, TimedEvent};
 pub use frame_core::{FrameCore, core_of};
 pub use passed::Passed;

@@ -470,15 +470,46 @@ impl<'a> Walk<'a> {
         )
     }
 
-    /// Sees that the frame of a number leaves.
-    fn leave_as(&mut self, at: &Sourced<'a>, gem: SeenGem, number: u32) -> Result<(), AllocError>
-        ensures seen { (lost : Option ℕ) (time : ℕ) (seen : Seen) → IsSeen lost time seen self.old
-            → IfOk result (λ _. IsSeen lost time (leave_as number
-            (sourced_shown at.now) gem seen) self.new) }
+    /// Lets the frames of a core's key go that aren't open at a time, and their queue where it has no others.
+    fn let_go(
+        &mut self,
+        lost: Option<u64>,
+        time: u64,
+        core: &FrameCore<'a>,
+    ) -> Result<(), AllocError>
+        ensures seen { (seen : Seen) → IsSeen lost time seen self.old
+            → IfOk result (λ _. IsSeen lost time seen self.new) }
+        ensures sent { self.new.sent ≡ self.old.sent }
+        ensures shortest { self.new.shortest ≡ self.old.shortest }
+    {
+        let key = core.key(self.shortest);
+        let Some(mut queue) = self.waiting.queues.remove(&key) else {
+            return Ok(());
+        };
+        keep_open(&mut queue, &self.sent, &self.doubts, earliest(lost, time));
+        if !queue.is_empty() {
+            self.waiting.queues.insert(key, queue)?;
+        }
+        Ok(())
+    }
+
+    /// Sees that the frame of a number leaves, which has this core.
+    fn leave_as(
+        &mut self,
+        lost: Option<u64>,
+        at: &Sourced<'a>,
+        gem: SeenGem,
+        core: &FrameCore<'a>,
+        number: u32,
+    ) -> Result<(), AllocError>
+        ensures seen { (seen : Seen) → IsSeen lost at.now.frame.time seen self.old
+            → IfOk result (λ _. IsSeen lost at.now.frame.time
+            (leave_as number (sourced_shown at.now) gem seen) self.new) }
         ensures count { length self.new.sent.items ≡ length self.old.sent.items }
         ensures shortest { self.new.shortest ≡ self.old.shortest }
     {
         mark(&mut self.sent, number);
+        self.let_go(lost, at.frame.time, core)?;
         let (extent, frame) = within(LONGEST_FRAME, at.frame.extent, at.frame.bytes);
         self.add(
             at,
@@ -538,7 +569,7 @@ impl<'a> Walk<'a> {
             return self.leave_unmatched(given, at, gem);
         }
         match self.sure_of(&numbers) {
-            Some(number) => self.leave_as(at, gem, number),
+            Some(number) => self.leave_as(settings.lost, at, gem, &core, number),
             None => self.leave_doubtful(at, gem, numbers),
         }
     }

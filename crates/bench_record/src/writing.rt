@@ -20,7 +20,7 @@ use text_writing::{WriteFault, write_whole};
 type Head = ArrayVec<u8, 32>;
 
 /// How many bytes have their digits written at once.
-const PIECE: usize = 2_048;
+const PIECE: usize = 256;
 
 /// A letter, and a number behind it.
 fn numbered(letter: u8, number: u32) -> Head
@@ -210,7 +210,7 @@ fn write_tail<W: Write>(writer: &mut W, event: &RecordedEvent<'_>) -> Result<(),
 
 /// Writes the digits of a piece of bytes.
 fn write_piece<W: Write>(writer: &mut W, bytes: &[u8]) -> Result<(), WriteFault>
-    requires { length bytes.now ≤ 2048 }
+    requires { length bytes.now ≤ 256 }
     ensures ok { OnOk result
         (Appends (W.contents writer.old) (W.contents writer.new) (encode_lower bytes.now)) }
     ensures err { OnErr result
@@ -390,7 +390,7 @@ fn write_lines<W: Write>(
 /// With the names of the captures, a remark above each event that was seen in a captured frame says where: `# FILE record N TIME s`. No
 /// name has a line feed.
 ///
-/// It takes no memory: the digits of a frame are written in pieces of at most 2,048 bytes. A line takes three writes or more, so the
+/// It takes no memory: the digits of a frame are written in pieces of at most 256 bytes. A line takes three writes or more, so the
 /// writer should gather what it is given, as a `BufWriter` does. The first write that fails or takes no byte ends it: then a front of
 /// the text is written.
 pub fn write_history<W: Write>(

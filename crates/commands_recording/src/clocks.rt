@@ -1,10 +1,10 @@
 //! Frames that left before they were sent, as where captures have several clocks.
 use bench_history::Extent;
 use bench_record::{
-    Capture, CapturedFrame, FrameCore, RecordSettings, Source, Tap, core_of, shortest_with,
+    Capture, CapturedFrame, CoreKey, FrameCore, RecordSettings, Source, Tap, core_of, shortest_with,
 };
 use std::alloc::{AllocError, Global};
-use std::collections::BTreeMap;
+use std::collections::HashMap;
 
 /// How soon behind a frame that left one of its core has to be sent, in nanoseconds: a second.
 const SOON: u64 = 1_000_000_000;
@@ -28,9 +28,6 @@ struct SentFrame<'f> {
     core: FrameCore<'f>,
 }
 
-/// What frames are looked up by.
-type Key<'f> = (&'f [u8], &'f [u8]);
-
 /// The core of a captured frame.
 fn core_in<'f>(frame: &CapturedFrame<'f>, settings: &RecordSettings<'_>) -> FrameCore<'f> {
     core_of(settings.tpids, settings.padded, frame.extent, frame.bytes)
@@ -42,7 +39,7 @@ struct SentFrames<'f> {
     // In order of time.
     frames: Vec<SentFrame<'f>>,
     // The places of those of a key, in order.
-    queues: BTreeMap<Key<'f>, Vec<usize>>,
+    queues: HashMap<CoreKey<'f>, Vec<usize>>,
     // How many bytes behind the tags are known of every front.
     shortest: usize,
 }
@@ -93,7 +90,7 @@ fn sent_in_order<'f>(
 impl<'f> SentFrames<'f> {
     /// The frames that were sent by captures, where of every front so many bytes behind the tags are known.
     fn new(alloc: Global, frames: Vec<SentFrame<'f>>, shortest: usize) -> Result<Self, AllocError> {
-        let mut queues: BTreeMap<Key<'f>, Vec<usize>> = BTreeMap::new(alloc);
+        let mut queues: HashMap<CoreKey<'f>, Vec<usize>> = HashMap::new(alloc);
         for (place, frame) in frames.iter().enumerate() {
             let key = frame.core.key(shortest);
             if let Some(queue) = queues.get_mut(&key) {

@@ -4,6 +4,7 @@ ghost use Rattle.bench_history.specs.Among.{are_in_order, ascend_from};
 
 use crate::beginnings::may_begin_late;
 use crate::clocks::{Ahead, frames_ahead};
+use crate::tags::{has_tag, without_tags};
 use bench_history::Doubts;
 use bench_record::{Capture, RecordSettings, RecordedEvent, Recording, Source, TimedEvent};
 use std::alloc::{AllocError, Global};
@@ -29,6 +30,8 @@ pub(crate) struct Findings {
     pub(crate) ahead: Vec<Ahead>,
     /// Those that were sent, and neither left nor are lost.
     pub(crate) open: Vec<Source>,
+    /// The captures, by their numbers, of which no frame has a tag, though one left there that was sent with a tag.
+    pub(crate) untagged: Vec<usize>,
 }
 
 impl Findings {
@@ -49,19 +52,24 @@ impl Findings {
 struct Sent {
     source: Source,
     time: u64,
+    has_tag: bool,
     /// Whether it was seen to leave, or is lost.
     has_ended: bool,
 }
 
 /// What is found so far.
 #[derive(Drop)]
-struct Finder {
+struct Finder<'t> {
     alloc: Global,
+    // The types that begin a tag beside those of IEEE 802.1Q.
+    tpids: &'t [u16],
     // By their numbers.
     sent: Vec<Sent>,
     doubts: Doubts,
     doubtful: Vec<Source>,
     strays: Vec<Source>,
+    // Of each capture, whether a frame left there that was sent with a tag.
+    left_tagged: Vec<bool>,
 }
 
 /// Whether numbers ascend from one on.
@@ -86,15 +94,18 @@ fn are_in_order(numbers: &[u32]) -> bool
     }
 }
 
-impl Finder {
-    fn new(alloc: Global) -> Self {
-        Finder {
+impl<'t> Finder<'t> {
+    /// Nothing of so many captures, where these types begin a tag too.
+    fn new(alloc: Global, captures: usize, tpids: &'t [u16]) -> Result<Self, AllocError> {
+        Ok(Finder {
             alloc,
+            tpids,
             sent: Vec::new(alloc),
             doubts: Doubts::new(alloc),
             doubtful: Vec::new(alloc),
             strays: Vec::new(alloc),
-        }
+            left_tagged: vec![in alloc; false; captures]?,
+        })
     }
 
     /// Notes that the frame of a number left, or is lost.
@@ -104,9 +115,27 @@ impl Finder {
         }
     }
 
-    /// Notes that one of some frames left.
+    /// Whether the frames of some numbers were all sent with a tag.
+    fn had_tags(&self, numbers: &[u32]) -> bool {
+        numbers.iter().all(|number| match self.sent.get(*number as usize) {
+            Some(sent) => sent.has_tag,
+            None => false,
+        })
+    }
+
+    /// Notes that one of some frames left in a capture.
+    fn leave(&mut self, capture: usize, numbers: &[u32]) {
+        if self.had_tags(numbers)
+            && let Some(has_left) = self.left_tagged.get_mut(capture)
+        {
+            *has_left = true;
+        }
+    }
+
+    /// Notes that one of some frames left, which can't be told apart.
     fn doubt(&mut self, source: Source, numbers: &[u32]) -> Result<(), AllocError> {
         self.doubtful.push(source)?;
+        self.leave(source.capture, numbers);
         let frames = Vec::from_slice(self.alloc, numbers)?;
         if are_in_order(&frames) {
             self.doubts.name(frames)?;
@@ -122,14 +151,18 @@ impl Finder {
         event: &RecordedEvent<'_>,
     ) -> Result<(), AllocError> {
         match event {
-            RecordedEvent::Entered { .. } => {
+            RecordedEvent::Entered { frame, .. } => {
                 self.sent.push(Sent {
                     source,
                     time,
+                    has_tag: has_tag(self.tpids, frame),
                     has_ended: false,
                 })?;
             }
-            RecordedEvent::Left { number, .. } => self.end(*number),
+            RecordedEvent::Left { number, .. } => {
+                self.end(*number);
+                self.leave(source.capture, &[*number]);
+            }
             RecordedEvent::LeftOneOf { numbers, .. } => self.doubt(source, numbers)?,
             RecordedEvent::Strayed { .. } => self.strays.push(source)?,
             _ => {}
@@ -203,7 +236,7 @@ pub(crate) fn find(
     settings: &RecordSettings<'_>,
     recording: &Recording<'_>,
 ) -> Result<Findings, AllocError> {
-    let mut finder = Finder::new(alloc);
+    let mut finder = Finder::new(alloc, captures.len(), settings.tpids)?;
     for timed in &recording.events {
         finder.note(timed)?;
     }
@@ -224,5 +257,6 @@ pub(crate) fn find(
         strays: in_order(alloc, &finder.strays)?,
         ahead: frames_ahead(alloc, captures, settings, &left)?,
         open: in_order(alloc, &open)?,
+        untagged: without_tags(alloc, captures, settings.tpids, &finder.left_tagged)?,
     })
 }

@@ -1,7 +1,7 @@
 //! The command `record`: the history that captures show, for `judge`.
 //!
 //! The history is made by the crate `bench_record`. The captures that are asked for are read (inputs), and their frames listed (seeing), each by
-//! its interface where these are named (interfaces). Beside the history stands what a lab has to know of it (finding, clocks), and it is said
+//! its interface where these are named (interfaces). Beside the history stands what a lab has to know of it (finding, clocks, beginnings, tags), and it is said
 //! on standard error (saying).
 #![tactic(auto)]
 
@@ -13,5 +13,6 @@ mod interfaces;
 mod recording;
 mod saying;
 mod seeing;
+mod tags;
 
 pub use recording::record;

@@ -11,6 +11,9 @@ use std::io::{BufWriter, Write};
 use std::rt::Files;
 use text_writing::{LookFault, Status, report_look};
 
+/// How many bytes of a history are gathered before the output gets them: as many as a pipe of Linux holds.
+const GATHERED: usize = 1 << 16;
+
 /// What a history is made by: the words, the names of the captures' files, and the settings.
 #[derive(Clone, Copy)]
 struct Job<'j, 'w, 'n, 't> {
@@ -95,7 +98,7 @@ fn write_output<O: Write, E: Write>(
     out: &mut O,
     err: &mut E,
 ) -> Result<(), Status> {
-    let Ok(mut writer) = BufWriter::new(alloc, out) else {
+    let Ok(mut writer) = BufWriter::with_capacity(alloc, GATHERED, out) else {
         return Err(without_memory(err));
     };
     let written = write_history(&recording.events, sources, &mut writer);

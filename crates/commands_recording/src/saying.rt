@@ -174,6 +174,18 @@ fn report_ahead<E: Write>(number: usize, name: &str, frames: &[Ahead], err: &mut
     );
 }
 
+/// Says of captures in which no frame has a tag that a network card may have taken them off.
+fn report_untagged<E: Write>(names: &[&str], captures: &[usize], err: &mut E) {
+    for number in captures {
+        if let Some(name) = names.get(*number) {
+            let _ = writeln!(
+                err,
+                "{name}: no frame has a tag, though frames were sent with one: does its card take tags off (VLAN offload)?"
+            );
+        }
+    }
+}
+
 /// Says what is in doubt, and what is open.
 fn report_doubts<E: Write>(names: &[&str], findings: &Findings, err: &mut E) {
     let doubtful = "frames are matched in doubt";
@@ -183,6 +195,7 @@ fn report_doubts<E: Write>(names: &[&str], findings: &Findings, err: &mut E) {
     for (number, name) in names.iter().enumerate() {
         report_ahead(number, name, &findings.ahead, err);
     }
+    report_untagged(names, &findings.untagged, err);
     report_frames(names, &findings.open, "frames are still open", err);
 }
 

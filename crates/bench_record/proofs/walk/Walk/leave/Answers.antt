@@ -76,7 +76,7 @@ returns-in-Some-clause-seen c = λ captures since seen are is within long.
     (leave_sure s captures at c.args.gem seen numbers c.in-Some.number sure
     ∙ leave_found s captures at c.args.gem seen numbers (sym c.is_unread.ensures ∙ c.if-is_unread.false)
     (sym (c.is_from_before.ensures captures are) ∙ c.if-is_from_before.false) found) so)
-    (c.leave_as.ensures.seen s.lost at.frame.time seen later)
+    (c.leave_as.ensures.seen seen later)
 
 pub returns-in-None-clause-seen : goal.returns-in-None-clause-seen
 returns-in-None-clause-seen c = λ captures since seen are is within long.

@@ -14,8 +14,10 @@ use Rattle.bench_record.proofs.Walks.{seen_as}
 use Rattle.bench_record.proofs.walk.Walk.leave_as.Goals as goal
 
 pub returns-clause-seen : goal.returns-clause-seen
-returns-clause-seen c = λ lost time seen is.
+returns-clause-seen c = λ seen is.
     let at = sourced_shown c.args.at.now in
+    let lost = c.args.lost in
+    let time = at.frame.time in
     let n = c.args.number in
     let left : Seen = record seen { frames = record seen.frames { sent = leave_at n seen.frames.sent } } in
     let marked : IsSeen lost time left (record c.args.self.now { sent = c.mark.new.sent }) = record {
@@ -34,7 +36,7 @@ returns-clause-seen c = λ lost time seen is.
     (ap (λ (extent : Extent). with_events (seen_in at (Left c.args.gem extent n c.within-extent.result.1.now) ∷ []) left) c.within-extent.ensures.extent
     ∙ ap (λ (frame : List ℕ). with_events (seen_in at (Left c.args.gem (extent_within longest_frame at.frame.extent at.frame.bytes.now) n frame) ∷ []) left)
     c.within-extent.ensures.frame) so)
-    (c.add.ensures.seen lost time left marked)
+    (c.add.ensures.seen lost time left (c.in_ok-let_go.ensures.seen left marked))
 
 marked_count : (news olds : List KeptFrame) (n : ℕ) → map kept_shown news ≡ leave_at n (map kept_shown olds) → length news ≡ length olds
 marked_count news olds n is =
@@ -42,5 +44,10 @@ marked_count news olds n is =
 
 pub returns-clause-count : goal.returns-clause-count
 returns-clause-count c =
-    ap (λ (sent : Vec KeptFrame Global). length sent.items) c.add.ensures.sent
+    ap (λ (sent : Vec KeptFrame Global). length sent.items) (c.add.ensures.sent ∙ c.let_go.ensures.sent)
+    ∙ marked_count c.mark.new.sent.items c.args.self.now.sent.items c.args.number c.mark.ensures
+
+pub returns-in_err-let_go-clause-count : goal.returns-in_err-let_go-clause-count
+returns-in_err-let_go-clause-count c =
+    ap (λ (sent : Vec KeptFrame Global). length sent.items) c.let_go.ensures.sent
     ∙ marked_count c.mark.new.sent.items c.args.self.now.sent.items c.args.number c.mark.ensures
