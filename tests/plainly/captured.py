@@ -31,6 +31,7 @@ BEGUN_LATE = "was the sender on before the captures of --into began? --late, wit
 LEFT_OUT = "frames are left out, since a history can't hold them"
 DOUBT = "frames are matched in doubt"
 STRAYS = "frames are strays, which no open frame can be"
+OFFLOAD = "no frame has a tag, though frames were sent with one: does its card take tags off (VLAN offload)?"
 OPEN = "frames are still open"
 
 
@@ -159,7 +160,26 @@ RECORDED = [
      [(1, INTO, "AD+81000064+0800+01"), (2, INTO, "AD+88a80001+81000002+81000003+0800+02"), (3, INTO, "AD+0800+03"),
       (4, OUT_OF, "AD+88a8e005+81000007+0800+03"), (5, "--out-of 65535", "AD+0800+02"), (6, OUT_OF, "AD+0800+01")],
      ["f 257 AD+81000064+0800+01", "f 257 AD+88a80001+81000002+81000003+0800+02", "f 257 AD+0800+03",
-      "g 2 1024 AD+88a8e005+81000007+0800+03", "g 1 65535 AD+0800+02", "g 0 1024 AD+0800+01"], []),
+      "g 2 1024 AD+88a8e005+81000007+0800+03", "g 1 65535 AD+0800+02", "g 0 1024 AD+0800+01"], [f"out-of65535: {OFFLOAD}"]),
+    ("a card takes tags off", [],
+     [(1, INTO, "AD+81000064+0800+01"), (2, INTO, "AD+0800+02"), (3, OUT_OF, "AD+0800+02"), (4, OUT_OF, "AD+0800+01"), (5, OUT_OF, "AD+0800+03")],
+     ["f 257 AD+81000064+0800+01", "f 257 AD+0800+02", "g 1 1024 AD+0800+02", "g 0 1024 AD+0800+01", "s 1024 AD+0800+03"],
+     [f"out-of1024: 1 {STRAYS}: record 3", f"out-of1024: {OFFLOAD}"]),
+    ("of types that are set, and of frames in doubt", ["--tpid", "9100"],
+     [(1, INTO, "AD+91000001+0800+01"), (2, INTO, "AD+91000002+0800+01"), (3, OUT_OF, "AD+0800+01"), (4, "--out-of 7", "AD+0800+01")],
+     ["f 257 AD+91000001+0800+01", "f 257 AD+91000002+0800+01", "a 1024 AD+0800+01 0 1", "a 7 AD+0800+01 0 1"],
+     [f"out-of1024: 1 {DOUBT}: record 1", f"out-of7: 1 {DOUBT}: record 1", f"out-of1024: {OFFLOAD}", f"out-of7: {OFFLOAD}"]),
+    ("it doesn't where a frame has one, though it is a stray, or early", [],
+     [(1, INTO, "AD+81000064+0800+01"), (2, OUT_OF, "AD+0800+01"), (3, OUT_OF, "AD+81000064+0800+02"), (1, "--out-of 7", "AD+91000064+0800+01"),
+      (4, INTO, "AD+88a80064+0800+03"), (5, "--out-of 7", "AD+0800+03"), (1, "--out-of 8", "AD+81000064+0800+05"),
+      (6, INTO, "AD+81000064+0800+04"), (7, "--out-of 8", "AD+0800+04")],
+     ["f 257 AD+81000064+0800+01", "g 0 1024 AD+0800+01", "s 1024 AD+81000064+0800+02", "f 257 AD+88a80064+0800+03", "g 1 7 AD+0800+03",
+      "f 257 AD+81000064+0800+04", "g 2 8 AD+0800+04"],
+     [f"out-of7: 1 {EARLY}: record 1", f"out-of8: 1 {EARLY}: record 1", BEGUN_LATE, f"out-of1024: 1 {STRAYS}: record 2", f"out-of7: {OFFLOAD}"]),
+    ("nor where what left may have been sent without one", [],
+     [(1, INTO, "AD+81000064+0800+01"), (2, INTO, "AD+0800+01"), (3, INTO, "AD+0800+02"), (4, OUT_OF, "AD+0800+01"), (5, OUT_OF, "AD+0800+02")],
+     ["f 257 AD+81000064+0800+01", "f 257 AD+0800+01", "f 257 AD+0800+02", "a 1024 AD+0800+01 0 1", "g 2 1024 AD+0800+02"],
+     [f"out-of1024: 1 {DOUBT}: record 1", f"into257: 2 {OPEN}: records 1, 2"]),
     ("a type that is set", ["--tpid", "9200", "--tpid", "9100"],
      [(1, INTO, "AD+91000001+92000002+81000003+0800+01"), (2, OUT_OF, "AD+81000005+0800+01")],
      ["f 257 AD+91000001+92000002+81000003+0800+01", "g 0 1024 AD+81000005+0800+01"], []),
