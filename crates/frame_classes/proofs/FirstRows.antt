@@ -44,7 +44,7 @@ pub some_if : {X : Type 0} (P : X → Type 0) (o : Option X) (x : X) → o ≡ S
 some_if P o x is h = rw is at h
 
 -- the rows of a side among those of all
-side_rows : (sides : List Rows) (n : ℕ) (s : Rows) → slice_get sides n ≡ Some s → rows_of_side (map side_by sides) n ≡ s.rows.items
+pub side_rows : (sides : List Rows) (n : ℕ) (s : Rows) → slice_get sides n ≡ Some s → rows_of_side (map side_by sides) n ≡ s.rows.items
 side_rows [] n s is = absurd (none_some s is)
 side_rows (x ∷ xs) zero s is = append-nil x.rows.items ∙ ap (λ (r : Rows). r.rows.items) (same x s is)
   where

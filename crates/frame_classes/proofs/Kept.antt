@@ -225,7 +225,7 @@ none_at sides field value n d several apart within = by_type apart.type
     by_type (inr other) = inr other
 
 -- the first row of a side among those that are left
-left_find : (sides : List Side) (field : Field) (values : Values) (places : List ℕ) (n : ℕ) (rows : List Row)
+pub left_find : (sides : List Side) (field : Field) (values : Values) (places : List ℕ) (n : ℕ) (rows : List Row)
     → AreLeftOf sides (take (place_of field) fields) values places → rows_of_side sides n ≡ rows
     → first_left sides places n ≡ find (λ row. passes (take (place_of field) fields) row values) rows
 left_find sides field values places n rows left is =

@@ -29,6 +29,9 @@ pub mod Pairs
 pub mod Choosing
 pub mod Staying
 pub mod Kept
+pub mod Silent
+pub mod Sought
+pub mod KnownClasses
 pub mod Lines
 pub mod SameTags
 pub mod Freezing

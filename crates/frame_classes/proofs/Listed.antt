@@ -1,11 +1,12 @@
 -- What is listed of frames is what is told of all.
-use Rattle.std.proofs.Common.{◌≡◌, ℕ, suc, ◌+◌, ◌-◌, ◌/◌, ◌%◌, ◌^◌, ◌<◌, ◌≤◌, Bool, true, false, List, [], ◌∷◌, ◌++◌, Some, arith, refl, ap, sym, subst, length, length-append, min, get_or, nat_lt, ◌∙◌}
+use Rattle.std.proofs.Common.{◌≡◌, ℕ, suc, ◌+◌, ◌-◌, ◌/◌, ◌%◌, ◌^◌, ◌<◌, ◌≤◌, Bool, true, false, List, [], ◌∷◌, ◌++◌, Option, Some, arith, refl, ap, sym, subst, length, length-append, min, get_or, nat_lt, ◌∙◌}
 use Rattle.std.specs.Prelude.{All, Contains, IfOk, Result, Ok, Err, map}
 use Rattle.std.specs.List.Sorted.{IsStrictlyIncreasing}
 use Rattle.std.proofs.lemmas.Bool.{ltb-false, ltb-true, lt-ltb}
 use Rattle.std.proofs.lemmas.List.{length-map, get_or-map, get_or_append_left, get_or-append_right, get_or_default}
 use Rattle.std.proofs.lemmas.List.Elements.{All-from_recursion}
 use Rattle.frame_rows.specs.declared.class.FrameClass.{FrameClass}
+use Rattle.frame_rows.specs.declared.class.Use.{Use}
 use Rattle.frame_rows.specs.declared.field.Field.{Field}
 use Rattle.frame_rows.specs.declared.field.Field.TheVariants.{FirstType, SecondType, ThirdType, FirstVid, SecondVid, ThirdVid, FirstPriority, SecondPriority, FirstEligible, SecondEligible}
 use Rattle.frame_rows.specs.Field.{end_of, fields, place_of, value_at, values_of, word_at}
@@ -19,7 +20,7 @@ use Rattle.frame_classes.specs.Classes.{IsFrame}
 use Rattle.frame_classes.specs.Found.{number_of, told_of}
 use Rattle.frame_classes.specs.Listed.{count_told, tell}
 use Rattle.frame_classes.specs.Splitting.{AreExamplesOf, AreTold, CanBe, IsFrameOf, IsOf}
-use Rattle.frame_classes.specs.Told.{told_by, told_number}
+use Rattle.frame_classes.specs.Told.{is_wanted, told_by, told_number}
 
 -- ---- one example more
 
@@ -179,9 +180,10 @@ told_in : List (Told × List ℕ) → List Told
 told_in examples = map (λ example. example.0) examples
 
 -- it is all that is told of frames, once and in order
-pub record AreSaid (sides : List Side) (least : ℕ) (examples : List (Told × List ℕ)) : Type 0 where
+pub record AreSaid (sides : List Side) (wanted : Option Use) (least : ℕ) (examples : List (Told × List ℕ)) : Type 0 where
   pub each : All (IsSaid sides least) examples
-  pub every : (bytes : List ℕ) (told : Told) → IsFrame least bytes → told_by sides (values_of bytes) ≡ Some told
+  pub looked_for : All (λ example. is_wanted wanted example.0 ≡ true) examples
+  pub every : (bytes : List ℕ) (told : Told) → IsFrame least bytes → told_by sides (values_of bytes) ≡ Some told → is_wanted wanted told ≡ true
       → Contains (map (λ (example : Told × List ℕ). example.0) examples) told
   pub once : IsStrictlyIncreasing (map told_number (map (λ (example : Told × List ℕ). example.0) examples))
 
@@ -204,19 +206,26 @@ eleven_values : (bytes : List ℕ) → length (values_of bytes).values ≡ 11
 unfolding values_of
 eleven_values bytes = refl
 
-pub are_said : (sides : List Side) (least : ℕ) (samples : List Sample) (examples : List (Told × List ℕ))
-    → AreTold sides least samples → AreExamplesOf least (length samples) samples examples → AreSaid sides least examples
+pub are_said : (sides : List Side) (wanted : Option Use) (least : ℕ) (samples : List Sample) (examples : List (Told × List ℕ))
+    → AreTold sides wanted least samples → AreExamplesOf least (length samples) samples examples → AreSaid sides wanted least examples
 unfolding told_in
-are_said sides least samples examples are written =
+are_said sides wanted least samples examples are written =
     record {
       each = each;
-      every = λ bytes told frame is. subst (λ (list : List Told). Contains list told) (sym same)
-          (are.every (values_of bytes) told (of_frame least bytes frame) (eleven_values bytes) is);
+      looked_for = λ k other h.
+          let count = written.count_same in
+          let there : k < length samples = omega (arith, count, h) in
+          looked k other there (record { told = other.0; values = values_of [] });
+      every = λ bytes told frame is looked. subst (λ (list : List Told). Contains list told) (sym same)
+          (are.every (values_of bytes) told (of_frame least bytes frame) (eleven_values bytes) is looked);
       once = subst IsStrictlyIncreasing (sym (ap (map told_number) same ∙ numbers_same samples)) are.ascend;
     }
   where
     same : told_in examples ≡ told_of samples
     same = same_told samples examples written.count_same written.told
+
+    looked : (k : ℕ) (other : Told × List ℕ) → k < length samples → Sample → is_wanted wanted (get_or examples k other).0 ≡ true
+    looked k other there d = ap (is_wanted wanted) (written.told k d other there) ∙ are.wanted_all k d there
 
     at : (k : ℕ) (other : Told × List ℕ) → k < length samples → Sample → IsSaid sides least (get_or examples k other)
     at k other there d =

@@ -2,10 +2,13 @@
 use Rattle.std.proofs.Common.{◌≡◌, ℕ, ◌+◌, ◌^◌, ◌<◌, Bool, true, false, ◌&&◌, List, [], ◌∷◌, Option, Some, None, arith, refl, ap, sym, subst, get_or, if◌then◌else◌, ◌∙◌}
 use Rattle.std.specs.Prelude.{All, Contains, map}
 use Rattle.std.specs.List.Sorted.{IsStrictlyIncreasing}
-use Rattle.std.proofs.lemmas.Bool.{true≢false}
+use Rattle.std.proofs.lemmas.Bool.{eq-eqb, eqb-true, true≢false}
+use Rattle.std.proofs.lemmas.List.{get_or-map, length-map}
 use Rattle.std.proofs.lemmas.List.Elements.{All-from_recursion}
 use Rattle.mib_state.specs.Entities.{Entities}
 use Rattle.frame_rows.specs.declared.class.FrameClass.{FrameClass}
+use Rattle.frame_rows.specs.declared.class.Use.{Use}
+use Rattle.frame_rows.specs.declared.class.Use.TheVariants.{Unread, NoTable, Entry, NoEntry}
 use Rattle.frame_rows.specs.Class.{class_number, class_of}
 use Rattle.frame_rows.specs.Field.{values_of}
 use Rattle.frame_rows.specs.Sight.{AreSeenApart, IsLike, IsSide, Side, seen_apart, sight_of}
@@ -14,10 +17,10 @@ use Rattle.frame_classes.specs.declared.found.Sample.{Sample}
 use Rattle.frame_classes.specs.declared.told.Told.{Told}
 use Rattle.frame_classes.specs.declared.told.Told.TheVariants.{One, Two, Three}
 use Rattle.frame_classes.specs.Classes.{AreClasses, IsFrame, classes_in}
-use Rattle.frame_classes.specs.Differences.{AreDifferences, AreTorn, IsTorn, pair_number, pairs_in, triple_number, triples_in}
+use Rattle.frame_classes.specs.Differences.{AreDifferences, AreTorn, AreTornBy, IsTear, IsTorn, pair_number, pairs_in, triple_number, triples_in}
 use Rattle.frame_classes.specs.Listed.{count_told, of_one, of_three, of_two, tell}
 use Rattle.frame_classes.specs.Splitting.{AreTold}
-use Rattle.frame_classes.specs.Told.{class_at, one_of, three_of, told_by, told_number, two_of}
+use Rattle.frame_classes.specs.Told.{class_at, is_wanted, one_of, same_use, three_of, told_by, told_number, two_of}
 use Rattle.frame_classes.proofs.Listed.{AreSaid, contains_of, rising_less, said_at, told_same}
 
 -- ---- what is told
@@ -72,17 +75,18 @@ class_is : (e : Entities) (port : ℕ) (side : Side) → IsSide e port side → 
 class_is e port side is bytes fits = is.mean.class bytes fits
 
 -- a listed tells so
-told_listed : {X : Type 0} (sides : List Side) (least : ℕ) (told : X → Told) (list : List (X × List ℕ)) (x : X) → AreSaid sides least (tell told list)
+told_listed : {X : Type 0} (sides : List Side) (wanted : Option Use) (least : ℕ) (told : X → Told) (list : List (X × List ℕ)) (x : X) → AreSaid sides wanted least (tell told list)
     → ((a b : X) → told a ≡ told b → a ≡ b) → (bytes : List ℕ) → IsFrame least bytes → told_by sides (values_of bytes) ≡ Some (told x)
+    → is_wanted wanted (told x) ≡ true
     → Contains (map (λ (each : X × List ℕ). each.0) list) x
-told_listed {X} sides least told list x said back bytes frame is =
+told_listed {X} sides wanted least told list x said back bytes frame is looked =
     contains_of told (map (λ (each : X × List ℕ). each.0) list) x back
-    (subst (λ (all : List Told). Contains all (told x)) (told_same told list) (said.every bytes (told x) frame is))
+    (subst (λ (all : List Told). Contains all (told x)) (told_same told list) (said.every bytes (told x) frame is looked))
 
 -- ---- one configuration
 
 pub are_classes : (e : Entities) (port least : ℕ) (side : Side) (list : List (FrameClass × List ℕ)) → IsSide e port side
-    → AreSaid (side ∷ []) least (tell of_one list) → AreClasses e port least list
+    → AreSaid (side ∷ []) None least (tell of_one list) → AreClasses e port least list
 are_classes e port least side list is said =
     record {
       each = λ k d h.
@@ -92,7 +96,7 @@ are_classes e port least side list is said =
             frame = one.frame;
             has_class = one_same (class_of e port example.1) example.0 (sym (one_by example.1 one.frame) ∙ one.told);
           };
-      every = λ bytes frame. told_listed (side ∷ []) least of_one list (class_of e port bytes) said back bytes frame (one_by bytes frame);
+      every = λ bytes frame. told_listed (side ∷ []) None least of_one list (class_of e port bytes) said back bytes frame (one_by bytes frame) refl;
       once = rising_less class_number of_one 1 (classes_in list) (λ c. refl) (subst IsStrictlyIncreasing (ap (map told_number) (told_same of_one list)) said.once);
     }
   where
@@ -108,7 +112,7 @@ pair_same : (p q : FrameClass × FrameClass) → Some (of_two p) ≡ Some (of_tw
 pair_same (a, b) (c, d) e = let first = two_first a b c d e in let second = two_second a b c d e in cc
 
 pub are_differences : (e f : Entities) (port least : ℕ) (one other : Side) (list : List ((FrameClass × FrameClass) × List ℕ))
-    → IsSide e port one → IsSide f port other → AreSaid (one ∷ other ∷ []) least (tell of_two list) → AreDifferences e f port least list
+    → IsSide e port one → IsSide f port other → AreSaid (one ∷ other ∷ []) None least (tell of_two list) → AreDifferences e f port least list
 are_differences e f port least one other list is is' said =
     record {
       each = λ k d h.
@@ -123,9 +127,9 @@ are_differences e f port least one other list is is' said =
             differ = tell_apart.apart difference.1 two.frame.bytes_fit told.0;
           };
       every = λ bytes frame differ.
-          told_listed (one ∷ other ∷ []) least of_two list (class_of e port bytes, class_of f port bytes) said
+          told_listed (one ∷ other ∷ []) None least of_two list (class_of e port bytes, class_of f port bytes) said
           (λ p q same. pair_same p q (ap (λ (t : Told). Some t) same)) bytes frame
-          (show (apart bytes) (classes bytes) (Two (class_of e port bytes) (class_of f port bytes)) (is_apart bytes frame differ (apart bytes) refl) (two_by bytes frame));
+          (show (apart bytes) (classes bytes) (Two (class_of e port bytes) (class_of f port bytes)) (is_apart bytes frame differ (apart bytes) refl) (two_by bytes frame)) refl;
       once =
           rising_less pair_number of_two (2 ^ 26 + 1) (pairs_in list) (λ p. omega arith)
           (subst IsStrictlyIncreasing (ap (map told_number) (told_same of_two list)) said.once);
@@ -155,10 +159,19 @@ triple_same : (p q : FrameClass × FrameClass × FrameClass) → Some (of_three 
 triple_same (a, b, c) (x, y, z) e =
     let first = three_first a b c x y z e in let second = three_second a b c x y z e in let third = three_third a b c x y z e in cc
 
-pub are_torn : (e f g : Entities) (port least : ℕ) (before here after : Side) (list : List ((FrameClass × FrameClass × FrameClass) × List ℕ))
+-- those that are looked for are torn, and all of those that are looked for are listed
+record AreTears (e f g : Entities) (port least : ℕ) (wanted : Option Use) (tears : List ((FrameClass × FrameClass × FrameClass) × List ℕ)) : Type 0 where
+  each : All (IsTear e f g port least) tears
+  looked_for : All (λ tear. is_wanted wanted (of_three tear.0) ≡ true) tears
+  every : (bytes : List ℕ) → IsFrame least bytes → IsTorn e f g port bytes
+      → is_wanted wanted (of_three (class_of e port bytes, class_of f port bytes, class_of g port bytes)) ≡ true
+      → Contains (triples_in tears) (class_of e port bytes, class_of f port bytes, class_of g port bytes)
+  once : IsStrictlyIncreasing (map triple_number (triples_in tears))
+
+are_tears : (e f g : Entities) (port least : ℕ) (wanted : Option Use) (before here after : Side) (list : List ((FrameClass × FrameClass × FrameClass) × List ℕ))
     → IsSide e port before → IsSide f port here → IsSide g port after
-    → AreSaid (before ∷ here ∷ after ∷ []) least (tell of_three list) → AreTorn e f g port least list
-are_torn e f g port least before here after list is is' is'' said =
+    → AreSaid (before ∷ here ∷ after ∷ []) wanted least (tell of_three list) → AreTears e f g port least wanted list
+are_tears e f g port least wanted before here after list is is' is'' said =
     record {
       each = λ k d h.
           let tear = get_or list k d in
@@ -177,11 +190,16 @@ are_torn e f g port least before here after list is is' is'' said =
                   after = from_after.unlike tear.1 three.frame.bytes_fit torn.1;
                 };
           };
-      every = λ bytes frame torn.
-          told_listed (before ∷ here ∷ after ∷ []) least of_three list (class_of e port bytes, class_of f port bytes, class_of g port bytes) said
+      looked_for = λ k d h.
+          let f : (FrameClass × FrameClass × FrameClass) × List ℕ → Told × List ℕ = λ each. (of_three each.0, each.1) in
+          let count = length-map list f in
+          ap (λ (t : Told × List ℕ). is_wanted wanted t.0) (sym (get_or-map f list k d (of_three d.0, d.1) h))
+          ∙ said.looked_for k (of_three d.0, d.1) (omega (arith, count, h));
+      every = λ bytes frame torn looked.
+          told_listed (before ∷ here ∷ after ∷ []) wanted least of_three list (class_of e port bytes, class_of f port bytes, class_of g port bytes) said
           (λ p q same. triple_same p q (ap (λ (t : Told). Some t) same)) bytes frame
           (show (apart before bytes && apart after bytes) (classes bytes) (Three (class_of e port bytes) (class_of f port bytes) (class_of g port bytes))
-          (is_apart bytes frame torn) (three_by bytes frame));
+          (is_apart bytes frame torn) (three_by bytes frame)) looked;
       once =
           rising_less triple_number of_three (2 ^ 52 + 2 ^ 26 + 1) (triples_in list) (λ t. omega arith)
           (subst IsStrictlyIncreasing (ap (map told_number) (told_same of_three list)) said.once);
@@ -216,6 +234,51 @@ are_torn e f g port least before here after list is is' is'' said =
         and_both (apart before bytes) (apart after bytes) (one_apart e before bytes frame from_before torn.before (apart before bytes) refl)
         (one_apart g after bytes frame from_after torn.after (apart after bytes) refl)
 
+pub are_torn : (e f g : Entities) (port least : ℕ) (before here after : Side) (list : List ((FrameClass × FrameClass × FrameClass) × List ℕ))
+    → IsSide e port before → IsSide f port here → IsSide g port after
+    → AreSaid (before ∷ here ∷ after ∷ []) None least (tell of_three list) → AreTorn e f g port least list
+are_torn e f g port least before here after list is is' is'' said =
+    let tears = are_tears e f g port least None before here after list is is' is'' said in
+    record { each = tears.each; every = λ bytes frame torn. tears.every bytes frame torn refl; once = tears.once }
+
+-- those of one use
+use_is : (one other : Use) → same_use one other ≡ true → one ≡ other
+use_is Unread Unread h = refl
+use_is NoTable NoTable h = refl
+use_is (Entry number) (Entry other) h = ap (λ (n : ℕ). Entry n) (eqb-true number other h)
+use_is NoEntry NoEntry h = refl
+use_is Unread NoTable h = absurd (true≢false (sym h))
+use_is Unread (Entry number) h = absurd (true≢false (sym h))
+use_is Unread NoEntry h = absurd (true≢false (sym h))
+use_is NoTable Unread h = absurd (true≢false (sym h))
+use_is NoTable (Entry number) h = absurd (true≢false (sym h))
+use_is NoTable NoEntry h = absurd (true≢false (sym h))
+use_is (Entry number) Unread h = absurd (true≢false (sym h))
+use_is (Entry number) NoTable h = absurd (true≢false (sym h))
+use_is (Entry number) NoEntry h = absurd (true≢false (sym h))
+use_is NoEntry Unread h = absurd (true≢false (sym h))
+use_is NoEntry NoTable h = absurd (true≢false (sym h))
+use_is NoEntry (Entry number) h = absurd (true≢false (sym h))
+
+use_self : (used : Use) → same_use used used ≡ true
+use_self Unread = refl
+use_self NoTable = refl
+use_self (Entry number) = eq-eqb number number refl
+use_self NoEntry = refl
+
+pub are_torn_by : (e f g : Entities) (port least : ℕ) (used : Use) (before here after : Side) (list : List ((FrameClass × FrameClass × FrameClass) × List ℕ))
+    → IsSide e port before → IsSide f port here → IsSide g port after
+    → AreSaid (before ∷ here ∷ after ∷ []) (Some used) least (tell of_three list) → AreTornBy e f g port least used list
+are_torn_by e f g port least used before here after list is is' is'' said =
+    let tears = are_tears e f g port least (Some used) before here after list is is' is'' said in
+    record {
+      each = tears.each;
+      uses = λ k d h. use_is (get_or list k d).0.1.used used (tears.looked_for k d h);
+      every = λ bytes frame torn same.
+          tears.every bytes frame torn (ap (λ (u : Use). same_use u used) same ∙ use_self used);
+      once = tears.once;
+    }
+
 -- ---- what the calls ask
 
 pub one_all : {X : Type 0} (P : X → Type 0) (x : X) → P x → All P (x ∷ [])
@@ -249,12 +312,12 @@ three_counts (Some b) None last told is = absurd (none_some told is)
 three_counts (Some b) (Some c) None told is = absurd (none_some told is)
 three_counts (Some b) (Some c) (Some d) told is = counts 3 (Three b c d) told refl is
 
-pub all_one : (side : Side) (least : ℕ) (samples : List Sample) → AreTold (side ∷ []) least samples → All (λ s. count_told s.told ≡ 1) samples
+pub all_one : (side : Side) (least : ℕ) (samples : List Sample) → AreTold (side ∷ []) None least samples → All (λ s. count_told s.told ≡ 1) samples
 all_one side least samples are k d h =
     let sample = get_or samples k d in
     one_counts (class_at side sample.values) sample.told (are.samples_tell k d h).told
 
-pub all_two : (one other : Side) (least : ℕ) (samples : List Sample) → AreTold (one ∷ other ∷ []) least samples
+pub all_two : (one other : Side) (least : ℕ) (samples : List Sample) → AreTold (one ∷ other ∷ []) None least samples
     → All (λ s. count_told s.told ≡ 2) samples
 all_two one other least samples are k d h =
     let sample = get_or samples k d in
@@ -262,9 +325,9 @@ all_two one other least samples are k d h =
     two_counts (class_at one sample.values) (class_at other sample.values) sample.told
     (shown (seen_apart true one other sample.values) classes sample.told (are.samples_tell k d h).told).1
 
-pub all_three : (before here after : Side) (least : ℕ) (samples : List Sample) → AreTold (before ∷ here ∷ after ∷ []) least samples
+pub all_three : (before here after : Side) (wanted : Option Use) (least : ℕ) (samples : List Sample) → AreTold (before ∷ here ∷ after ∷ []) wanted least samples
     → All (λ s. count_told s.told ≡ 3) samples
-all_three before here after least samples are k d h =
+all_three before here after wanted least samples are k d h =
     let sample = get_or samples k d in
     let classes = three_of (class_at before sample.values) (class_at here sample.values) (class_at after sample.values) in
     three_counts (class_at before sample.values) (class_at here sample.values) (class_at after sample.values) sample.told

@@ -191,7 +191,7 @@ stays_by_apart reasons one other field others row row' c pair early none none' n
 -- ---- rows that are settled
 
 -- the first row that passes before a field and asks nothing from it on is the first that passes
-passes_parts : (place : ℕ) (row : Row) (values : Values)
+pub passes_parts : (place : ℕ) (row : Row) (values : Values)
     → passes fields row values ≡ (passes (take place fields) row values && passes (drop place fields) row values)
 passes_parts place row values =
     ap (λ (all : List Field). passes all row values) (sym (take-append-drop place fields))

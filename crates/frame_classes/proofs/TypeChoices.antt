@@ -229,14 +229,16 @@ type_choices sides count rows least field values places choices case three count
         known w at (i, c, within, is, inl same) = inl (subst (Contains choices) (same ∙ sym at) (i, within, is))
         known w at (i, c, within, is, inr (apart, alike)) =
             inr (inr (
-              inl (record { early = early; type = inl (by_apart apart) }),
+              inl (record { early = early; type = by_apart apart }),
               by_cover w (same_stands rows field values others w places case.left near eleven (field_within field) (sym at) (λ first. absurd (omega arith)))
                   (i, c, within, is, inr (apart, alike)),
             ))
           where
-            by_apart : begins_tag sides w ≡ false ⊎ count ≤ 1 → begins_tag sides (value_at field others) ≡ false ⊎ length sides ≤ 1
-            by_apart (inl none) = inl (subst (λ (n : ℕ). begins_tag sides n ≡ false) (sym at) none)
-            by_apart (inr one) = inr (omega (arith, counted))
+            by_apart : (begins_tag sides w ≡ false ⊎ count ≤ 1) ⊎ (place_of field ≡ 3)
+                → (begins_tag sides (value_at field others) ≡ false ⊎ length sides ≤ 1) ⊎ ((place_of field ≡ 0) ⊎ (place_of field ≡ 3))
+            by_apart (inl (inl none)) = inl (inl (subst (λ (n : ℕ). begins_tag sides n ≡ false) (sym at) none))
+            by_apart (inl (inr one)) = inl (inr (omega (arith, counted)))
+            by_apart (inr third) = inr (inr third)
 
         same : (w : ℕ) → (value_at field others == w) ≡ true → Covers sides count rows places values field choices w
             → IsCovered sides places (rows_at rows places) field values others choices

@@ -253,4 +253,4 @@ known_types = 0x8100 ∷ 0x0800 ∷ 0x88a8 ∷ 0x86dd ∷ 0x0806 ∷ 0x8863 ∷ 
 -- one of some values is another, or like it: this where it begins no tag, or there is one side
 abbrev pub Covers : List Side → ℕ → List Row → List ℕ → Values → Field → List ℕ → ℕ → Type 0
 Covers sides count rows places values field choices value =
-    HasOne (λ c. (c ≡ value) ⊎ ((begins_tag sides value ≡ false ⊎ count ≤ 1) × (are_alike rows places values field c value ≡ true))) choices
+    HasOne (λ c. (c ≡ value) ⊎ (((begins_tag sides value ≡ false ⊎ count ≤ 1) ⊎ (place_of field ≡ 3)) × (are_alike rows places values field c value ≡ true))) choices

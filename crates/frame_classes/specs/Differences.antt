@@ -4,6 +4,7 @@ use Rattle.std.specs.Prelude.{◌≡◌, ℕ, ◌+◌, ◌*◌, ◌^◌, List, A
 use Rattle.std.specs.List.Sorted.{IsStrictlyIncreasing}
 use Rattle.mib_state.specs.Entities.{Entities}
 use Rattle.frame_rows.specs.declared.class.FrameClass.{FrameClass}
+use Rattle.frame_rows.specs.declared.class.Use.{Use}
 use Rattle.frame_rows.specs.Class.{class_number, class_of}
 use Rattle.frame_rows.specs.Sight.{IsLike, sight_of}
 use Rattle.frame_classes.specs.Classes.{IsFrame}
@@ -67,4 +68,12 @@ pub record AreTorn (e f g : Entities) (port least : ℕ) (tears : List ((FrameCl
   pub every : (bytes : List ℕ) → IsFrame least bytes → IsTorn e f g port bytes
       → Contains (triples_in tears) (class_of e port bytes, class_of f port bytes, class_of g port bytes)
   -- once, and in order
+  pub once : IsStrictlyIncreasing (map triple_number (triples_in tears))
+
+-- these are those of its tears in which it uses this for the frame
+pub record AreTornBy (e f g : Entities) (port least : ℕ) (used : Use) (tears : List ((FrameClass × FrameClass × FrameClass) × List ℕ)) : Type 0 where
+  pub each : All (IsTear e f g port least) tears
+  pub uses : All (λ tear. tear.0.1.used ≡ used) tears
+  pub every : (bytes : List ℕ) → IsFrame least bytes → IsTorn e f g port bytes → (class_of f port bytes).used ≡ used
+      → Contains (triples_in tears) (class_of e port bytes, class_of f port bytes, class_of g port bytes)
   pub once : IsStrictlyIncreasing (map triple_number (triples_in tears))

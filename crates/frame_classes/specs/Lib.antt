@@ -6,6 +6,7 @@ pub mod Listed
 pub mod Left
 pub mod Beside
 pub mod Settled
+pub mod Silent
 pub mod Found
 pub mod Choices
 pub mod Splitting

@@ -1,7 +1,8 @@
 -- Frames told apart, field by field: which values stand for which others.
-use Rattle.std.specs.Prelude.{◌≡◌, ◌≢◌, ◌<◌, ◌≤◌, ◌⊎◌, ℕ, Bool, true, false, IsTrue, List, All, Any, Contains, Some, length, min, slice_index_or, take}
+use Rattle.std.specs.Prelude.{◌≡◌, ◌≢◌, ◌<◌, ◌≤◌, ◌⊎◌, ℕ, Bool, true, false, IsTrue, List, All, Any, Contains, Option, Some, length, min, slice_index_or, take}
 use Rattle.std.specs.List.{list_any}
 use Rattle.tag_view.specs.Tag.{is_tag_type}
+use Rattle.frame_rows.specs.declared.class.Use.{Use}
 use Rattle.frame_rows.specs.declared.field.Field.{Field}
 use Rattle.frame_rows.specs.declared.field.Field.TheVariants.{Length}
 use Rattle.frame_rows.specs.declared.field.Values.{Values}
@@ -14,7 +15,7 @@ use Rattle.frame_rows.specs.Words.{limit_of}
 use Rattle.frame_classes.specs.Found.{Ascend, told_of}
 use Rattle.frame_rows.specs.Row.{passes, row_admits, row_marks, row_reads}
 use Rattle.frame_classes.specs.declared.told.Told.{Told}
-use Rattle.frame_classes.specs.Told.{rows_of_all, told_by, told_fits}
+use Rattle.frame_classes.specs.Told.{is_wanted, rows_of_all, told_by, told_fits}
 use Rattle.frame_classes.specs.Left.{rows_at}
 use Rattle.frame_classes.specs.Settled.{is_settled}
 
@@ -73,16 +74,22 @@ pub record AreMore (sides : List Side) (least : ℕ) (before after : List Sample
 abbrev pub Agree : ℕ → Values → Values → Type 0
 Agree level values others = (length others.values ≡ 11) × (take level others.values ≡ take level values.values)
 
--- what is told of every frame with these values in the fields before a level is there
-pub record AreAllFound (sides : List Side) (least level : ℕ) (values : Values) (samples : List Sample) : Type 0 where
+-- what is told of every frame with these values in the fields before a level, and looked for, is there
+pub record AreAllFound (sides : List Side) (wanted : Option Use) (least level : ℕ) (values : Values) (samples : List Sample) : Type 0 where
   pub found : (others : Values) (told : Told) → IsOf least fields others → Agree level values others
-      → told_by sides others ≡ Some told → Contains (told_of samples) told
+      → told_by sides others ≡ Some told → is_wanted wanted told ≡ true → Contains (told_of samples) told
 
--- what some sides tell of all frames: each sample tells what it says, everything that is told is there, and it is in order
-pub record AreTold (sides : List Side) (least : ℕ) (samples : List Sample) : Type 0 where
+-- some samples tell what is looked for
+abbrev pub AreWanted : Option Use → List Sample → Type 0
+AreWanted wanted samples = All (λ sample. is_wanted wanted sample.told ≡ true) samples
+
+-- what some sides tell of all frames, and is looked for: each sample tells what it says, everything that is told is there, and it is in
+-- order
+pub record AreTold (sides : List Side) (wanted : Option Use) (least : ℕ) (samples : List Sample) : Type 0 where
   pub samples_tell : All (IsSample sides least) samples
+  pub wanted_all : AreWanted wanted samples
   pub every : (others : Values) (told : Told) → IsOf least fields others → length others.values ≡ 11 → told_by sides others ≡ Some told
-      → Contains (told_of samples) told
+      → is_wanted wanted told ≡ true → Contains (told_of samples) told
   pub ascend : Ascend samples
 
 -- ---- examples

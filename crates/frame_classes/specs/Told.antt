@@ -2,6 +2,8 @@
 use Rattle.std.specs.Prelude.{ℕ, ◌+◌, ◌*◌, ◌^◌, Bool, true, false, ◌&&◌, List, [], ◌∷◌, Option, Some, None, if◌then◌else◌, ◌==◌}
 use Rattle.std.specs.List.{flat_map}
 use Rattle.frame_rows.specs.declared.class.FrameClass.{FrameClass}
+use Rattle.frame_rows.specs.declared.class.Use.{Use}
+use Rattle.frame_rows.specs.declared.class.Use.TheVariants.{Unread, NoTable, Entry, NoEntry}
 use Rattle.frame_rows.specs.declared.field.Values.{Values}
 use Rattle.frame_rows.specs.declared.row.Row.{Row}
 use Rattle.frame_rows.specs.declared.rows.Rows.{Rows}
@@ -75,6 +77,22 @@ is_shown (before ∷ here ∷ after ∷ rest) values = seen_apart false here bef
 
 abbrev pub told_by : List Side → Values → Option Told
 told_by sides values = if is_shown sides values then classes_at sides values else None
+
+-- ---- what is looked for
+
+abbrev pub same_use : Use → Use → Bool
+same_use Unread Unread = true
+same_use NoTable NoTable = true
+same_use (Entry number) (Entry other) = number == other
+same_use NoEntry NoEntry = true
+same_use _ _ = false
+
+-- all that is told; or of three configurations that of frames for which the one between uses this
+abbrev pub is_wanted : Option Use → Told → Bool
+is_wanted None told = true
+is_wanted (Some used) (One class) = true
+is_wanted (Some used) (Two before after) = true
+is_wanted (Some used) (Three before here after) = same_use here.used used
 
 -- ---- sides
 

@@ -232,13 +232,20 @@ impl<'r> Case<'r> {
         ensures kept { (c : ℕ) → Contains choices.old.items c → Contains choices.new.items c }
         ensures fit { All (λ c. c < 2 ^ 16) choices.old.items → All (λ c. c < 2 ^ 16) choices.new.items }
         ensures stands { All (λ side. Any (λ c. (c ≡ side.settings.input_tpid)
-            ⊎ ((begins_tag (map side_by self.now.sides.now.sides.now) side.settings.input_tpid ≡ false ⊎ (length self.now.sides.now.sides.now ≤ 1))
-            × (are_alike self.now.rows.now self.now.left.now.items self.now.values.now field c side.settings.input_tpid ≡ true)))
+            ⊎ (((begins_tag (map side_by self.now.sides.now.sides.now) side.settings.input_tpid ≡ false ⊎ (length self.now.sides.now.sides.now ≤ 1))
+            ⊎ (place_of field ≡ 3)) × (are_alike self.now.rows.now self.now.left.now.items self.now.values.now field c side.settings.input_tpid ≡ true)))
             choices.new.items) (map side_by self.now.sides.now.sides.now) }
     {
         for side in self.sides.sides {
             self.put_type(choices, field, side.settings.input_tpid);
         }
+    }
+
+    /// Whether a tag that begins with a field's type may leave several sides with other bytes: behind two tags none does.
+    fn tells_tags(&self, field: Field) -> bool
+        ensures { result ≡ false → (length self.now.sides.now.sides.now ≤ 1) ⊎ (place_of field ≡ 3) }
+    {
+        self.sides.count() > 1 && field.place() != Field::ThirdType.place()
     }
 
     /// Puts a type behind the others: of several sides each that begins a tag, and any other if it is like none of them.
@@ -248,12 +255,12 @@ impl<'r> Case<'r> {
         ensures only { (c : ℕ) → Contains choices.new.items c
             → Contains choices.old.items c ⊎ (c ≡ ethertype) }
         ensures stands { Any (λ c. (c ≡ ethertype)
-            ⊎ ((begins_tag (map side_by self.now.sides.now.sides.now) ethertype ≡ false ⊎ (length self.now.sides.now.sides.now ≤ 1))
-            × (are_alike self.now.rows.now self.now.left.now.items self.now.values.now field c ethertype ≡ true)))
+            ⊎ (((begins_tag (map side_by self.now.sides.now.sides.now) ethertype ≡ false ⊎ (length self.now.sides.now.sides.now ≤ 1))
+            ⊎ (place_of field ≡ 3)) × (are_alike self.now.rows.now self.now.left.now.items self.now.values.now field c ethertype ≡ true)))
             choices.new.items }
         ensures len { array_vec_len choices.new ≤ array_vec_len choices.old + 1 }
     {
-        if self.sides.count() > 1 && self.begins_tag(ethertype) {
+        if self.tells_tags(field) && self.begins_tag(ethertype) {
             return put_once(choices, ethertype);
         }
         self.put(choices, field, ethertype);

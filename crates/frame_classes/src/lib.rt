@@ -26,6 +26,7 @@
 mod choices;
 mod example;
 mod found;
+mod known;
 mod listing;
 mod settled;
 mod sides;
@@ -34,4 +35,4 @@ mod told;
 
 pub use example::{ClassExample, Difference, Tear};
 pub use frame_rows::{Ending, FrameClass, Use};
-pub use listing::{classes, differences, torn};
+pub use listing::{classes, differences, torn, torn_by};

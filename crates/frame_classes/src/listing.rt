@@ -3,7 +3,7 @@
 ghost use Rattle.std.specs.Prelude.{◌≡◌, ◌<◌, ◌≤◌, All, IfOk, length, map};
 ghost use Rattle.frame_classes.specs.Beside.{SideFits, SideMarks};
 ghost use Rattle.frame_classes.specs.Classes.{AreClasses};
-ghost use Rattle.frame_classes.specs.Differences.{AreDifferences, AreTorn};
+ghost use Rattle.frame_classes.specs.Differences.{AreDifferences, AreTorn, AreTornBy};
 ghost use Rattle.frame_classes.specs.Listed.{count_told, of_one, of_three, of_two, tell};
 ghost use Rattle.frame_classes.specs.Splitting.{AreExamplesOf, AreTold};
 ghost use Rattle.frame_classes.specs.Told.{side_by};
@@ -13,7 +13,7 @@ use crate::found::{Found, Sample};
 use crate::sides::{Sides, rows_of};
 use crate::splitting::Splitting;
 use crate::told::Told;
-use frame_rows::Rows;
+use frame_rows::{Rows, Use};
 use mib_state::Mib;
 use std::alloc::{AllocError, Global};
 
@@ -30,7 +30,7 @@ pub fn classes(
 {
     let rows = Rows::of(alloc, mib, port)?;
     let sides = [rows];
-    let found = found_of(alloc, &sides, least)?;
+    let found = found_of(alloc, &sides, least, None)?;
     examples_of(alloc, port, &found, least)
 }
 
@@ -51,7 +51,7 @@ pub fn differences(
     let rows = Rows::of(alloc, one, port)?;
     let next = Rows::of(alloc, other, port)?;
     let sides = [rows, next];
-    let found = found_of(alloc, &sides, least)?;
+    let found = found_of(alloc, &sides, least, None)?;
     differences_of(alloc, port, &found, least)
 }
 
@@ -75,18 +75,46 @@ pub fn torn(
     let between = Rows::of(alloc, here, port)?;
     let last = Rows::of(alloc, after, port)?;
     let sides = [first, between, last];
-    let found = found_of(alloc, &sides, least)?;
+    let found = found_of(alloc, &sides, least, None)?;
     tears_of(alloc, port, &found, least)
 }
 
-/// What is told of all frames by some configurations of a port.
-fn found_of(alloc: Global, sides: &[Rows], least: usize) -> Result<Found, AllocError>
+/// Those of what [`torn`] lists in which the configuration between uses an entry, or nothing, for the frame: exactly these, once and in
+/// order. So where one entry changes of a long order of messages, its frames alone are looked at. Err only where memory is refused.
+pub fn torn_by(
+    alloc: Global,
+    before: &Mib,
+    here: &Mib,
+    after: &Mib,
+    port: u16,
+    least: usize,
+    used: Use,
+) -> Result<Vec<Tear>, AllocError>
+    ensures { IfOk result (λ list. AreTornBy before.now.entities here.now.entities after.now.entities port least used
+        (map (λ (t : _). ((t.before, t.here, t.after), t.frame.items)) list.items)) }
+{
+    let first = Rows::of(alloc, before, port)?;
+    let between = Rows::of(alloc, here, port)?;
+    let last = Rows::of(alloc, after, port)?;
+    let sides = [first, between, last];
+    let found = found_of(alloc, &sides, least, Some(used))?;
+    tears_of(alloc, port, &found, least)
+}
+
+/// What is told of all frames by some configurations of a port; of three, if a use is given, of those alone that the one between
+/// uses so.
+fn found_of(
+    alloc: Global,
+    sides: &[Rows],
+    least: usize,
+    wanted: Option<Use>,
+) -> Result<Found, AllocError>
     requires some { 0 < length sides.now }
     requires three { length sides.now ≤ 3 }
     requires fit { All SideFits (map side_by sides.now) }
     requires marked { All SideMarks (map side_by sides.now) }
     requires few { All (λ (side : _). length side.rows.items ≤ 134) sides.now }
-    ensures { IfOk result (λ found. AreTold (map side_by sides.now) least found.samples.items) }
+    ensures { IfOk result (λ found. AreTold (map side_by sides.now) wanted least found.samples.items) }
 {
     let rows = rows_of(alloc, sides)?;
     let beside = Sides::of(sides, &rows);
@@ -94,6 +122,7 @@ fn found_of(alloc: Global, sides: &[Rows], least: usize) -> Result<Found, AllocE
     let splitting = Splitting {
         sides: &beside,
         least,
+        wanted,
     };
     splitting.find_all(&mut found)?;
     Ok(found)

@@ -1,9 +1,10 @@
-//! Where one value of a priority, or of a drop eligible indicator, stands for all.
-ghost use Rattle.std.specs.Prelude.{◌≡◌};
+//! Where one value of a priority, or of a drop eligible indicator, stands for all; and where rows see all frames alike.
+ghost use Rattle.std.specs.Prelude.{◌≡◌, true};
+ghost use Rattle.frame_classes.specs.Silent.{AreSeenAlike};
 ghost use Rattle.frame_classes.specs.Settled.{are_added_alike, are_rows_settled, asks_nothing, copy_alike, is_any, is_dropped, is_eligible_alike, is_part_alike, is_priority_alike};
 
 use frame_rows::{Ask, Ends, Field, Row};
-use vlan_rule::{AddedTag, EligibleSource, PrioritySource};
+use vlan_rule::{AddedTag, EligibleSource, PrioritySource, Retag};
 
 /// Whether two rows ask nothing of a priority, or of a drop eligible indicator, and of the fields behind it, and give it to tags
 /// alike, or leave no frame: whatever its value is, they see frames otherwise for all, or for none.
@@ -14,8 +15,41 @@ pub(crate) fn are_rows_settled(field: Field, one: &Row, other: &Row) -> bool
         && ((is_dropped(&one.ends) || is_dropped(&other.ends)) || copy_alike(field, one, other))
 }
 
+/// Whether two rows ask nothing of a field and those behind it, and frames end and leave by both alike, whatever the table uses.
+pub(crate) fn are_seen_alike(field: Field, one: &Row, other: &Row) -> bool
+    ensures { result ≡ true → AreSeenAlike field one.now other.now }
+{
+    one.tags == other.tags
+        && (one.ends == other.ends
+            && (are_retagged_alike(&one.retag, &other.retag)
+                && (asks_nothing(one, field) && asks_nothing(other, field))))
+}
+
+/// Whether tags change alike.
+fn are_retagged_alike(one: &Retag, other: &Retag) -> bool
+    ensures { result ≡ true → one.now ≡ other.now }
+{
+    one.remove == other.remove
+        && (are_added_same(&one.outer, &other.outer) && are_added_same(&one.inner, &other.inner))
+}
+
+/// Whether the same tag is added, or none.
+fn are_added_same(one: &Option<AddedTag>, other: &Option<AddedTag>) -> bool
+    ensures { result ≡ true → one.now ≡ other.now }
+{
+    match (one, other) {
+        (None, None) => true,
+        (Some(one), Some(other)) => {
+            one.priority == other.priority
+                && (one.vid == other.vid
+                    && (one.tpid == other.tpid && one.eligible == other.eligible))
+        }
+        _ => false,
+    }
+}
+
 /// Whether a row asks nothing of a field and those behind it.
-fn asks_nothing(row: &Row, field: Field) -> bool
+pub(crate) fn asks_nothing(row: &Row, field: Field) -> bool
     ensures { result ≡ asks_nothing row.now field }
 {
     Field::ALL.iter().all(|later| later.place() < field.place() || is_any(&row.asks[later.place()]))

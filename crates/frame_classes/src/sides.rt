@@ -1,13 +1,15 @@
 //! Configurations side by side.
-ghost use Rattle.std.specs.Prelude.{◌≡◌, ◌<◌, ◌≤◌, ◌+◌, ◌++◌, All, IfOk, IfSome, IsTrue, OnOk, Some, length, map, slice_get};
+ghost use Rattle.std.specs.Prelude.{◌≡◌, ◌<◌, ◌≤◌, ◌+◌, ◌++◌, All, IfOk, IfSome, IsTrue, OnOk, Some, length, map, slice_get, true};
 ghost use Rattle.std.specs.Option.{option_map_or, option_copied};
 ghost use Rattle.frame_rows.specs.Fits.{row_fits};
 ghost use Rattle.frame_rows.specs.Sight.{rows_apart, same_tag, same_tags, tags_apart};
+ghost use Rattle.frame_classes.specs.Silent.{AreFirstAlike};
 ghost use Rattle.frame_classes.specs.Told.{rows_of_all, side_by};
 
 use crate::choices::Left;
-use crate::told::Told;
-use frame_rows::{Ending, FrameClass, Row, Rows, Values};
+use crate::settled::are_seen_alike;
+use crate::told::{Told, is_same_use};
+use frame_rows::{Ending, Field, FrameClass, Row, Rows, Use, Values};
 use std::alloc::{AllocError, Global};
 use tag_view::Tag;
 
@@ -61,7 +63,10 @@ impl<'r> Sides<'r> {
     ghost use Rattle.frame_rows.specs.Sight.{seen_apart};
     ghost use Rattle.frame_classes.specs.Beside.{AreBeside, SideFits, SideMarks};
     ghost use Rattle.frame_classes.specs.Left.{AreLeftOf, first_left, is_of};
-    ghost use Rattle.frame_classes.specs.Told.{class_at, classes_at, is_shown};
+    ghost use Rattle.frame_classes.specs.Silent.{IsSilent, is_used_at};
+    ghost use Rattle.std.specs.Prelude.{false, filter};
+    ghost use Rattle.frame_classes.specs.Choices.{test_at};
+    ghost use Rattle.frame_classes.specs.Told.{class_at, classes_at, is_shown, same_use};
 
     /// Some sides with the rows of all.
     pub(crate) fn of(sides: &'r [Rows], rows: &'r [Row]) -> Sides<'r>
@@ -106,6 +111,39 @@ impl<'r> Sides<'r> {
         }
     }
 
+    /// Of the rows that are left those of the second side of this use.
+    pub(crate) fn used_of(&self, left: &Left, used: Use) -> Left
+        requires beside { AreBeside self.now.sides.now self.now.rows.now self.now.ends }
+        requires few { length left.now.items ≤ 402 }
+        ensures { result.items ≡ filter (is_used_at (map side_by self.now.sides.now) used) left.now.items }
+    {
+        let mut places = Left::new();
+        for place in left {
+            if self.is_used_at(*place, used) {
+                places.push(*place);
+            }
+        }
+        places
+    }
+
+    /// Whether the row at a place is one of the second side, and of this use.
+    fn is_used_at(&self, place: u16, used: Use) -> bool
+        requires beside { AreBeside self.now.sides.now self.now.rows.now self.now.ends }
+        ensures { result ≡ is_used_at (map side_by self.now.sides.now) used place }
+    {
+        self.is_of(place, 1) && self.is_used(place, used)
+    }
+
+    /// Whether the row at a place, if one stands there, is of this use.
+    fn is_used(&self, place: u16, used: Use) -> bool
+        ensures { result ≡ test_at (λ row. same_use row.used used) false self.now.rows.now place }
+    {
+        match self.rows.get(usize::from(place)) {
+            Some(row) => is_same_use(row.used, used),
+            None => false,
+        }
+    }
+
     /// The first row of a side that is left.
     pub(crate) fn first(&self, left: &Left, side: usize) -> Option<&'r Row>
         requires beside { AreBeside self.now.sides.now self.now.rows.now self.now.ends }
@@ -120,6 +158,36 @@ impl<'r> Sides<'r> {
             }
         }
         None
+    }
+
+    /// Whether nothing is told of frames for which these rows are left, whatever their values of a field and those behind it are.
+    pub(crate) fn is_silent(&self, left: &Left, field: Field) -> bool
+        requires beside { AreBeside self.now.sides.now self.now.rows.now self.now.ends }
+        ensures { result ≡ true → IsSilent (map side_by self.now.sides.now) left.now.items field }
+    {
+        match self.sides.len() {
+            0 | 1 => false,
+            2 => self.are_alike(left, 0, 1, field),
+            _ => self.are_alike(left, 1, 0, field) || self.are_alike(left, 1, 2, field),
+        }
+    }
+
+    /// Whether two sides see frames alike for which these rows are left, by the first rows of both.
+    fn are_alike(&self, left: &Left, one: usize, other: usize, field: Field) -> bool
+        requires beside { AreBeside self.now.sides.now self.now.rows.now self.now.ends }
+        requires one { one < 3 }
+        requires other { other < 3 }
+        ensures { result ≡ true → IfSome (slice_get self.now.sides.now one) (λ (s : _).
+            IfSome (slice_get self.now.sides.now other) (λ (t : _).
+            AreFirstAlike field (side_by s) (side_by t) (first_left (map side_by self.now.sides.now) left.now.items one)
+            (first_left (map side_by self.now.sides.now) left.now.items other))) }
+    {
+        let row = self.first(left, one);
+        let beside = self.first(left, other);
+        match (self.sides.get(one), self.sides.get(other)) {
+            (Some(side), Some(next)) => are_first_alike(field, side, row, next, beside),
+            _ => false,
+        }
     }
 
     /// The class of frames with these values by a side, where these rows are left.
@@ -189,6 +257,26 @@ impl<'r> Sides<'r> {
             }
             _ => false,
         }
+    }
+}
+
+/// Whether two sides see frames alike by their first rows, if both have one.
+fn are_first_alike(
+    field: Field,
+    side: &Rows,
+    row: Option<&Row>,
+    next: &Rows,
+    beside: Option<&Row>,
+) -> bool
+    ensures { result ≡ true → AreFirstAlike field (side_by side.now) (side_by next.now)
+        (option_copied row.entry) (option_copied beside.entry) }
+{
+    match (row, beside) {
+        (Some(row), Some(beside)) => {
+            are_seen_alike(field, row, beside)
+                && (side.settings == next.settings && side.endings == next.endings)
+        }
+        _ => false,
     }
 }
 

@@ -4,8 +4,8 @@ ghost use Rattle.frame_rows.specs.declared.field.Values.{Values};
 use crate::choices::{Case, Left};
 use crate::found::Found;
 use crate::sides::Sides;
-use crate::told::Told;
-use frame_rows::{Field, Values};
+use crate::told::{Told, is_wanted};
+use frame_rows::{Field, Use, Values};
 use std::alloc::AllocError;
 
 /// The frames of at least so many bytes that come in at a port, told apart by its rows.
@@ -13,18 +13,23 @@ use std::alloc::AllocError;
 pub(crate) struct Splitting<'r> {
     pub(crate) sides: &'r Sides<'r>,
     pub(crate) least: usize,
+    /// Of three, the use by the one between of the frames that are looked for, if not all are.
+    pub(crate) wanted: Option<Use>,
 }
 
 impl<'r> Splitting<'r> {
-    ghost use Rattle.std.specs.Prelude.{◌≡◌, ◌≤◌, [], false, All, OnOk, Some, filter, length, map, take};
-    ghost use Rattle.frame_rows.specs.Field.{fields};
+    ghost use Rattle.std.specs.Prelude.{◌≡◌, ◌≤◌, [], false, true, All, Contains, IfSome, OnOk, Some, filter, length, map, take};
+    ghost use Rattle.frame_rows.specs.Field.{fields, place_of};
     ghost use Rattle.frame_rows.specs.Row.{row_admits};
     ghost use Rattle.frame_classes.specs.Choices.{test_at};
     ghost use Rattle.frame_classes.specs.Beside.{AreBeside};
     ghost use Rattle.frame_classes.specs.Left.{AreLeftOf};
-    ghost use Rattle.frame_classes.specs.Told.{classes_at, side_by};
-    ghost use Rattle.frame_classes.specs.Splitting.{AreAllFound, AreMore, IsOf, IsSample};
-    ghost use Rattle.frame_classes.specs.Found.{Ascend};
+    ghost use Rattle.frame_classes.specs.Silent.{AreSought};
+    ghost use Rattle.std.specs.List.{list_any};
+    ghost use Rattle.std.specs.Option.{option_map_or};
+    ghost use Rattle.frame_classes.specs.Told.{classes_at, side_by, told_by};
+    ghost use Rattle.frame_classes.specs.Splitting.{Agree, AreAllFound, AreMore, AreWanted, IsOf, IsSample};
+    ghost use Rattle.frame_classes.specs.Found.{Ascend, told_of};
 
     /// Finds what is told of all frames.
     pub(crate) fn find_all(&self, found: &mut Found) -> Result<(), AllocError>
@@ -33,7 +38,9 @@ impl<'r> Splitting<'r> {
         requires none { found.old.samples.items ≡ [] }
         ensures more { OnOk result (AreMore (map side_by self.now.sides.now.sides.now) self.now.least
             found.old.samples.items found.new.samples.items) }
-        ensures every { OnOk result ((values : Values) → AreAllFound (map side_by self.now.sides.now.sides.now)
+        ensures wanted { OnOk result (AreWanted self.now.wanted found.old.samples.items
+            → AreWanted self.now.wanted found.new.samples.items) }
+        ensures every { OnOk result ((values : Values) → AreAllFound (map side_by self.now.sides.now.sides.now) self.now.wanted
             self.now.least 0 values found.new.samples.items) }
     {
         let mut left = Left::new();
@@ -62,12 +69,21 @@ impl<'r> Splitting<'r> {
         requires ascend { Ascend found.old.samples.items }
         ensures more { OnOk result (AreMore (map side_by self.now.sides.now.sides.now) self.now.least
             found.old.samples.items found.new.samples.items) }
-        ensures every { OnOk result (AreAllFound (map side_by self.now.sides.now.sides.now) self.now.least level
+        ensures wanted { OnOk result (AreWanted self.now.wanted found.old.samples.items
+            → AreWanted self.now.wanted found.new.samples.items) }
+        ensures every { OnOk result (AreAllFound (map side_by self.now.sides.now.sides.now) self.now.wanted self.now.least level
             values found.new.samples.items) }
     {
         let Some(field) = Field::ALL.get(level) else {
             return self.keep(found, left, values);
         };
+        if self.sides.is_silent(left, *field) {
+            return Ok(());
+        }
+        if self.is_known(found, left, &values, *field) {
+            return Ok(());
+        }
+        let sought = self.sought(left);
         let case = Case {
             rows: self.sides.rows,
             left,
@@ -75,10 +91,65 @@ impl<'r> Splitting<'r> {
             sides: self.sides,
         };
         for value in &case.choices(*field, self.least) {
-            let narrower = self.narrowed(left, *field, *value);
-            self.find(found, &narrower, values.with(*field, *value), level + 1)?;
+            if self.leads(&sought, *field, *value) {
+                let narrower = self.narrowed(left, *field, *value);
+                self.find(found, &narrower, values.with(*field, *value), level + 1)?;
+            }
         }
         Ok(())
+    }
+
+    /// Whether what is told of frames with these values before a field, where these rows are left, is the same whatever their other
+    /// values are, and stands there.
+    fn is_known(&self, found: &Found, left: &Left, values: &Values, field: Field) -> bool
+        requires beside { AreBeside self.now.sides.now.sides.now self.now.sides.now.rows.now
+            self.now.sides.now.ends }
+        requires left { AreLeftOf (map side_by self.now.sides.now.sides.now) (take (place_of field) fields) values.now left.now.items }
+        requires samples { All (IsSample (map side_by self.now.sides.now.sides.now) self.now.least) found.now.samples.items }
+        requires ascend { Ascend found.now.samples.items }
+        ensures { result ≡ true → (others : Values) (told : _) → Agree (place_of field) values.now others
+            → told_by (map side_by self.now.sides.now.sides.now) others ≡ Some told
+            → Contains (told_of found.now.samples.items) told }
+    {
+        match self.sides.known(left, values, field) {
+            Some(told) => found.has(&told),
+            None => false,
+        }
+    }
+
+    /// Of the rows that are left those of the one between of the use that is looked for; None where all frames are looked for.
+    fn sought(&self, left: &Left) -> Option<Left>
+        requires beside { AreBeside self.now.sides.now.sides.now self.now.sides.now.rows.now
+            self.now.sides.now.ends }
+        requires few { length left.now.items ≤ 402 }
+        ensures { IfSome result (λ (sought : _). AreSought (map side_by self.now.sides.now.sides.now) self.now.wanted left.now.items
+            sought.items) }
+    {
+        match self.wanted {
+            Some(used) if self.sides.count() > 2 => Some(self.sides.used_of(left, used)),
+            _ => None,
+        }
+    }
+
+    /// Whether frames with a value of a field may be such as are looked for: a row of them admits it.
+    fn leads(&self, sought: &Option<Left>, field: Field, value: u16) -> bool
+        ensures { result ≡ option_map_or (λ (places : _). list_any (test_at (λ row. row_admits row field value) false
+            self.now.sides.now.rows.now) places.items) sought.now true }
+    {
+        match sought {
+            None => true,
+            Some(places) => self.admits_any(places, field, value),
+        }
+    }
+
+    /// Whether a row at one of these places admits a value of a field.
+    fn admits_any(&self, places: &Left, field: Field, value: u16) -> bool
+        ensures { result ≡ list_any (test_at (λ row. row_admits row field value) false self.now.sides.now.rows.now)
+            places.now.items }
+    {
+        places
+            .iter()
+            .any(|place| self.admits_at(*place, field, value))
     }
 
     /// The rows that a value of a field leaves.
@@ -119,7 +190,9 @@ impl<'r> Splitting<'r> {
         requires ascend { Ascend found.old.samples.items }
         ensures more { OnOk result (AreMore (map side_by self.now.sides.now.sides.now) self.now.least
             found.old.samples.items found.new.samples.items) }
-        ensures every { OnOk result (AreAllFound (map side_by self.now.sides.now.sides.now) self.now.least 11
+        ensures wanted { OnOk result (AreWanted self.now.wanted found.old.samples.items
+            → AreWanted self.now.wanted found.new.samples.items) }
+        ensures every { OnOk result (AreAllFound (map side_by self.now.sides.now.sides.now) self.now.wanted self.now.least 11
             values found.new.samples.items) }
     {
         match self.sides.classes(left, &values) {
@@ -146,9 +219,14 @@ impl<'r> Splitting<'r> {
         requires ascend { Ascend found.old.samples.items }
         ensures more { OnOk result (AreMore (map side_by self.now.sides.now.sides.now) self.now.least
             found.old.samples.items found.new.samples.items) }
-        ensures every { OnOk result (AreAllFound (map side_by self.now.sides.now.sides.now) self.now.least 11
+        ensures wanted { OnOk result (AreWanted self.now.wanted found.old.samples.items
+            → AreWanted self.now.wanted found.new.samples.items) }
+        ensures every { OnOk result (AreAllFound (map side_by self.now.sides.now.sides.now) self.now.wanted self.now.least 11
             values found.new.samples.items) }
     {
+        if !is_wanted(self.wanted, &told) {
+            return Ok(());
+        }
         if found.has(&told) || !self.sides.is_shown(left, &values) {
             return Ok(());
         }

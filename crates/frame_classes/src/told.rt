@@ -1,9 +1,9 @@
 //! What is told of a frame by some configurations side by side.
 ghost use Rattle.std.specs.Prelude.{◌≡◌, ◌<◌, ◌^◌, IsTrue};
 ghost use Rattle.frame_rows.specs.Class.{class_fits};
-ghost use Rattle.frame_classes.specs.Told.{digit, told_fits, told_number, told_of_classes};
+ghost use Rattle.frame_classes.specs.Told.{digit, is_wanted, same_use, told_fits, told_number, told_of_classes};
 
-use frame_rows::FrameClass;
+use frame_rows::{FrameClass, Use};
 
 /// What is told of a frame: the class that it has by each of one, two or three configurations.
 #[derive(Clone, Copy, Debug)]
@@ -23,6 +23,29 @@ fn digit(class: &FrameClass) -> u128
     ensures fits { IsTrue (class_fits class.now) }
 {
     u128::from(class.number()) + 1
+}
+
+/// Whether a table uses the same.
+pub(crate) fn is_same_use(one: Use, other: Use) -> bool
+    ensures { result ≡ same_use one other }
+{
+    match (one, other) {
+        (Use::Unread, Use::Unread) => true,
+        (Use::NoTable, Use::NoTable) => true,
+        (Use::Entry(number), Use::Entry(another)) => number == another,
+        (Use::NoEntry, Use::NoEntry) => true,
+        _ => false,
+    }
+}
+
+/// Whether something is looked for: where a use is given, of three configurations what the one between uses it for.
+pub(crate) fn is_wanted(wanted: Option<Use>, told: &Told) -> bool
+    ensures { result ≡ is_wanted wanted told.now }
+{
+    match (wanted, told) {
+        (Some(used), Told::Three(_, here, _)) => is_same_use(here.used, used),
+        _ => true,
+    }
 }
 
 impl Told {

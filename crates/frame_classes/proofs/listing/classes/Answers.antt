@@ -1,4 +1,4 @@
-use Rattle.std.proofs.Common.{[], ◌∷◌, length}
+use Rattle.std.proofs.Common.{None, [], ◌∷◌, length}
 use Rattle.std.specs.Prelude.{map}
 use Rattle.frame_classes.specs.declared.example.ClassExample.{ClassExample}
 use Rattle.frame_classes.specs.Beside.{SideFits, SideMarks}
@@ -28,5 +28,5 @@ returns c =
     (λ list written.
     are_classes c.args.mib.now.entities c.args.port c.args.least (side_by c.in_ok-rows.rows) (map (λ (e : ClassExample). (e.class, e.frame.items)) list.items)
     (record { seen = c.in_ok-rows.ensures.seen; mean = c.in_ok-rows.ensures.mean; fit = c.in_ok-rows.ensures.fit; output = c.in_ok-rows.ensures.output })
-    (are_said (side_by c.in_ok-rows.rows ∷ []) c.args.least samples (tell of_one (map (λ (e : ClassExample). (e.class, e.frame.items)) list.items)) c.in_ok-found.ensures written))
+    (are_said (side_by c.in_ok-rows.rows ∷ []) None c.args.least samples (tell of_one (map (λ (e : ClassExample). (e.class, e.frame.items)) list.items)) c.in_ok-found.ensures written))
     c.examples_of.ensures

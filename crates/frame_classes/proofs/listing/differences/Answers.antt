@@ -1,4 +1,4 @@
-use Rattle.std.proofs.Common.{[], ◌∷◌, length}
+use Rattle.std.proofs.Common.{None, [], ◌∷◌, length}
 use Rattle.std.specs.Prelude.{map}
 use Rattle.frame_classes.specs.declared.example.Difference.{Difference}
 use Rattle.frame_classes.specs.Beside.{SideFits, SideMarks}
@@ -29,5 +29,5 @@ returns c =
     are_differences c.args.one.now.entities c.args.other.now.entities c.args.port c.args.least (side_by c.in_ok-rows.rows) (side_by c.in_ok-next.next) (map (λ (e : Difference). ((e.before, e.after), e.frame.items)) list.items)
     (record { seen = c.in_ok-rows.ensures.seen; mean = c.in_ok-rows.ensures.mean; fit = c.in_ok-rows.ensures.fit; output = c.in_ok-rows.ensures.output })
     (record { seen = c.in_ok-next.ensures.seen; mean = c.in_ok-next.ensures.mean; fit = c.in_ok-next.ensures.fit; output = c.in_ok-next.ensures.output })
-    (are_said (side_by c.in_ok-rows.rows ∷ side_by c.in_ok-next.next ∷ []) c.args.least samples (tell of_two (map (λ (e : Difference). ((e.before, e.after), e.frame.items)) list.items)) c.in_ok-found.ensures written))
+    (are_said (side_by c.in_ok-rows.rows ∷ side_by c.in_ok-next.next ∷ []) None c.args.least samples (tell of_two (map (λ (e : Difference). ((e.before, e.after), e.frame.items)) list.items)) c.in_ok-found.ensures written))
     c.differences_of.ensures

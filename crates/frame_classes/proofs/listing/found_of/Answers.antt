@@ -12,6 +12,6 @@ of-beside-requires-clause-few c =
 
 pub returns : goal.returns
 returns c =
-    subst (λ (sides : List Rows). AreTold (map side_by sides) c.args.least c.find_all.new.found.samples.items) c.of-beside.ensures.sides
-    (told_of_all (map side_by c.of-beside.result.sides.now) c.args.least c.new-found.result.samples.items c.find_all.new.found.samples.items
-    c.in_ok-find_all.ensures.more c.in_ok-find_all.ensures.every)
+    subst (λ (sides : List Rows). AreTold (map side_by sides) c.args.wanted c.args.least c.find_all.new.found.samples.items) c.of-beside.ensures.sides
+    (told_of_all (map side_by c.of-beside.result.sides.now) c.args.wanted c.args.least c.new-found.result.samples.items c.find_all.new.found.samples.items
+    c.in_ok-find_all.ensures.more c.in_ok-find_all.ensures.wanted c.new-found.ensures c.in_ok-find_all.ensures.every)

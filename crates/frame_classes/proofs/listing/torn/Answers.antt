@@ -1,4 +1,4 @@
-use Rattle.std.proofs.Common.{[], ◌∷◌, length}
+use Rattle.std.proofs.Common.{None, [], ◌∷◌, length}
 use Rattle.std.specs.Prelude.{map}
 use Rattle.frame_classes.specs.declared.example.Tear.{Tear}
 use Rattle.frame_classes.specs.Beside.{SideFits, SideMarks}
@@ -17,7 +17,7 @@ pub found_of-requires-clause-marked : goal.found_of-requires-clause-marked
 found_of-requires-clause-marked c = three_all SideMarks (side_by c.in_ok-first.first) (side_by c.in_ok-between.between) (side_by c.in_ok-last.last) c.in_ok-first.ensures.marked c.in_ok-between.ensures.marked c.in_ok-last.ensures.marked
 
 pub tears_of-requires : goal.tears_of-requires
-tears_of-requires c = all_three (side_by c.in_ok-first.first) (side_by c.in_ok-between.between) (side_by c.in_ok-last.last) c.args.least c.in_ok-found.found.samples.items c.in_ok-found.ensures
+tears_of-requires c = all_three (side_by c.in_ok-first.first) (side_by c.in_ok-between.between) (side_by c.in_ok-last.last) None c.args.least c.in_ok-found.found.samples.items c.in_ok-found.ensures
 
 pub returns : goal.returns
 returns c =
@@ -30,5 +30,5 @@ returns c =
     (record { seen = c.in_ok-first.ensures.seen; mean = c.in_ok-first.ensures.mean; fit = c.in_ok-first.ensures.fit; output = c.in_ok-first.ensures.output })
     (record { seen = c.in_ok-between.ensures.seen; mean = c.in_ok-between.ensures.mean; fit = c.in_ok-between.ensures.fit; output = c.in_ok-between.ensures.output })
     (record { seen = c.in_ok-last.ensures.seen; mean = c.in_ok-last.ensures.mean; fit = c.in_ok-last.ensures.fit; output = c.in_ok-last.ensures.output })
-    (are_said (side_by c.in_ok-first.first ∷ side_by c.in_ok-between.between ∷ side_by c.in_ok-last.last ∷ []) c.args.least samples (tell of_three (map (λ (e : Tear). ((e.before, e.here, e.after), e.frame.items)) list.items)) c.in_ok-found.ensures written))
+    (are_said (side_by c.in_ok-first.first ∷ side_by c.in_ok-between.between ∷ side_by c.in_ok-last.last ∷ []) None c.args.least samples (tell of_three (map (λ (e : Tear). ((e.before, e.here, e.after), e.frame.items)) list.items)) c.in_ok-found.ensures written))
     c.tears_of.ensures

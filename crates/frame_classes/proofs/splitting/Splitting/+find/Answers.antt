@@ -1,17 +1,21 @@
-use Rattle.std.proofs.Common.{◌≡◌, ◌<◌, ◌≤◌, inr, ℕ, List, [], ◌∷◌, arith, refl, ap, map, subst, sym, take, length, length-set, rules, ◌∙◌}
+use Rattle.std.proofs.Common.{◌+◌, false, filter, ◌≡◌, ◌<◌, ◌≤◌, inr, ℕ, List, [], ◌∷◌, arith, refl, ap, map, subst, sym, take, length, length-set, rules, ◌∙◌}
 use Rattle.std.specs.Prelude.{All, Any}
 use Rattle.std.proofs.lemmas.List.{length-map}
 use Rattle.std.proofs.lemmas.List.Elements.{All-head, All-tail}
 use Rattle.frame_rows.specs.declared.field.Field.TheVariants.{Length}
 use Rattle.frame_rows.specs.declared.field.Values.{Values}
-use Rattle.frame_rows.specs.Field.{fields, value_at}
+use Rattle.frame_rows.specs.Field.{fields, value_at, with_value}
+use Rattle.frame_rows.specs.Row.{row_admits}
+use Rattle.frame_classes.specs.Choices.{test_at}
 use Rattle.frame_classes.specs.Left.{AreLeftOf}
-use Rattle.frame_classes.specs.Splitting.{AreChoices, CanBe, IsOf}
+use Rattle.frame_classes.specs.Splitting.{Agree, AreChoices, CanBe, IsOf}
 use Rattle.frame_classes.specs.Told.{side_by}
 use Rattle.frame_classes.proofs.Going.{AreGoing, agree_next, all_gone, going_on}
 use Rattle.frame_classes.proofs.Keeping.{none_more}
 use Rattle.frame_classes.proofs.Kept.{Keeps, choices_of}
 use Rattle.frame_classes.proofs.Levels.{is_at, left_level, of_level}
+use Rattle.frame_classes.proofs.Silent.{silent_found}
+use Rattle.frame_classes.proofs.Sought.{not_led, not_sought}
 use Rattle.frame_classes.proofs.splitting.Splitting.+find.Goals as goal
 
 pub keep-requires-clause-left : goal.keep-requires-clause-left
@@ -46,11 +50,12 @@ loop-value-init t c =
     record {
       more = none_more sides c.args.self.now.least c.args.found.now.samples.items c.requires.samples c.requires.ascend;
       going = record {
-        each = λ others told of agree tells.
+        each = λ others told of agree tells looked.
             inr (subst (λ (items : List ℕ). Any (Keeps sides c.args.self.now.least field others told) items) (sym rest)
             (choices.each others told of agree tells));
       };
       within = subst (λ (items : List ℕ). All (CanBe c.args.self.now.least (value_at Length c.args.values) field) items) (sym rest) choices.within;
+      wanted = λ all. all;
     }
 
 pub find-requires : goal.find-requires
@@ -88,8 +93,8 @@ find-requires t c =
       ),
     )
 
-pub loop-value-preserved : goal.loop-value-preserved
-loop-value-preserved t c =
+pub loop-value-preserved-in-Continue-1 : goal.loop-value-preserved-in-Continue-1
+loop-value-preserved-in-Continue-1 t c =
     let sides = map side_by c.args.self.now.sides.now.sides.now in
     let field = c.in-Some.field.now in
     let within : c.args.level < 11 = c.in-Some.ensures.lookup.3.0 in
@@ -104,12 +109,13 @@ loop-value-preserved t c =
         ascend = c.in_ok-find.ensures.more.ascend;
       };
       going =
-          going_on sides c.args.self.now.least field c.args.values c.loop-value.found.samples.items c.find.new.found.samples.items value c.next.new.self.rest.now
-          (subst (λ (items : List ℕ). AreGoing sides c.args.self.now.least field c.args.values c.loop-value.found.samples.items items) steps c.loop-value.invariant.going)
+          going_on sides c.args.self.now.wanted c.args.self.now.least field c.args.values c.loop-value.found.samples.items c.find.new.found.samples.items value c.next.new.self.rest.now
+          (subst (λ (items : List ℕ). AreGoing sides c.args.self.now.wanted c.args.self.now.least field c.args.values c.loop-value.found.samples.items items) steps c.loop-value.invariant.going)
           c.in_ok-find.ensures.more.kept
-          (λ others told agree keeps.
+          (λ others told agree looked keeps.
           c.in_ok-find.ensures.every.found _ told keeps.0
-          (agree_next c.args.level field c.args.values c.with.result others value at.place (omega (arith, c.requires.eleven)) c.requires.eleven c.with.ensures agree) keeps.1);
+          (agree_next c.args.level field c.args.values c.with.result others value at.place (omega (arith, c.requires.eleven)) c.requires.eleven c.with.ensures agree) keeps.1 looked);
+      wanted = λ all. c.in_ok-find.ensures.wanted (c.loop-value.invariant.wanted all);
       within =
           All-tail (CanBe c.args.self.now.least (value_at Length c.args.values) field) value c.next.new.self.rest.now
           (subst (λ (items : List ℕ). All (CanBe c.args.self.now.least (value_at Length c.args.values) field) items) steps c.loop-value.invariant.within);
@@ -124,6 +130,66 @@ returns-clause-every t c =
     let sides = map side_by c.args.self.now.sides.now.sides.now in
     let field = c.in-Some.field.now in
     let at = is_at c.args.level field c.in-Some.ensures.lookup.3.0 (c.in-Some.ensures.lookup.3.1 Length) in
-    all_gone sides c.args.self.now.least field c.args.values c.loop-value.found.samples.items c.args.level at.place
-    (subst (λ (items : List ℕ). AreGoing sides c.args.self.now.least field c.args.values c.loop-value.found.samples.items items)
+    all_gone sides c.args.self.now.wanted c.args.self.now.least field c.args.values c.loop-value.found.samples.items c.args.level at.place
+    (subst (λ (items : List ℕ). AreGoing sides c.args.self.now.wanted c.args.self.now.least field c.args.values c.loop-value.found.samples.items items)
     (nil_of c.loop-value.value-iterator.rest.now c.in-None.ensures.steps.0) c.loop-value.invariant.going)
+
+pub returns-then-is_silent-clause-every : goal.returns-then-is_silent-clause-every
+returns-then-is_silent-clause-every t c =
+    let sides = map side_by c.args.self.now.sides.now.sides.now in
+    let field = c.in-Some.field.now in
+    let at = is_at c.args.level field c.in-Some.ensures.lookup.3.0 (c.in-Some.ensures.lookup.3.1 Length) in
+    silent_found sides c.args.self.now.wanted c.args.self.now.least field c.args.level c.args.values c.args.left.now.items c.args.found.now.samples.items
+    (omega (arith, length-map c.args.self.now.sides.now.sides.now side_by, c.requires.beside.three)) at.place
+    (subst (λ (n : ℕ). AreLeftOf sides (take n fields) c.args.values c.args.left.now.items) (sym at.place) c.requires.left)
+    (c.is_silent.ensures c.if-is_silent.true)
+
+pub returns-then-is_known-clause-every : goal.returns-then-is_known-clause-every
+returns-then-is_known-clause-every t c =
+    let field = c.in-Some.field.now in
+    let at = is_at c.args.level field c.in-Some.ensures.lookup.3.0 (c.in-Some.ensures.lookup.3.1 Length) in
+    record {
+      found = λ others told of agree tells looked.
+          c.is_known.ensures c.if-is_known.true others told (subst (λ (n : ℕ). Agree n c.args.values others) (sym at.place) agree) tells;
+    }
+
+pub is_known-requires-clause-left : goal.is_known-requires-clause-left
+is_known-requires-clause-left t c =
+    let field = c.in-Some.field.now in
+    let at = is_at c.args.level field c.in-Some.ensures.lookup.3.0 (c.in-Some.ensures.lookup.3.1 Length) in
+    subst (λ (n : ℕ). AreLeftOf (map side_by c.args.self.now.sides.now.sides.now) (take n fields) c.args.values c.args.left.now.items) (sym at.place) c.requires.left
+
+pub loop-value-preserved : goal.loop-value-preserved
+loop-value-preserved t c =
+    let sides = map side_by c.args.self.now.sides.now.sides.now in
+    let rows = c.args.self.now.sides.now.rows.now in
+    let field = c.in-Some.field.now in
+    let within : c.args.level < 11 = c.in-Some.ensures.lookup.3.0 in
+    let is = c.in-Some.ensures.lookup.3.1 Length in
+    let at = is_at c.args.level field within is in
+    let value = c.in-Some-value.value.now in
+    let steps = c.in-Some-value.ensures.steps in
+    let test = test_at (λ row. row_admits row field value) false rows in
+    let changed = with_value field value c.args.values in
+    let narrower : List ℕ = filter test c.args.left.now.items in
+    let none = not_led (λ places. places.items) sides c.args.self.now.wanted c.args.left.now.items c.sought-sought.result test c.sought-sought.ensures
+    (sym c.leads.ensures ∙ c.if-leads.false) in
+    let left = left_level sides rows c.args.level field c.args.values changed value c.args.left.now.items narrower at within c.requires.eleven refl
+    c.requires.beside.together c.requires.left refl in
+    let all = not_sought sides c.args.self.now.wanted c.args.self.now.least (c.args.level + 1) changed narrower c.loop-value.found.samples.items left none in
+    record {
+      more = c.loop-value.invariant.more;
+      going =
+          going_on sides c.args.self.now.wanted c.args.self.now.least field c.args.values c.loop-value.found.samples.items c.loop-value.found.samples.items value
+          c.next.new.self.rest.now
+          (subst (λ (items : List ℕ). AreGoing sides c.args.self.now.wanted c.args.self.now.least field c.args.values c.loop-value.found.samples.items items) steps
+          c.loop-value.invariant.going)
+          (λ told h. h)
+          (λ others told agree looked keeps.
+          all.found _ told keeps.0
+          (agree_next c.args.level field c.args.values changed others value at.place (omega (arith, c.requires.eleven)) c.requires.eleven refl agree) keeps.1 looked);
+      wanted = c.loop-value.invariant.wanted;
+      within =
+          All-tail (CanBe c.args.self.now.least (value_at Length c.args.values) field) value c.next.new.self.rest.now
+          (subst (λ (items : List ℕ). All (CanBe c.args.self.now.least (value_at Length c.args.values) field) items) steps c.loop-value.invariant.within);
+    }

@@ -2,7 +2,7 @@ use Rattle.std.proofs.Common.{◌-◌, map}
 use Rattle.std.specs.Prelude.{All}
 use Rattle.frame_rows.specs.declared.field.Field.TheVariants.{Length}
 use Rattle.frame_rows.specs.Field.{value_at}
-use Rattle.frame_classes.specs.Splitting.{AreMore, CanBe}
+use Rattle.frame_classes.specs.Splitting.{AreMore, AreWanted, CanBe}
 use Rattle.frame_classes.specs.Told.{side_by}
 use Rattle.frame_classes.proofs.Going.{AreGoing}
 use Rattle.frame_classes.proofs.splitting.Splitting.+find.Given as goal
@@ -17,6 +17,7 @@ invariant-loop-value l =
     let sides = map side_by l.self.sides.now.sides.now in
     record {
       more : AreMore sides l.self.least l.fn.found.samples.items l.found.samples.items;
-      going : AreGoing sides l.self.least l.field l.values l.found.samples.items l.value-iterator.rest.now;
+      going : AreGoing sides l.self.wanted l.self.least l.field l.values l.found.samples.items l.value-iterator.rest.now;
+      wanted : AreWanted l.self.wanted l.fn.found.samples.items → AreWanted l.self.wanted l.found.samples.items;
       within : All (CanBe l.self.least (value_at Length l.values) l.field) l.value-iterator.rest.now;
     }

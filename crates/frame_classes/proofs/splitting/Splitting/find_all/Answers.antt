@@ -34,4 +34,4 @@ find-requires-clause-left c =
 pub returns-clause-every : goal.returns-clause-every
 returns-clause-every c =
     on_ok _ _ _ c.find.result c.find.ensures.every c.find.ensures.every (λ all _ values.
-    found_by_any (map side_by c.args.self.now.sides.now.sides.now) c.args.self.now.least c.zero.result values c.find.new.found.samples.items all)
+    found_by_any (map side_by c.args.self.now.sides.now.sides.now) c.args.self.now.wanted c.args.self.now.least c.zero.result values c.find.new.found.samples.items all)
