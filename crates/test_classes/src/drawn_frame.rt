@@ -61,6 +61,11 @@ impl DrawnFrame {
         frame
     }
 
+    /// Makes it have at least so many bytes, of which 64 are the most.
+    pub(crate) fn lengthen(&mut self, least: usize) {
+        self.len = self.len.max(least);
+    }
+
     /// Draws the word of a place, from byte 12 on: types and what stands behind them in turns.
     fn draw_word(&mut self, draws: &mut Draws, place: usize) {
         let word = match place % 2 {

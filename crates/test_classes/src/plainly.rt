@@ -70,7 +70,7 @@ pub(crate) fn class_of(live: &Live, port: u16, bytes: &[u8]) -> FrameClass {
 }
 
 /// A number that grows in the order in which classes are listed: by the use, and within a use GEM ports before reasons.
-fn place_of(class: FrameClass) -> u32 {
+pub(crate) fn place_of(class: FrameClass) -> u32 {
     let used = match class.used {
         Use::Unread => 0,
         Use::NoTable => 1,
