@@ -238,6 +238,24 @@ of_frames = with_rule (with_rule (over_trace (codes "cover")) any_port) least
 abbrev pub cover : App
 cover = with_rule (with_rule (with_rule of_frames (flag (codes "script"))) out) json
 
+-- the line behind which the first of two configurations stands, or none of a trace
+abbrev pub beginning : ValueParser
+beginning = Signed (pos 0) (pos 4294967295)
+
+-- what names two configurations
+abbrev pub of_sides : App
+of_sides = with_rule (with_rule (over_trace (codes "diff")) (optional (codes "from") beginning)) (optional (codes "to") NonEmptyString)
+
+abbrev pub diff : App
+diff = with_rule (with_rule (with_rule of_sides any_port) least) json
+
+-- what names a change
+abbrev pub of_change : App
+of_change = with_rule (over_trace (codes "hitless")) (valued (codes "from") beginning)
+
+abbrev pub hitless : App
+hitless = with_rule (with_rule (with_rule of_change any_port) least) json
+
 -- what says how a history is judged
 abbrev pub by_settings : App
 by_settings =
@@ -301,5 +319,13 @@ with_looking app = with_subcommand (with_subcommand (with_subcommand (with_subco
 abbrev pub with_captures : App → App
 with_captures app = with_subcommand (with_subcommand (with_subcommand (with_subcommand app judge.top) forward.top) recording.top) encode.top
 
+-- what is suspect in entities, and how they point to each other
+abbrev pub with_pictures : App → App
+with_pictures app = with_subcommand (with_subcommand app lint.top) graph.top
+
+-- what says what becomes of every frame
+abbrev pub with_frames : App → App
+with_frames app = with_subcommand (with_subcommand (with_subcommand app cover.top) diff.top) hitless.top
+
 abbrev pub onuctl : App
-onuctl = with_subcommand (with_subcommand (with_subcommand (with_captures (with_looking (with_doing alone))) lint.top) graph.top) cover.top
+onuctl = with_frames (with_pictures (with_captures (with_looking (with_doing alone))))

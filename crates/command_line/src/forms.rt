@@ -22,6 +22,8 @@ const OVER_FILES: &[(&str, &str)] = &[
     ("lint", TRACE),
     ("graph", TRACE),
     ("cover", TRACE),
+    ("diff", TRACE),
+    ("hitless", TRACE),
 ];
 
 /// What becomes of a word.

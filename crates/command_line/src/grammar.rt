@@ -6,10 +6,12 @@ ghost use Rattle.command_line.specs.Grammar.{IsCommand, onuctl};
 mod common;
 mod cover;
 mod decode;
+mod diff;
 mod encode;
 mod explain;
 mod forward;
 mod graph;
+mod hitless;
 mod judge;
 mod lint;
 mod mib;
@@ -58,7 +60,9 @@ pub fn onuctl<'a>(alloc: Global) -> Result<Command<'a>, AllocError>
     let encoding = with_sub(recorded, encode::encode(alloc));
     let linting = with_sub(encoding, lint::lint(alloc));
     let drawing = with_sub(linting, graph::graph(alloc));
-    with_sub(drawing, cover::cover(alloc))
+    let covering = with_sub(drawing, cover::cover(alloc));
+    let comparing = with_sub(covering, diff::diff(alloc));
+    with_sub(comparing, hitless::hitless(alloc))
 }
 
 /// The command of this name alone, or the program where there is none.
@@ -77,6 +81,8 @@ pub fn named<'a>(alloc: Global, name: &str) -> Result<Command<'a>, AllocError> {
         "lint" => lint::lint(alloc),
         "graph" => graph::graph(alloc),
         "cover" => cover::cover(alloc),
+        "diff" => diff::diff(alloc),
+        "hitless" => hitless::hitless(alloc),
         _ => onuctl(alloc),
     }
 }

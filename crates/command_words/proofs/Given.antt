@@ -49,14 +49,14 @@ something_read f None is = absurd (cc)
 something_read f (Some a) is = (f a, refl)
 
 -- a number that was not read is none of so many bits
-number_unread : (bits : ℕ) (f : Found) (name : Text) (n : ℕ) → ((text : Text) → one_text f name ≡ Some text → ReadsOne (Reads bits) text None)
+pub number_unread : (bits : ℕ) (f : Found) (name : Text) (n : ℕ) → ((text : Text) → one_text f name ≡ Some text → ReadsOne (Reads bits) text None)
     → IsNumber name (rows_of f) n → n < 2 ^ bits → ⊥
 number_unread bits f name n value is small =
     let refused = value is.text (one_text-rows f name ∙ is.value) in
     refused.1.0 (is.numeral, subst (λ m. m < 2 ^ bits) is.number small)
 
 -- an option has one number
-number_same : (name : Text) (rows : List Row) (n m : ℕ) → IsNumber name rows n → IsNumber name rows m → n ≡ m
+pub number_same : (name : Text) (rows : List Row) (n m : ℕ) → IsNumber name rows n → IsNumber name rows m → n ≡ m
 number_same name rows n m a b =
     let same : a.text ≡ b.text = cc in
     a.number ∙ subst (λ text. digits_value 10 (without_leading_plus a.text) ≡ digits_value 10 (without_leading_plus text)) same refl ∙ sym b.number

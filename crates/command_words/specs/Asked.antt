@@ -1,5 +1,5 @@
 -- What the words ask for.
-use Rattle.std.specs.Prelude.{◌≡◌, ◌≢◌, ◌≢◌, ◌&&◌, ℕ, Bool, true, false, not, is_some, List, [], Option, Some, None, codes, map, option_map, unwrap_or}
+use Rattle.std.specs.Prelude.{◌≡◌, ◌≢◌, ◌≢◌, ◌≤◌, ◌&&◌, ℕ, Bool, true, false, not, is_some, List, [], Option, Some, None, codes, map, option_map, unwrap_or}
 use Rattle.std.specs.Borrow.{Bor}
 use Rattle.std.specs.Str.{bytes_eq}
 use Rattle.std.specs.Str.Parse.{IsNumeral, digits_value, without_leading_plus}
@@ -19,11 +19,13 @@ use Rattle.command_words.specs.declared.words.RecordWords.{RecordWords}
 use Rattle.command_words.specs.declared.words.ReplayWords.{ReplayWords}
 use Rattle.command_words.specs.declared.words.LintWords.{LintWords}
 use Rattle.command_words.specs.declared.words.CoverWords.{CoverWords}
+use Rattle.command_words.specs.declared.words.DiffWords.{DiffWords}
+use Rattle.command_words.specs.declared.words.HitlessWords.{HitlessWords}
 use Rattle.command_words.specs.declared.words.GraphWords.{GraphWords}
 use Rattle.command_words.specs.declared.words.DecodeWords.{DecodeWords}
 use Rattle.command_words.specs.declared.words.EncodeWords.{EncodeWords}
 use Rattle.command_words.specs.declared.words.Words.{Words}
-use Rattle.command_words.specs.declared.words.Words.TheVariants.{Replay, Run, Decode, Mib, Rules, Explain, Judge, Forward, Record, Encode, Lint, Graph, Cover}
+use Rattle.command_words.specs.declared.words.Words.TheVariants.{Replay, Run, Decode, Mib, Rules, Explain, Judge, Forward, Record, Encode, Lint, Graph, Cover, Diff, Hitless}
 
 -- the value of an option is a number in decimal digits
 pub record IsNumber (name : Text) (rows : List Row) (n : ℕ) : Type 0 where
@@ -206,6 +208,37 @@ pub record IsCover (rows : List Row) (words : CoverWords) : Type 0 where
   pub json : IsFlag (codes "json") rows words.json
   pub out : first_of (codes "out") rows ≡ option_map (λ (name : _). name.now) words.out
 
+-- a line is not behind another, or that one is the last
+abbrev pub IsNotBehind : Option ℕ → ℕ → Type 0
+IsNotBehind None from = Unit {0}
+IsNotBehind (Some until) from = from ≤ until
+
+-- two configurations are named: by a trace of its own for the one after; or by a line of the only trace for the one before, which is not
+-- behind that for the one after
+abbrev pub AreSides : Option (Bor Text) → Option ℕ → Option ℕ → Type 0
+AreSides (Some to) from until = Unit {0}
+AreSides None None until = ⊥
+AreSides None (Some from) until = IsNotBehind until from
+
+-- those behind `diff`
+pub record IsDiff (rows : List Row) (words : DiffWords) : Type 0 where
+  pub trace : IsTrace rows words.trace
+  pub from : IsOptionalNumber (codes "from") rows words.from
+  pub to : first_of (codes "to") rows ≡ option_map (λ (name : _). name.now) words.to
+  pub sides : AreSides words.to words.from words.trace.until
+  pub port : IsOptionalNumber (codes "port") rows words.port
+  pub least : IsOptionalNumber (codes "least") rows words.least
+  pub json : IsFlag (codes "json") rows words.json
+
+-- those behind `hitless`
+pub record IsHitless (rows : List Row) (words : HitlessWords) : Type 0 where
+  pub trace : IsTrace rows words.trace
+  pub from : IsNumber (codes "from") rows words.from
+  pub order : IsNotBehind words.trace.until words.from
+  pub port : IsOptionalNumber (codes "port") rows words.port
+  pub least : IsOptionalNumber (codes "least") rows words.least
+  pub json : IsFlag (codes "json") rows words.json
+
 -- those behind `encode`
 pub record IsEncode (rows : List Row) (words : EncodeWords) : Type 0 where
   pub file : first_of (codes "text") rows ≡ option_map (λ (name : _). name.now) words.file
@@ -227,6 +260,8 @@ IsAskedBy (Some (name, rows)) (Encode words) = (name ≡ codes "encode") × IsEn
 IsAskedBy (Some (name, rows)) (Lint words) = (name ≡ codes "lint") × IsLint rows words
 IsAskedBy (Some (name, rows)) (Graph words) = (name ≡ codes "graph") × IsGraph rows words
 IsAskedBy (Some (name, rows)) (Cover words) = (name ≡ codes "cover") × IsCover rows words
+IsAskedBy (Some (name, rows)) (Diff words) = (name ≡ codes "diff") × IsDiff rows words
+IsAskedBy (Some (name, rows)) (Hitless words) = (name ≡ codes "hitless") × IsHitless rows words
 
 -- all but what names files or options several times
 abbrev pub HasNoList : Words → Type 0
@@ -243,6 +278,8 @@ HasNoList (Encode words) = Unit {0}
 HasNoList (Lint words) = ⊥
 HasNoList (Graph words) = Unit {0}
 HasNoList (Cover words) = Unit {0}
+HasNoList (Diff words) = Unit {0}
+HasNoList (Hitless words) = Unit {0}
 
 -- what shows where the frames of a port go
 abbrev pub IsLook : Words → Type 0
@@ -259,3 +296,5 @@ IsLook (Encode words) = ⊥
 IsLook (Lint words) = ⊥
 IsLook (Graph words) = Unit {0}
 IsLook (Cover words) = Unit {0}
+IsLook (Diff words) = Unit {0}
+IsLook (Hitless words) = Unit {0}

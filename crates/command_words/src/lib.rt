@@ -12,7 +12,7 @@ pub use reading::{complaint, read_matches};
 pub use report::report_words;
 pub use skewed::{SkewedFile, read_skewed};
 pub use words::{
-    CoverWords, DecodeWords, EncodeWords, ExplainWords, ForwardWords, FrameWords, GraphWords,
-    JudgeWords, LintWords, MibWords, RecordWords, ReplayWords, RulesWords, RunWords, TraceWords,
-    TracesWords, Words,
+    CoverWords, DecodeWords, DiffWords, EncodeWords, ExplainWords, ForwardWords, FrameWords,
+    GraphWords, HitlessWords, JudgeWords, LintWords, MibWords, RecordWords, ReplayWords,
+    RulesWords, RunWords, TraceWords, TracesWords, Words,
 };

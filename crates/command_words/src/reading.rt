@@ -1,7 +1,7 @@
 //! What the words ask for.
-ghost use Rattle.std.specs.Prelude.{◌≡◌, ◌≤◌, ℕ, Option, codes, IfErr, IfNone, IfOk, IfSome, Bool};
+ghost use Rattle.std.specs.Prelude.{◌≡◌, ◌≤◌, ℕ, Option, codes, IfErr, IfNone, IfOk, IfSome, Bool, false, true};
 ghost use Rattle.clap.specs.Words.{found_of, rows_of, subcommand_rows_of};
-ghost use Rattle.command_words.specs.Asked.{AreTexts, IsAskedBy, IsCover, IsDecode, IsEncode, IsExplain, IsForward, IsFrame, IsGraph, IsJudge, IsLate, IsLint, IsListed, IsLook, IsMib, HasNoList, IsOptionalNumber, IsRecord, IsReplay, IsRules, IsRun, IsTrace, IsTraces, asks_for_all, asks_for_late};
+ghost use Rattle.command_words.specs.Asked.{AreSides, AreTexts, IsAskedBy, IsCover, IsDecode, IsDiff, IsEncode, IsExplain, IsForward, IsFrame, IsGraph, IsHitless, IsJudge, IsLate, IsLint, IsListed, IsLook, IsMib, IsNotBehind, HasNoList, IsOptionalNumber, IsRecord, IsReplay, IsRules, IsRun, IsTrace, IsTraces, asks_for_all, asks_for_late};
 ghost use Rattle.command_words.specs.declared.words.Words.{Words};
 ghost use Rattle.command_words.specs.declared.words.RecordWords.{RecordWords};
 ghost use Rattle.command_words.specs.declared.words.RunWords.{RunWords};
@@ -10,6 +10,8 @@ ghost use Rattle.command_words.specs.declared.words.RulesWords.{RulesWords};
 ghost use Rattle.command_words.specs.declared.words.ExplainWords.{ExplainWords};
 ghost use Rattle.command_words.specs.declared.words.LintWords.{LintWords};
 ghost use Rattle.command_words.specs.declared.words.CoverWords.{CoverWords};
+ghost use Rattle.command_words.specs.declared.words.DiffWords.{DiffWords};
+ghost use Rattle.command_words.specs.declared.words.HitlessWords.{HitlessWords};
 ghost use Rattle.command_words.specs.declared.words.GraphWords.{GraphWords};
 ghost use Rattle.command_words.specs.declared.words.JudgeWords.{JudgeWords};
 ghost use Rattle.command_words.specs.declared.words.EncodeWords.{EncodeWords};
@@ -20,9 +22,9 @@ ghost use Rattle.command_words.specs.declared.words.TracesWords.{TracesWords};
 ghost use Rattle.command_words.specs.Range.{AreInRange, IsFrameInRange, IsShort, IsInRange, IsLine};
 
 use crate::words::{
-    CoverWords, DecodeWords, EncodeWords, ExplainWords, ForwardWords, FrameWords, GraphWords,
-    JudgeWords, LintWords, MibWords, RecordWords, ReplayWords, RulesWords, RunWords, TraceWords,
-    TracesWords, Words,
+    CoverWords, DecodeWords, DiffWords, EncodeWords, ExplainWords, ForwardWords, FrameWords,
+    GraphWords, HitlessWords, JudgeWords, LintWords, MibWords, RecordWords, ReplayWords,
+    RulesWords, RunWords, TraceWords, TracesWords, Words,
 };
 use clap::ArgMatches;
 use run_settings::{DEFAULT_BATCH, DEFAULT_LANES, RunSettings};
@@ -168,6 +170,80 @@ fn read_cover<'a>(given: &ArgMatches<'a>) -> Option<CoverWords<'a>>
         script: given.get_flag("script"),
         json: given.get_flag("json"),
         out: given.get_str("out"),
+    })
+}
+
+/// Whether a line isn't behind another, which is the last one where there is none.
+fn is_not_behind(until: Option<u32>, from: u32) -> bool
+    ensures yes { result ≡ true → IsNotBehind until from }
+    ensures no { result ≡ false → IsNotBehind until from → ⊥ }
+{
+    match until {
+        None => true,
+        Some(until) => from <= until,
+    }
+}
+
+/// Whether two configurations are named: by a trace of its own for the one after; or by a line of the only trace for the one before, which
+/// isn't behind that for the one after.
+fn are_sides(to: Option<&str>, from: Option<u32>, until: Option<u32>) -> bool
+    ensures yes { result ≡ true → AreSides to.entry from until }
+    ensures no { result ≡ false → AreSides to.entry from until → ⊥ }
+{
+    match (to, from) {
+        (Some(_), _) => true,
+        (None, None) => false,
+        (None, Some(from)) => is_not_behind(until, from),
+    }
+}
+
+/// What the options behind `diff` ask for; None where one is missing, or no number in its range, or they don't name two configurations.
+fn read_diff<'a>(given: &ArgMatches<'a>) -> Option<DiffWords<'a>>
+    ensures asked { IfSome result (IsDiff (rows_of (found_of given.now))) }
+    ensures range { IfSome result (λ words. IsLine words.from
+        × IsShort words.port × IsShort words.least × IsLine words.trace.until) }
+    ensures none { IfNone result ((words : DiffWords)
+        → IsDiff (rows_of (found_of given.now)) words
+        → IsLine words.from
+        → IsShort words.port → IsShort words.least → IsLine words.trace.until → ⊥) }
+{
+    let trace = read_trace(given)?;
+    let from = read_optional(given, "from")?;
+    let to = given.get_str("to");
+    if !are_sides(to, from, trace.until) {
+        return None;
+    }
+    Some(DiffWords {
+        trace,
+        from,
+        to,
+        port: read_short(given, "port")?,
+        least: read_short(given, "least")?,
+        json: given.get_flag("json"),
+    })
+}
+
+/// What the options behind `hitless` ask for; None where one is missing, or no number in its range, or the change begins behind its end.
+fn read_hitless<'a>(given: &ArgMatches<'a>) -> Option<HitlessWords<'a>>
+    ensures asked { IfSome result (IsHitless (rows_of (found_of given.now))) }
+    ensures range { IfSome result (λ words. (words.from ≤ 4294967295)
+        × IsShort words.port × IsShort words.least × IsLine words.trace.until) }
+    ensures none { IfNone result ((words : HitlessWords)
+        → IsHitless (rows_of (found_of given.now)) words
+        → words.from ≤ 4294967295
+        → IsShort words.port → IsShort words.least → IsLine words.trace.until → ⊥) }
+{
+    let trace = read_trace(given)?;
+    let from = given.get_one("from")?;
+    if !is_not_behind(trace.until, from) {
+        return None;
+    }
+    Some(HitlessWords {
+        trace,
+        from,
+        port: read_short(given, "port")?,
+        least: read_short(given, "least")?,
+        json: given.get_flag("json"),
     })
 }
 
@@ -439,6 +515,12 @@ fn read_look<'a>(matches: &ArgMatches<'a>) -> Option<Words<'a>>
     if let Some(given) = matches.subcommand_matches("cover") {
         return Some(Words::Cover(read_cover(given)?));
     }
+    if let Some(given) = matches.subcommand_matches("diff") {
+        return Some(Words::Diff(read_diff(given)?));
+    }
+    if let Some(given) = matches.subcommand_matches("hitless") {
+        return Some(Words::Hitless(read_hitless(given)?));
+    }
     let given = matches.subcommand_matches("graph")?;
     Some(Words::Graph(read_graph(given)?))
 }
@@ -521,13 +603,40 @@ fn has_no_trace(given: &ArgMatches<'_>) -> bool {
         && given.get_str("trace").is_some_and(is_digits)
 }
 
+/// What is said of a line that stands behind the one that ends.
+const BEHIND: &str = "the line of --from is behind that of --until";
+
+/// What is said of the words of `diff` that name no two configurations.
+fn sides_complaint(given: &ArgMatches<'_>) -> &'static str {
+    if given.get_str("from").is_some() {
+        BEHIND
+    } else {
+        "give --from or --to too"
+    }
+}
+
+/// What is said where clap takes words that ask for nothing, of all but `explain`.
+fn others_complaint(matches: &ArgMatches<'_>) -> &'static str {
+    if let Some(given) = matches.subcommand_matches("diff") {
+        return sides_complaint(given);
+    }
+    if matches.subcommand_matches("hitless").is_some() {
+        return BEHIND;
+    }
+    if matches.subcommand_matches("judge").is_some() {
+        return "give --all too, beside --most";
+    }
+    if matches.subcommand_matches("record").is_some() {
+        return "give --lost too, beside --late";
+    }
+    "a value is missing or out of its range"
+}
+
 /// What is said where clap takes words that ask for nothing.
 pub fn complaint(matches: &ArgMatches<'_>) -> &'static str {
     match matches.subcommand_matches("explain") {
         Some(given) if has_no_trace(given) => "give the trace too, in front of the frame",
         Some(_) => "give the frame by its bytes alone, or by --frames and --frame",
-        None if matches.subcommand_matches("judge").is_some() => "give --all too, beside --most",
-        None if matches.subcommand_matches("record").is_some() => "give --lost too, beside --late",
-        None => "a value is missing or out of its range",
+        None => others_complaint(matches),
     }
 }

@@ -30,6 +30,10 @@ pub enum Words<'a> {
     Graph(GraphWords<'a>),
     /// What the managed entities after a trace can do with frames.
     Cover(CoverWords<'a>),
+    /// Which frames two configurations treat differently.
+    Diff(DiffWords<'a>),
+    /// Which frames a change treats in between as neither its beginning nor its end does.
+    Hitless(HitlessWords<'a>),
 }
 
 /// How `replay` is to answer.
@@ -162,6 +166,39 @@ pub struct CoverWords<'a> {
     pub json: bool,
     /// The file for the frames of the only port, `-` for standard output, or None where none is wanted.
     pub out: Option<&'a str>,
+}
+
+/// What `diff` is to compare: the configuration before, which the trace leaves, with the one after.
+#[derive(Clone, Copy)]
+pub struct DiffWords<'a> {
+    /// The messages that lead to the configuration before; and to the one after, where no other trace does. The last line that is read is
+    /// that of the configuration after.
+    pub trace: TraceWords<'a>,
+    /// The last line that is read for the configuration before, from 1; 0 for none, or None for all.
+    pub from: Option<u32>,
+    /// The file with the messages that lead to the configuration after, a script, or None where it is the same.
+    pub to: Option<&'a str>,
+    /// The port whose frames alone are compared, or None for each port that is named.
+    pub port: Option<u16>,
+    /// How many bytes a frame has at least, or None for any number.
+    pub least: Option<u16>,
+    /// Whether it is shown as JSON.
+    pub json: bool,
+}
+
+/// Which change `hitless` is to look at: that from one line of a trace to another.
+#[derive(Clone, Copy)]
+pub struct HitlessWords<'a> {
+    /// The messages that are applied. The last line that is read ends the change.
+    pub trace: TraceWords<'a>,
+    /// The line, from 1, behind which the change begins; 0 for the first.
+    pub from: u32,
+    /// The port whose frames alone are looked at, or None for each port that is named.
+    pub port: Option<u16>,
+    /// How many bytes a frame has at least, or None for any number.
+    pub least: Option<u16>,
+    /// Whether it is shown as JSON.
+    pub json: bool,
 }
 
 /// What `judge` is to judge.

@@ -26,7 +26,8 @@ pub use reports::{report_decoding, report_text, report_value, without_memory};
 pub use script_input::{ScriptInput, open_script};
 pub use several::{OverFile, over_files, shown_name};
 pub use traces::{
-    Linted, apply_linted, apply_trace, read_trace, report_bad_line, report_until, trace_of,
+    Linted, apply_kept, apply_linted, apply_named, apply_trace, read_trace, report_bad_line,
+    report_short, report_until, trace_of,
 };
 pub use unread::{Silenced, Unread, Watched};
 pub use written::{line_of, lines_until, script_of};

@@ -64,10 +64,15 @@ fn front_of_object(alloc: Global, name: &str) -> Result<Vec<u8>, AllocError> {
     Ok(front)
 }
 
+/// What names a file in front of a line about it.
+pub(crate) fn line_front(alloc: Global, name: &str) -> Result<Vec<u8>, AllocError> {
+    named(alloc, b"", name, b": ")
+}
+
 /// What names a file in front of what is written of it.
 fn front_of(alloc: Global, name: &str, marked: Marked) -> Result<Vec<u8>, AllocError> {
     match marked {
-        Marked::Lines => named(alloc, b"", name, b": "),
+        Marked::Lines => line_front(alloc, name),
         Marked::Remark => named(alloc, b"# ", name, b"\n"),
         Marked::Objects | Marked::Object => front_of_object(alloc, name),
     }

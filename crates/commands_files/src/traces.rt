@@ -1,6 +1,8 @@
 //! A script as the trace of a command: its messages are carried out, and those that weren't are counted.
 use crate::files::{read_whole, report_unread};
+use crate::fronted::{Fronted, Marked};
 use crate::reports::without_memory;
+use crate::several::line_front;
 use crate::written::{line_of, script_of};
 use command_words::{TraceWords, TracesWords};
 use script_trace::{Applied, Faulty, Refused, ScriptFault, apply_script};
@@ -13,6 +15,9 @@ use text_writing::{LookFault, Status, report_look};
 
 /// How many lines are named at most.
 const NAMED: usize = 10;
+
+/// What says why a message wasn't carried out.
+const WHY: &str = "; onuctl lint says why";
 
 /// The lines of the messages that have a fault.
 fn faulty_lines(alloc: Global, faulty: &[Faulty]) -> Result<Vec<u64>, AllocError> {
@@ -84,18 +89,21 @@ fn lines_in(script: &[u8]) -> usize {
     }
 }
 
-/// Says that a trace ends before the last line that is asked for, if it does.
-pub fn report_until<E: Write>(script: &[u8], words: &TraceWords<'_>, err: &mut E) {
-    let Some(until) = words.until else {
-        return;
-    };
+/// Says that a script ends before a line that an option asks for, if it does.
+pub fn report_short<E: Write>(script: &[u8], file: &str, option: &str, line: u32, err: &mut E) {
     let lines = lines_in(script);
-    if (lines as u64) < u64::from(until) {
+    if (lines as u64) < u64::from(line) {
         let _ = writeln!(
             err,
-            "{} has {lines} lines, and --until asks for {until}",
-            words.file
+            "{file} has {lines} lines, and {option} asks for {line}"
         );
+    }
+}
+
+/// Says that a trace ends before the last line that is asked for, if it does.
+pub fn report_until<E: Write>(script: &[u8], words: &TraceWords<'_>, err: &mut E) {
+    if let Some(until) = words.until {
+        report_short(script, words.file, "--until", until, err);
     }
 }
 
@@ -140,7 +148,6 @@ fn apply_read<E: Write>(
     words: &TraceWords<'_>,
     err: &mut E,
 ) -> Result<Applied, Status> {
-    report_until(script, words, err);
     match apply_script(alloc, script, words.until.map(u64::from)) {
         Ok(applied) => Ok(applied),
         Err(ScriptFault::BadLine(line)) => {
@@ -160,7 +167,39 @@ pub fn apply_trace<R: Files + Alloc<A = Global>, E: Write>(
     err: &mut E,
 ) -> Result<Applied, Status> {
     let script = read_trace(rt, words.file, err)?;
-    apply_saying(rt.alloc(), &script, words, "; onuctl lint says why", err)
+    report_until(&script, words, err);
+    apply_saying(rt.alloc(), &script, words, WHY, err)
+}
+
+/// The same with the trace, for a command that looks at more than one of its moments.
+pub fn apply_kept<R: Files + Alloc<A = Global>, E: Write>(
+    rt: &R,
+    words: &TraceWords<'_>,
+    err: &mut E,
+) -> Result<Linted, Status> {
+    let script = read_trace(rt, words.file, err)?;
+    report_until(&script, words, err);
+    let applied = apply_saying(rt.alloc(), &script, words, WHY, err)?;
+    Ok(Linted { script, applied })
+}
+
+/// The same of one of two traces: each line that is written to `err` names the file. The last line that is read is that of an option.
+pub fn apply_named<R: Files + Alloc<A = Global>, E: Write>(
+    rt: &R,
+    words: &TraceWords<'_>,
+    option: &str,
+    err: &mut E,
+) -> Result<Applied, Status> {
+    let alloc = rt.alloc();
+    let Ok(front) = line_front(alloc, words.file) else {
+        return Err(without_memory(err));
+    };
+    let mut said = Fronted::new(err, &front, Marked::Lines);
+    let script = read_trace(rt, words.file, &mut said)?;
+    if let Some(line) = words.until {
+        report_short(&script, words.file, option, line, &mut said);
+    }
+    apply_saying(alloc, &script, words, WHY, &mut said)
 }
 
 /// The same for a command that says itself why a message wasn't carried out, with the trace.
@@ -170,6 +209,7 @@ pub fn apply_linted<R: Files + Alloc<A = Global>, E: Write>(
     err: &mut E,
 ) -> Result<Linted, Status> {
     let script = read_trace(rt, words.file, err)?;
+    report_until(&script, words, err);
     let applied = apply_saying(rt.alloc(), &script, words, "", err)?;
     Ok(Linted { script, applied })
 }

@@ -3,6 +3,7 @@
 
 use command_line::{Words, read_words, report_words, usual_words};
 use commands_captures::forward;
+use commands_comparing::{diff, hitless};
 use commands_covering::cover;
 use commands_files::Unread;
 use commands_judging::judge_history;
@@ -69,6 +70,8 @@ fn obey<
         Words::Lint(words) => lint(rt, words, out, err),
         Words::Graph(words) => draw_graph(rt, words, out, err),
         Words::Cover(words) => cover(rt, words, out, err),
+        Words::Diff(words) => diff(rt, words, out, err),
+        Words::Hitless(words) => hitless(rt, words, out, err),
     }
 }
 

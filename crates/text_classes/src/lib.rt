@@ -11,4 +11,5 @@ mod words;
 
 pub use form::Form;
 pub use list::ClassList;
-pub use words::ClassWords;
+pub use object::put_use;
+pub use words::{ClassWords, UseWords};

@@ -19,7 +19,8 @@ pub(crate) fn put_class(
     put_words(alloc, object, "frame", &HexWords(&example.frame))
 }
 
-fn put_use(object: &mut Writer, used: Use) -> Result<(), AllocError> {
+/// Puts what is used for a frame: `use`, its word, with `entry` where it is one.
+pub fn put_use(object: &mut Writer, used: Use) -> Result<(), AllocError> {
     put_text(object, "use", use_word(used))?;
     if let Use::Entry(number) = used {
         put_number(object, "entry", u64::from(number))?;

@@ -17,5 +17,5 @@ pub use rules_json::write_rules_json;
 pub use steps::{Incoming, write_explanation};
 pub use steps_json::write_explanation_json;
 pub use traced::{PortEntries, Traced};
-pub use verdict::VerdictWords;
+pub use verdict::{FrameDigits, VerdictWords};
 pub use words::{MismatchWords, OriginWords};

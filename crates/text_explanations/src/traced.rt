@@ -1,5 +1,5 @@
 //! What a trace left.
-use explain::{TableInForce, number_of, table_in_force};
+use explain::{TableInForce, number_of, table_in_force, tried_order};
 use mib_state::Mib;
 use script_trace::{Accepted, setting_line};
 use vlan_rule::RuleTable;
@@ -45,5 +45,11 @@ impl<'a> PortEntries<'a> {
     pub fn line(&self, place: usize) -> Option<u64> {
         let entry = self.table.entry(place)?;
         setting_line(self.accepted, self.instance, entry.key())
+    }
+
+    /// The line of the trace that set the entry of a number, in the order in which entries are tried, counted from 0.
+    pub fn numbered_line(&self, number: usize) -> Option<u64> {
+        let order = tried_order(self.table);
+        self.line(*order.get(number)?)
     }
 }

@@ -24,7 +24,7 @@ impl fmt::Display for VerdictWords<'_, '_> {
 
 /// The bytes of a frame as it leaves, as hexadecimal digits.
 #[derive(Clone, Copy)]
-pub(crate) struct FrameDigits<'v, 'a>(pub(crate) &'v OutFrame<'a>);
+pub struct FrameDigits<'v, 'a>(pub &'v OutFrame<'a>);
 
 impl fmt::Display for FrameDigits<'_, '_> {
     fn fmt<W: fmt::Write>(&self, f: &mut fmt::Formatter<W>) -> fmt::Result {

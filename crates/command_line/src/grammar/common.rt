@@ -2,7 +2,7 @@
 ghost use Rattle.std.specs.Prelude.{◌≡◌, Ok, false};
 ghost use Rattle.clap.specs.Words.{App, Rule, Text, new_app, rule_of, with_rule};
 ghost use Rattle.clap.specs.declared.builder.value_parser.ValueParser.TheVariants.{NonEmptyString};
-ghost use Rattle.command_line.specs.Grammar.{IsCommand, flag, json, numbered, optional, over_files, over_trace, over_traces, port, script, scripts, several, strict, trace, traces, until, valued};
+ghost use Rattle.command_line.specs.Grammar.{IsCommand, any_port, flag, json, least, numbered, optional, over_files, over_trace, over_traces, port, script, scripts, several, strict, trace, traces, until, valued};
 
 use clap::builder::ValueParser;
 use clap::{Arg, ArgAction, Command, value_parser};
@@ -97,6 +97,27 @@ pub(super) fn numbered<'a>(alloc: Global, name: &'a str, value: &'a str, help: &
 {
     let parser = value_parser!(u32).range(1..=i64::from(u32::MAX));
     optional(alloc, name, value, help, parser)
+}
+
+/// The help of an option with this limit says it in words: a frame of so many bytes stands whole in a line of a script and of a history.
+const MOST_BYTES: i64 = 9989;
+
+/// A port that may be left out.
+pub(super) fn any_port<'a>(alloc: Global, help: &'a str) -> Arg<'a>
+    ensures rule { rule_of result ≡ any_port }
+    ensures local { result.global ≡ false }
+{
+    let parser = value_parser!(u16).range(0..=i64::from(u16::MAX));
+    optional(alloc, "port", "PORT", help, parser)
+}
+
+/// How many bytes a frame has at least.
+pub(super) fn least<'a>(alloc: Global, help: &'a str) -> Arg<'a>
+    ensures rule { rule_of result ≡ least }
+    ensures local { result.global ≡ false }
+{
+    let parser = value_parser!(u16).range(0..=MOST_BYTES);
+    optional(alloc, "least", "BYTES", help, parser)
 }
 
 /// The script whose messages are applied.

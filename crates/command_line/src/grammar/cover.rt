@@ -1,44 +1,12 @@
 //! The words of `cover`.
 ghost use Rattle.std.specs.Prelude.{◌≡◌, false};
 ghost use Rattle.clap.specs.Words.{rule_of};
-ghost use Rattle.command_line.specs.Grammar.{IsCommand, any_port, cover, least, out};
+ghost use Rattle.command_line.specs.Grammar.{IsCommand, cover, out};
 
-use crate::grammar::common::{flag, json, optional, over_trace, with_arg};
+use crate::grammar::common::{any_port, flag, json, least, optional, over_trace, with_arg};
 use clap::builder::ValueParser;
-use clap::{Arg, Command, value_parser};
+use clap::{Arg, Command};
 use std::alloc::{AllocError, Global};
-
-/// The help says this limit in words: a frame of so many bytes stands whole in a line of a script and of a history.
-const MOST_BYTES: i64 = 9989;
-
-/// The port whose frames are listed.
-fn one_port<'a>(alloc: Global) -> Arg<'a>
-    ensures rule { rule_of result ≡ any_port }
-    ensures local { result.global ≡ false }
-{
-    let parser = value_parser!(u16).range(0..=i64::from(u16::MAX));
-    optional(
-        alloc,
-        "port",
-        "PORT",
-        "Port whose frames are listed, 0 to 65535; without it each port that a mapper or a table points to [example: 257]",
-        parser,
-    )
-}
-
-/// How many bytes a frame has at least.
-fn least<'a>(alloc: Global) -> Arg<'a>
-    ensures rule { rule_of result ≡ least }
-    ensures local { result.global ≡ false }
-{
-    optional(
-        alloc,
-        "least",
-        "BYTES",
-        "List what frames of at least so many bytes can have, 0 to 9989; of any length without it [example: 60]",
-        value_parser!(u16).range(0..=MOST_BYTES),
-    )
-}
 
 /// The capture of the frames.
 fn out<'a>(alloc: Global) -> Arg<'a>
@@ -69,8 +37,16 @@ pub(super) fn cover<'a>(alloc: Global) -> Result<Command<'a>, AllocError>
         "script",
         "Write a script, which replay answers behind the trace; has no value [example: --script]",
     );
-    let at_port = with_arg(over_trace(alloc, alone), one_port(alloc));
-    let long = with_arg(at_port, least(alloc));
+    let port = any_port(
+        alloc,
+        "Port whose frames are listed, 0 to 65535; without it each port that a mapper or a table points to [example: 257]",
+    );
+    let bytes = least(
+        alloc,
+        "List what frames of at least so many bytes can have, 0 to 9989; of any length without it [example: 60]",
+    );
+    let at_port = with_arg(over_trace(alloc, alone), port);
+    let long = with_arg(at_port, bytes);
     let scripted = with_arg(long, script);
     let to_capture = with_arg(scripted, out(alloc));
     with_arg(to_capture, json(alloc))

@@ -16,4 +16,6 @@ returns c =
     let encoding = c.with_sub-encoding.ensures _ _ recorded c.encode.ensures in
     let linting = c.with_sub-linting.ensures _ _ encoding c.lint.ensures in
     let drawing = c.with_sub-drawing.ensures _ _ linting c.graph.ensures in
-    c.with_sub.ensures _ _ drawing c.cover.ensures
+    let covering = c.with_sub-covering.ensures _ _ drawing c.cover.ensures in
+    let comparing = c.with_sub-comparing.ensures _ _ covering c.diff.ensures in
+    c.with_sub.ensures _ _ comparing c.hitless.ensures

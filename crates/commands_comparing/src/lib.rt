@@ -1,0 +1,13 @@
+//! The commands `diff` and `hitless`: what a change of the configuration does to frames, of every frame.
+//!
+//! What two configurations treat differently, and what one between two others does as neither, is found by the crate `frame_classes`.
+#![tactic(auto)]
+
+mod comparing;
+mod moments;
+mod ports;
+mod sides;
+mod watching;
+
+pub use comparing::diff;
+pub use moments::hitless;
