@@ -32,6 +32,7 @@ BRING = (
     "cp examples/run/up.onu examples/run/up.pcap .",
     "cp examples/run/up.trace up.script",
     "cp examples/record/bench.history .",
+    "cp examples/changes/overwritten.trace new.script",
 )
 # The captures of one clock have a file of a name that other examples use.
 BRING_FOR = {"record": ("cp examples/record/*.pcap .",)}

@@ -14,7 +14,7 @@ A file of dialogues has the lines of scripts, each before its answer, and what e
   @ LINE             a line of the script that was carried out before the history: the word @ behind judge stands for a file with these lines
   $ WORDS            the program is asked with these words, and with the messages so far as its trace; judge with the history so far
   < LINE             a line that is decoded, as above; those that follow one another are decoded together
-  | TEXT             a line that is written then, with the same escapes; of cover `..` stands for the digits of a frame, whichever it shows
+  | TEXT             a line that is written then, with the same escapes; of cover, diff and hitless `..` stands for digits of frames, whichever they show
 
 Blanks among digits are left out. Any other line is a fault."""
 import re
@@ -30,7 +30,8 @@ FORMS = {
 LEFT = re.compile("(g [0-9]+ [0-9]+ )" + DIGITS)
 PLAIN = re.compile("-|[md] [0-9]+")
 WAIT = re.compile("w( [0-9]+)?|d [0-9]+")
-SHOWN = re.compile(rb'( frame |^f [0-9]+ |"frame":")[0-9a-f]+(?="|$)', re.M)
+# The commands that show frames of their own choice.
+SHOWING = ("cover", "diff", "hitless")
 STATUS = re.compile("! ([0-9]+)(?: (.*))?")
 ESCAPES = (("\\r", "\r"), ("\\t", "\t"), ("\\040", " "))
 
@@ -76,6 +77,11 @@ def event(line):
     return line if WAIT.fullmatch(line) else whole(line)
 
 
+def stands_for(wanted, line):
+    """Whether a line is a wanted one, with any digits where that has `..`."""
+    return re.fullmatch("[0-9a-f]+".join(map(re.escape, wanted.split(".."))), line)
+
+
 class Call:
     """A call of the program: the dialogue that asks for it, its words, the text that it is given, the script before a history, and what must
     come of it. Lines that it must write and say stand with the numbers of the lines that ask for them; `at` is the line by which the call
@@ -89,8 +95,14 @@ class Call:
         return self.status == 0
 
     def compared(self, written):
-        """What is compared of that which is written."""
-        return SHOWN.sub(rb"\1..", written) if self.words[0] == "cover" else written
+        """What is compared of that which is written: `..` for the digits of frames where a wanted line has it in their place."""
+        if self.words[0] not in SHOWING:
+            return written
+        lines = written.decode("latin1").split("\n")
+        for place, (_, wanted) in enumerate(self.wanted[:len(lines)]):
+            if stands_for(wanted, lines[place]):
+                lines[place] = wanted
+        return "\n".join(lines).encode("latin1")
 
 
 class Reader:

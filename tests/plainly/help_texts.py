@@ -19,6 +19,8 @@ Commands:
   lint     Say what is suspect in a trace and in the entities after it
   graph    Draw how the managed entities after a trace point to each other, for Graphviz
   cover    List which frames a test must send after a trace: one for each entry that is used, with each way to end
+  diff     Say which frames two configurations treat differently, with a frame of each kind
+  hitless  Say which frames a change treats on its way as neither its beginning nor its end does
   help     Print this message or the help of the given subcommand(s)
 
 Options:
@@ -264,6 +266,49 @@ Options:
 Whatever frame comes in has a class of the list: what the port's table uses for it, and how it ends.
 Status: 0, 1 or 2; onuctl help statuses says when
 Example: onuctl cover up.script --least 60 --out sent.pcapng""",
+    "diff": """\
+Say which frames two configurations treat differently, with a frame of each kind
+
+Usage: onuctl diff [OPTIONS] <TRACE>
+
+Arguments:
+  <TRACE>  Script, or words for one, whose messages are applied, a file; also behind --trace [example: up.script]
+
+Options:
+      --until <LINE>   Stop behind this line of the trace, from 1 [example: 20]
+      --strict         Stop where a message of the trace has a fault or is refused; has no value [example: --strict]
+      --from <LINE>    Before: behind this line of the trace, 0 for the opening state; at its end without it [example: 40]
+      --to <FILE>      After: what this trace leads to, a file; without it the same trace, which then wants --from [example: new.script]
+      --port <PORT>    Port whose frames are compared, 0 to 65535; without it each port that a mapper or a table of either points to [example: 257]
+      --least <BYTES>  Compare frames of at least so many bytes, 0 to 9989; of any length without it [example: 60]
+      --json           Show it as JSON, for other programs; has no value [example: --json]
+  -h, --help           Print help
+
+Where none is shown, every frame leaves with the same bytes by the same GEM port, or is dropped for the same reason.
+The line of --until, and its end, is that of the configuration after.
+Status: 3 where they differ; onuctl help statuses has the others
+Example: onuctl diff up.script --from 4
+Example: onuctl diff up.script --to new.script""",
+    "hitless": """\
+Say which frames a change treats on its way as neither its beginning nor its end does
+
+Usage: onuctl hitless [OPTIONS] --from <LINE> <TRACE>
+
+Arguments:
+  <TRACE>  Script, or words for one, whose messages are applied, a file; also behind --trace [example: up.script]
+
+Options:
+      --until <LINE>   Stop behind this line of the trace, from 1 [example: 20]
+      --strict         Stop where a message of the trace has a fault or is refused; has no value [example: --strict]
+      --from <LINE>    The change begins behind this line of the trace, 0 for the opening state [example: 5]
+      --port <PORT>    Port whose frames are looked at, 0 to 65535; without it each port that a mapper or a table points to on the way [example: 257]
+      --least <BYTES>  Look at frames of at least so many bytes, 0 to 9989; of any length without it [example: 60]
+      --json           Show it as JSON, for other programs; has no value [example: --json]
+  -h, --help           Print help
+
+A moment between is torn for a frame that leaves there with a GEM port or bytes of neither, or is dropped there and by neither.
+Status: 3 where a moment is torn; onuctl help statuses has the others
+Example: onuctl hitless up.script --from 5""",
     "encode": """\
 Make a script of a text in words
 
@@ -351,10 +396,10 @@ What lint finds, the most severe first: `--ignore KIND` leaves findings of a kin
   not-modelled (note): a class or an action that this model doesn't have; once for each""",
     "statuses": """\
 The status with which the program ends
-  0  all is written; judge explained the whole history, and lint found nothing as severe as --fail-on
+  0  all is written; judge explained the whole history, lint found nothing as severe as --fail-on, diff no difference, and hitless no torn moment
   1  the words are wrong, a read or a write failed, or there is no memory or no room
   2  a line, a text or a capture is bad, or --strict met a message that wasn't carried out
-  3  judge found a deviation, or lint something as severe as --fail-on; all is written
+  3  judge found a deviation, lint something as severe as --fail-on, diff a difference, or hitless a torn moment; all is written
   4  judge found no deviation, but the history may be cut, or nothing of it was judged; all is written
   141  nobody reads standard output any more""",
 }
