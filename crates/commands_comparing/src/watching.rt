@@ -4,7 +4,7 @@ use frame_rows::{Row, Rows};
 use mib_state::Mib;
 use std::alloc::{AllocError, Global};
 use std::mem::replace;
-use text_differences::Moment;
+use text_differences::{Moment, ShownTear};
 
 /// A port, and what it does with frames: as the change begins, at the moment that was looked at last, and as it ends. Frames are looked for
 /// only where it means something else than it did.
@@ -15,7 +15,7 @@ pub(crate) struct Watched {
     here: Rows,
     after: Rows,
     /// The frames for which the moment is torn that was looked at last.
-    pub(crate) tears: Vec<Tear>,
+    pub(crate) tears: Vec<ShownTear>,
 }
 
 /// Whether a port means the same for every frame.
@@ -44,12 +44,27 @@ fn uses_apart(alloc: Global, rows: &[Row], others: &[Row]) -> Result<Vec<Use>, A
 }
 
 /// The place of a tear among others.
-fn order(tear: &Tear) -> (u32, u32, u32) {
+fn order(shown: &ShownTear) -> (u32, u32, u32) {
+    let tear = &shown.tear;
     (
         tear.before.number(),
         tear.here.number(),
         tear.after.number(),
     )
+}
+
+/// Puts tears behind others, as they are shown.
+fn show(
+    alloc: Global,
+    moment: &Moment<'_>,
+    port: u16,
+    tears: Vec<Tear>,
+    shown: &mut Vec<ShownTear>,
+) -> Result<(), AllocError> {
+    for tear in tears {
+        shown.push(ShownTear::of(alloc, moment, port, tear)?)?;
+    }
+    Ok(())
 }
 
 impl Watched {
@@ -95,8 +110,9 @@ impl Watched {
             return self.look_again(alloc, moment, least, &uses);
         }
         let (before, after) = (moment.before, moment.after);
-        self.tears = torn(alloc, before, moment.here, after, self.port, least)?;
-        Ok(())
+        let found = torn(alloc, before, moment.here, after, self.port, least)?;
+        self.tears = Vec::new(alloc);
+        show(alloc, moment, self.port, found, &mut self.tears)
     }
 
     /// Looks again at the frames that the table uses so. Of the others nothing has changed since the moment before.
@@ -107,11 +123,12 @@ impl Watched {
         least: usize,
         uses: &[Use],
     ) -> Result<(), AllocError> {
-        self.tears.retain(|tear| !uses.contains(&tear.here.used));
+        self.tears
+            .retain(|shown| !uses.contains(&shown.tear.here.used));
         let (before, after) = (moment.before, moment.after);
         for used in uses {
-            let mut found = torn_by(alloc, before, moment.here, after, self.port, least, *used)?;
-            self.tears.append(&mut found)?;
+            let found = torn_by(alloc, before, moment.here, after, self.port, least, *used)?;
+            show(alloc, moment, self.port, found, &mut self.tears)?;
         }
         self.tears.sort_by_key(order)
     }

@@ -11,4 +11,4 @@ mod tears;
 mod writing;
 
 pub use differences::{Compared, DifferenceList};
-pub use tears::{Moment, TearList};
+pub use tears::{Moment, ShownTear, TearList};

@@ -47,6 +47,45 @@ impl<'f> Fates<'f> {
     }
 }
 
+/// A frame for which a moment is torn, with its lines but for the moment in front of them. They stay while nothing of the frame changes.
+#[derive(Drop)]
+pub struct ShownTear {
+    pub tear: Tear,
+    lines: String,
+}
+
+impl ShownTear {
+    /// A frame that comes in at a port, for which a moment is torn.
+    pub fn of(
+        alloc: Global,
+        moment: &Moment<'_>,
+        port: u16,
+        tear: Tear,
+    ) -> Result<ShownTear, AllocError> {
+        let lines = tear_lines(alloc, moment, port, &tear)?;
+        Ok(ShownTear { tear, lines })
+    }
+}
+
+/// The lines of a frame for which a moment is torn, but for the moment in front of them.
+fn tear_lines(
+    alloc: Global,
+    moment: &Moment<'_>,
+    port: u16,
+    tear: &Tear,
+) -> Result<String, AllocError> {
+    let digits = HexWords(&tear.frame);
+    let Fates {
+        before,
+        here,
+        after,
+    } = Fates::of(moment, port, tear);
+    let mut text = String::new(alloc);
+    writeln!(text, " port {port} frame {digits}")?;
+    write!(text, "  before {before}\n  here {here}\n  after {after}\n")?;
+    Ok(text)
+}
+
 /// The list of the torn moments of a change, which is written moment by moment: nothing of it is kept.
 #[derive(Drop)]
 pub struct TearList {
@@ -56,29 +95,6 @@ pub struct TearList {
     json: JsonText,
     /// How many frames are shown.
     count: u64,
-}
-
-/// The lines of a frame for which a moment is torn.
-fn tear_lines(
-    alloc: Global,
-    moment: &Moment<'_>,
-    port: u16,
-    tear: &Tear,
-) -> Result<String, AllocError> {
-    let (version, line) = (moment.version, moment.line);
-    let digits = HexWords(&tear.frame);
-    let Fates {
-        before,
-        here,
-        after,
-    } = Fates::of(moment, port, tear);
-    let mut text = String::new(alloc);
-    writeln!(
-        text,
-        "version {version} line {line} port {port} frame {digits}"
-    )?;
-    write!(text, "  before {before}\n  here {here}\n  after {after}\n")?;
-    Ok(text)
 }
 
 impl TearList {
@@ -111,14 +127,17 @@ impl TearList {
         &mut self,
         moment: &Moment<'_>,
         port: u16,
-        tears: &[Tear],
+        shown: &[ShownTear],
         writer: &mut W,
     ) -> Result<(), TextFault> {
-        for tear in tears {
+        let (version, line) = (moment.version, moment.line);
+        let front = format!(in self.alloc; "version {version} line {line}")?;
+        for each in shown {
             if self.is_json {
-                self.write_object(moment, port, tear, writer)?;
+                self.write_object(moment, port, &each.tear, writer)?;
             } else {
-                write_text(writer, &tear_lines(self.alloc, moment, port, tear)?)?;
+                write_text(writer, &front)?;
+                write_text(writer, &each.lines)?;
             }
             self.count = self.count.saturating_add(1);
         }
