@@ -6,8 +6,8 @@ use Rattle.std.proofs.lemmas.Bool.{le-leb, leb-false, leb-true, lt-ltb, ltb-true
 use Rattle.std.proofs.lemmas.List.{map_more, take_more}
 use Rattle.std.proofs.lemmas.List.Folds.{list_any-append}
 use Rattle.bench_record.specs.Matching.{later}
-use Rattle.bench_record.specs.Recorded.{covers, had_begun, is_early, is_into, is_into_side, is_out_of, is_out_of_side, is_watched, latest, times_of}
-use Rattle.bench_record.specs.Spans.{AreSpans, HoldsEarlier, HoldsLater, IsSpanOf, IsWithin, goes_on, has_begun, is_begun, is_going_on, widened}
+use Rattle.bench_record.specs.Recorded.{covers, had_begun, is_behind, is_early, is_into, is_into_side, is_out_of, is_out_of_side, is_watched, lasts, latest, times_of}
+use Rattle.bench_record.specs.Spans.{AreSpans, HoldsEarlier, HoldsLater, IsSpanOf, IsWithin, goes_on, has_begun, is_begun, is_going_on, is_lasting, lasts_by, widened}
 use Rattle.bench_record.specs.declared.captured.Capture.{Capture}
 use Rattle.bench_record.specs.declared.captured.CapturedFrame.{CapturedFrame}
 use Rattle.bench_record.specs.declared.captured.Side.{Side}
@@ -98,6 +98,16 @@ begun_same lost time capture span is =
     ap (λ (side : Side). not (is_into_side side) || has_begun lost time span.times) is.side
     ∙ ap (λ (b : Bool). not (is_into_side capture.side) || b) (begun_by lost time (times_of capture) span.times is.times)
 
+lasting_by : (time : ℕ) (times : List ℕ) (ends : Option (ℕ × ℕ)) → IsWithin times ends → lasts_by time ends ≡ list_any (nat_lt time) times
+lasting_by time times None is = sym (ap (λ (ts : List ℕ). list_any (nat_lt time) ts) is)
+lasting_by time times (Some (least, greatest)) is =
+    sym (is.last (nat_lt time) (λ a b within so. lt-ltb time b (omega (arith, within, ltb-true time a so))))
+
+lasting_same : (time : ℕ) (capture : Capture) (span : Span) → IsSpanOf capture span → is_lasting time span ≡ (not (is_into capture) || lasts time capture)
+lasting_same time capture span is =
+    ap (λ (side : Side). not (is_into_side side) || lasts_by time span.times) is.side
+    ∙ ap (λ (b : Bool). not (is_into_side capture.side) || b) (lasting_by time (times_of capture) span.times is.times)
+
 goes_by : (lost time : ℕ) (times : List ℕ) (ends : Option (ℕ × ℕ)) → IsWithin times ends
     → goes_on lost time ends ≡ (list_any (λ t. nat_le t time) times && list_any (λ t. nat_le (later time lost) t) times)
 goes_by lost time times None is =
@@ -139,6 +149,11 @@ early_same lost time captures spans are =
     (any_same (λ (span : Span). is_into_side span.side) is_into (λ capture span is. ap is_into_side is.side) captures spans are)
     ∙ ap (λ (b : Bool). not (list_any is_into captures && b))
     (all_same (is_begun lost time) (λ capture. not (is_into capture) || had_begun lost time capture) (begun_same lost time) captures spans are)
+
+pub behind_same : (time : ℕ) (captures : List Capture) (spans : List Span) → AreSpans captures spans
+    → not (list_all (is_lasting time) spans) ≡ is_behind captures time
+behind_same time captures spans are =
+    ap not (all_same (is_lasting time) (λ capture. not (is_into capture) || lasts time capture) (lasting_same time) captures spans are)
 
 pub watched_same : (lost time : ℕ) (captures : List Capture) (spans : List Span) → AreSpans captures spans
     → (list_any (λ (span : Span). is_out_of_side span.side) spans && list_all (is_going_on lost time) spans) ≡ is_watched lost captures time

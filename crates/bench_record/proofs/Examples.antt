@@ -19,7 +19,7 @@ use Rattle.bench_record.specs.declared.settings.RecordSettings.{RecordSettings}
 
 -- settings without other types
 abbrev settings : Option ℕ → Option ℕ → RecordSettings
-settings wait lost = record { tpids = record { ref_ptr = (0, 0); now = [] }; padded = false; wait = wait; lost = lost; late = false }
+settings wait lost = record { tpids = record { ref_ptr = (0, 0); now = [] }; padded = false; wait = wait; lost = lost; late = false; early = false }
 
 abbrev at : ℕ → Tap → List ℕ → CapturedFrame
 at time tap bytes = record { time = time; tap = tap; extent = Whole; bytes = record { ref_ptr = (0, 0); now = bytes } }
@@ -237,6 +237,31 @@ late_unsaid : history_shown (settings None (Some 1)) on_their_way
       passed = record { other = []; unread = []; early = record { capture = 1; place = 1 } ∷ []; unwritable = [] };
     }
 late_unsaid = refl
+
+-- two frames are sent and leave, and then one that no capture shows
+abbrev sent_on : List Capture
+sent_on =
+    taken side.Into (at 5 (Into 257) (plain 0) ∷ at 6 (Into 257) (plain 1) ∷ [])
+    ∷ taken side.OutOf (at 5 (OutOf (Port 7)) (plain 0) ∷ at 6 (OutOf (Port 7)) (plain 1) ∷ at 9 (OutOf (Port 7)) (plain 0) ∷ []) ∷ []
+
+-- where that is set, what leaves from the last record of the capture in front of the unit on is passed over
+early_captures : history_shown (record (settings None None) { early = true }) sent_on
+    ≡ record {
+      events =
+          in_record 0 1 5 (Entered 257 Whole (plain 0)) ∷ in_record 1 1 5 (Left (Port 7) Whole 0 (plain 0)) ∷ in_record 0 2 6 (Entered 257 Whole (plain 1)) ∷ [];
+      passed = record { other = []; unread = []; early = record { capture = 1; place = 2 } ∷ record { capture = 1; place = 3 } ∷ []; unwritable = [] };
+    }
+early_captures = refl
+
+-- without the setting the last one is a stray
+early_unsaid : history_shown (settings None None) sent_on
+    ≡ record {
+      events =
+          in_record 0 1 5 (Entered 257 Whole (plain 0)) ∷ in_record 1 1 5 (Left (Port 7) Whole 0 (plain 0)) ∷ in_record 0 2 6 (Entered 257 Whole (plain 1))
+          ∷ in_record 1 2 6 (Left (Port 7) Whole 1 (plain 1)) ∷ in_record 1 3 9 (Strayed (Port 7) Whole (plain 0)) ∷ [];
+      passed = record { other = []; unread = []; early = []; unwritable = [] };
+    }
+early_unsaid = refl
 
 -- with several captures the one that begins last decides
 late_by_the_last : history_shown begun

@@ -3,11 +3,11 @@ pub mod Ends
 mod Examples
 pub mod Filters
 pub mod Indexes
-mod Late
 pub mod Orders
 pub mod Parts
 pub mod Queues
 pub mod Recordings
+mod SentUnseen
 pub mod Untold
 pub mod Walks
 pub mod Zeros

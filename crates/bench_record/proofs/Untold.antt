@@ -8,7 +8,7 @@ use Rattle.bench_record.specs.Matching.{SentFrame, candidates, is_doubtful, late
 use Rattle.bench_record.specs.Messages.{is_managing, message_of}
 use Rattle.bench_record.specs.Moments.{Sourced, moment, moment_of_frame, rank_at, rank_of_message}
 use Rattle.bench_record.specs.Order.{in_order}
-use Rattle.bench_record.specs.Recorded.{Seen, core_in, early, enter, frames_from, hide, is_from_before, is_missed, is_unread, is_watched, leave_as, leave_by, leave_doubtful, is_by, may_be_hidden, nothing_seen, other, see, see_at, see_message, see_reply, seen_from, seen_in, strayed, unread, unwritable, with_events, without_number}
+use Rattle.bench_record.specs.Recorded.{Seen, core_in, early, enter, frames_from, hide, is_missed, is_passed_over, is_unread, is_watched, leave_as, leave_by, leave_doubtful, is_by, may_be_hidden, nothing_seen, other, see, see_at, see_message, see_reply, seen_from, seen_in, strayed, unread, unwritable, with_events, without_number}
 use Rattle.bench_record.specs.declared.captured.Capture.{Capture}
 use Rattle.bench_record.specs.declared.captured.Tap.{Tap}
 use Rattle.bench_record.specs.declared.captured.Tap.TheVariants.{Omci, Into, OutOf}
@@ -158,7 +158,7 @@ see_good s captures at (OutOf gem) m seen within good =
     let m' = moment at.frame.time 4 in
     let hidden = hidden_more m at.frame.time seen.hidden seen.frames.sent within good in
     by_if m' (is_unread at.frame.extent at.frame.bytes.now) (unread at.source (hide at.frame.time seen)) _ hidden
-    (by_if m' (is_from_before s captures at.frame.time) (early at.source (hide at.frame.time seen)) _ hidden
+    (by_if m' (is_passed_over s captures at.frame.time) (early at.source (hide at.frame.time seen)) _ hidden
     (leave_good s captures at gem (candidates s.lost at.frame.time (core_in s at.frame) seen.frames) m seen within good))
 
 -- ---- all of them

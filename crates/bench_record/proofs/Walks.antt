@@ -14,7 +14,7 @@ use Rattle.bench_record.specs.Index.{IsSeen, kept_shown, passed_shown, queue_of}
 use Rattle.bench_record.specs.Matching.{SentFrame, candidates, is_doubtful, is_open, later, leave_at}
 use Rattle.bench_record.specs.Messages.{is_managing, message_of}
 use Rattle.bench_record.specs.Moments.{Sourced, Timed, moment_of_frame, rank_at, rank_of, rank_of_message}
-use Rattle.bench_record.specs.Recorded.{PassedOver, Seen, core_in, early, enter, extent_within, hide, is_early, is_from_before, is_missed, is_unread, leave, leave_as, leave_by, leave_doubtful, leave_unmatched, left_one_of, longest_frame, losses_from, may_be_unnumbered, nothing_seen, other, see, see_message, see_reply, seen_from, seen_in, strayed, unread, unwritable, waits, with_events, with_frame, without_number}
+use Rattle.bench_record.specs.Recorded.{PassedOver, Seen, core_in, early, enter, extent_within, hide, is_early, is_missed, is_passed_over, is_unread, leave, leave_as, leave_by, leave_doubtful, leave_unmatched, left_one_of, longest_frame, losses_from, may_be_unnumbered, nothing_seen, other, see, see_message, see_reply, seen_from, seen_in, strayed, unread, unwritable, waits, with_events, with_frame, without_number}
 use Rattle.bench_record.specs.Text.{timed_shown}
 use Rattle.bench_record.specs.Walk.{sourced_shown, sure_of}
 use Rattle.bench_record.specs.declared.captured.Capture.{Capture}
@@ -196,24 +196,24 @@ pub leave_unread : (s : RecordSettings) (captures : List Capture) (at : Sourced)
     → is_unread at.frame.extent at.frame.bytes.now ≡ true → unread at.source (hide at.frame.time seen) ≡ leave s captures at gem seen
 leave_unread s captures at gem seen short =
     sym (ap (λ (b : Bool).
-    leave_if s captures at gem seen b (is_from_before s captures at.frame.time) (candidates s.lost at.frame.time (core_in s at.frame) seen.frames)) short)
+    leave_if s captures at gem seen b (is_passed_over s captures at.frame.time) (candidates s.lost at.frame.time (core_in s at.frame) seen.frames)) short)
 
-pub leave_from_before : (s : RecordSettings) (captures : List Capture) (at : Sourced) (gem : SeenGem) (seen : Seen)
-    → is_unread at.frame.extent at.frame.bytes.now ≡ false → is_from_before s captures at.frame.time ≡ true
+pub leave_passed_over : (s : RecordSettings) (captures : List Capture) (at : Sourced) (gem : SeenGem) (seen : Seen)
+    → is_unread at.frame.extent at.frame.bytes.now ≡ false → is_passed_over s captures at.frame.time ≡ true
     → early at.source (hide at.frame.time seen) ≡ leave s captures at gem seen
-leave_from_before s captures at gem seen short before =
+leave_passed_over s captures at gem seen short before =
     let numbers = candidates s.lost at.frame.time (core_in s at.frame) seen.frames in
-    sym (ap (λ (b : Bool). leave_if s captures at gem seen b (is_from_before s captures at.frame.time) numbers) short
+    sym (ap (λ (b : Bool). leave_if s captures at gem seen b (is_passed_over s captures at.frame.time) numbers) short
     ∙ ap (λ (b : Bool). leave_if s captures at gem seen false b numbers) before)
 
 pub leave_found : (s : RecordSettings) (captures : List Capture) (at : Sourced) (gem : SeenGem) (seen : Seen) (numbers : List ℕ)
-    → is_unread at.frame.extent at.frame.bytes.now ≡ false → is_from_before s captures at.frame.time ≡ false
+    → is_unread at.frame.extent at.frame.bytes.now ≡ false → is_passed_over s captures at.frame.time ≡ false
     → numbers ≡ candidates s.lost at.frame.time (core_in s at.frame) seen.frames
     → leave_by s captures at gem numbers seen ≡ leave s captures at gem seen
 leave_found s captures at gem seen numbers short since found =
     let all = candidates s.lost at.frame.time (core_in s at.frame) seen.frames in
     ap (λ (ns : List ℕ). leave_if s captures at gem seen false false ns) found
-    ∙ sym (ap (λ (b : Bool). leave_if s captures at gem seen b (is_from_before s captures at.frame.time) all) short
+    ∙ sym (ap (λ (b : Bool). leave_if s captures at gem seen b (is_passed_over s captures at.frame.time) all) short
     ∙ ap (λ (b : Bool). leave_if s captures at gem seen false b all) since)
 
 pub leave_none : (s : RecordSettings) (captures : List Capture) (at : Sourced) (gem : SeenGem) (seen : Seen) (numbers : List ℕ) → length numbers ≡ 0

@@ -143,6 +143,14 @@ abbrev pub is_early : Option ℕ → List Capture → ℕ → Bool
 is_early lost captures time =
     not (list_any is_into captures && list_all (λ capture. not (is_into capture) || had_begun lost time capture) captures)
 
+-- a capture has a record behind a time
+abbrev pub lasts : ℕ → Capture → Bool
+lasts time capture = list_any (nat_lt time) (times_of capture)
+
+-- whether a frame that leaves at a time may have been sent behind the end of a capture in front of the unit
+abbrev pub is_behind : List Capture → ℕ → Bool
+is_behind captures time = not (list_all (λ capture. not (is_into capture) || lasts time capture) captures)
+
 -- a capture goes on from when a frame was sent until it is lost
 abbrev pub covers : ℕ → ℕ → Capture → Bool
 covers lost time capture =
@@ -229,10 +237,18 @@ leave_by s captures at gem (m ∷ n ∷ more) seen = leave_doubtful at gem (m �
 abbrev pub is_from_before : RecordSettings → List Capture → ℕ → Bool
 is_from_before s captures time = s.late && is_early s.lost captures time
 
+-- likewise where some were sent behind the end of a capture in front of the unit
+abbrev pub is_from_behind : RecordSettings → List Capture → ℕ → Bool
+is_from_behind s captures time = s.early && is_behind captures time
+
+-- whether it is passed over for one of these
+abbrev pub is_passed_over : RecordSettings → List Capture → ℕ → Bool
+is_passed_over s captures time = is_from_before s captures time || is_from_behind s captures time
+
 abbrev pub leave : RecordSettings → List Capture → Sourced → SeenGem → Seen → Seen
 leave s captures at gem seen =
     if is_unread at.frame.extent at.frame.bytes.now then unread at.source (hide at.frame.time seen)
-    else if is_from_before s captures at.frame.time then early at.source (hide at.frame.time seen)
+    else if is_passed_over s captures at.frame.time then early at.source (hide at.frame.time seen)
     else leave_by s captures at gem (candidates s.lost at.frame.time (core_in s at.frame) seen.frames) seen
 
 abbrev pub see_at : RecordSettings → List Capture → Sourced → Tap → Seen → Seen

@@ -48,6 +48,15 @@ has_begun lost time None = false
 abbrev pub is_begun : Option ℕ → ℕ → Span → Bool
 is_begun lost time span = not (is_into_side span.side) || has_begun lost time span.times
 
+-- whether a capture has a record behind a time
+abbrev pub lasts_by : ℕ → Option (ℕ × ℕ) → Bool
+lasts_by time (Some (least, greatest)) = nat_lt time greatest
+lasts_by time None = false
+
+-- that, or it wasn't taken in front of the unit
+abbrev pub is_lasting : ℕ → Span → Bool
+is_lasting time span = not (is_into_side span.side) || lasts_by time span.times
+
 -- whether a capture goes on from a time until a frame that was sent then is lost
 abbrev pub goes_on : ℕ → ℕ → Option (ℕ × ℕ) → Bool
 goes_on lost time (Some (least, greatest)) = nat_le least time && nat_le (later time lost) greatest

@@ -21,10 +21,11 @@
 //! each frame that is sent it is kept how many came before it; the next one decides. A frame that is sent and passed over leaves no stray,
 //! until it would be lost.
 //!
-//! **Captures that begin late.** Where frames were on their way as a capture in front of the unit began, one of them could be taken for a frame of
-//! its core that was sent since. Where that is set, what leaves until all of them would be lost is passed over, and each is hidden. So a line of
-//! a frame that leaves is of one that was captured as it was sent, which is among those that the line names (`proofs/Late.antt`). Given up is what
-//! such a line would have shown, and losses beside it.
+//! **Captures that begin late, or end early.** Where frames were on their way as a capture in front of the unit began, one of them could be taken for
+//! a frame of its core that was sent since. Where that is set, what leaves until all of them would be lost is passed over, and each is hidden. Likewise
+//! where frames were sent behind the end of such a capture: what leaves from its last frame on is passed over. So a line of a frame that leaves is of one
+//! that was captured as it was sent, which is among those that the line names (`proofs/SentUnseen.antt`). Given up is what such a line would have
+//! shown, and losses beside it.
 //!
 //! **Bytes** of frames aren't copied: events have slices of them.
 //!

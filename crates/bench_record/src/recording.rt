@@ -179,14 +179,16 @@ fn put_in_order(events: &mut Vec<TimedEvent<'_>>) -> Result<(), AllocError>
 /// no strays.
 ///
 /// Where the settings say that frames were on their way as the captures in front of the unit began, what leaves up to that time is passed over,
-/// whichever frame it could be. Every such capture counts, so one that begins late, or has no record, has all before it passed over.
+/// whichever frame it could be. Every such capture counts, so one that begins late, or has no record, has all before it passed over. Where they say
+/// that frames were sent behind the end of such a capture, what leaves from the last record of any of them on is passed over likewise.
 ///
 /// With a wait in the settings, each reply is waited for so long behind its time.
 ///
 /// With a loss in the settings, a frame isn't open any more so long behind its sending, but at that very time it still is. It is told as lost
 /// then, where the captures behind the unit all go on from its sending to that time. Not told is a frame that was seen to leave or is
 /// doubtful. Nor is one that may have left as a record behind the unit that is passed over: since too little is known of it, or since it may
-/// be each of over 900 frames, or have been sent before captures began. The loss has to be longer than the unit's longest delay, or a late frame is told as lost and as a stray.
+/// be each of over 900 frames, or have been sent before captures began or behind their ends.
+/// The loss has to be longer than the unit's longest delay, or a late frame is told as lost and as a stray.
 ///
 /// At one time, events stand in this order: messages that were sent, frames that were sent, replies, waits, frames that left, losses.
 ///

@@ -15,4 +15,7 @@ pub struct RecordSettings<'a> {
     /// Whether frames were on their way as the captures in front of the unit began. What leaves while it may be one of these is passed over,
     /// whichever frame it could be.
     pub late: bool,
+    /// Whether frames were sent behind the end of a capture in front of the unit. What leaves while it may be one of these is passed over, whichever
+    /// frame it could be.
+    pub early: bool,
 }

@@ -1,8 +1,8 @@
 //! When captures begin and end.
 ghost use Rattle.std.specs.Prelude.{◌≡◌, ◌&&◌, List, IfOk, map};
 ghost use Rattle.std.specs.List.{list_all, list_any};
-ghost use Rattle.bench_record.specs.Recorded.{is_early, is_into_side, is_out_of_side, is_watched, latest};
-ghost use Rattle.bench_record.specs.Spans.{AreSpans, IsWithin, is_begun, is_going_on, widened};
+ghost use Rattle.bench_record.specs.Recorded.{is_behind, is_early, is_into_side, is_out_of_side, is_watched, latest};
+ghost use Rattle.bench_record.specs.Spans.{AreSpans, IsWithin, is_begun, is_going_on, is_lasting, widened};
 ghost use Rattle.bench_record.specs.declared.captured.Capture.{Capture as TheCapture};
 ghost use Rattle.bench_record.specs.declared.spans.Span.{Span as TheSpan};
 
@@ -73,6 +73,16 @@ impl Span {
         }
     }
 
+    /// Whether it has a frame behind a time, or wasn't taken in front of the unit.
+    fn is_lasting(&self, time: u64) -> bool
+        ensures { result ≡ is_lasting time self.now }
+    {
+        match self.times {
+            Some((_, greatest)) => !self.is_into() || time < greatest,
+            None => !self.is_into(),
+        }
+    }
+
     /// Whether it goes on from a time until a frame that was sent then is lost, or wasn't taken behind the unit.
     fn is_going_on(&self, lost: u64, time: u64) -> bool
         ensures { result ≡ is_going_on lost time self.now }
@@ -114,6 +124,13 @@ fn all_begun(spans: &[Span], lost: Option<u64>, time: u64) -> bool
     spans.iter().all(|span| span.is_begun(lost, time))
 }
 
+/// Whether all captures in front of the unit have a frame behind a time.
+fn all_lasting(spans: &[Span], time: u64) -> bool
+    ensures { result ≡ list_all (is_lasting time) spans.now }
+{
+    spans.iter().all(|span| span.is_lasting(time))
+}
+
 /// Whether a capture was taken behind the unit.
 fn some_out_of(spans: &[Span]) -> bool
     ensures { result ≡ list_any (λ (span : TheSpan). is_out_of_side span.side) spans.now }
@@ -153,6 +170,14 @@ pub(crate) fn is_early(spans: &[Span], lost: Option<u64>, time: u64) -> bool
 {
     let begun = are_begun(spans, lost, time);
     !begun
+}
+
+/// Whether a frame that leaves at a time may have been sent behind the end of a capture in front of the unit.
+pub(crate) fn is_behind(spans: &[Span], time: u64) -> bool
+    ensures { (captures : List TheCapture) → AreSpans captures spans.now → result ≡ is_behind captures time }
+{
+    let lasting = all_lasting(spans, time);
+    !lasting
 }
 
 /// Whether a frame that is sent at a time would be captured when it leaves: all captures behind the unit go on until it is lost.

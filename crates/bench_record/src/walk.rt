@@ -5,7 +5,7 @@ ghost use Rattle.bench_history.specs.Doubts.{IsDoubted};
 ghost use Rattle.bench_record.specs.Index.{CanSee, HasNumbers, IsSeen, core_shown, is_long, kept_shown, passed_shown};
 ghost use Rattle.bench_record.specs.Matching.{Frames, candidates, leave_at};
 ghost use Rattle.bench_record.specs.Messages.{message_of};
-ghost use Rattle.bench_record.specs.Recorded.{Seen, core_in, early, enter, extent_within, hide, is_early, is_from_before, is_missed, is_unread, leave, leave_as, leave_doubtful, leave_unmatched, losses, losses_from, may_be_hidden, may_be_unnumbered, nothing_seen, other, see, see_message, see_reply, seen_in, unread, unwritable, waits, with_events, with_frame, without_number};
+ghost use Rattle.bench_record.specs.Recorded.{Seen, core_in, early, enter, extent_within, hide, is_early, is_from_before, is_from_behind, is_missed, is_passed_over, is_unread, leave, leave_as, leave_doubtful, leave_unmatched, losses, losses_from, may_be_hidden, may_be_unnumbered, nothing_seen, other, see, see_message, see_reply, seen_in, unread, unwritable, waits, with_events, with_frame, without_number};
 ghost use Rattle.bench_record.specs.Spans.{AreSpans};
 ghost use Rattle.bench_record.specs.Text.{event_shown, timed_shown};
 ghost use Rattle.bench_record.specs.Walk.{sourced_shown, sure_of};
@@ -19,7 +19,7 @@ use crate::message::{is_managing, is_reply, read_message};
 use crate::open_frames::OpenFrames;
 use crate::passed::Passed;
 use crate::settings::RecordSettings;
-use crate::spans::{Span, is_early, is_watched, latest};
+use crate::spans::{Span, is_behind, is_early, is_watched, latest};
 use bench_history::{Doubts, Extent, SeenGem};
 use std::alloc::{AllocError, Global};
 
@@ -96,6 +96,22 @@ fn is_from_before(given: &Given<'_>, time: u64) -> bool
         → result ≡ is_from_before given.now.settings captures time }
 {
     given.settings.late && is_early(given.spans, given.settings.lost, time)
+}
+
+/// Whether a frame that leaves at a time is passed over, since it may have been sent behind the end of a capture in front of the unit.
+fn is_from_behind(given: &Given<'_>, time: u64) -> bool
+    ensures { (captures : List TheCapture) → AreSpans captures given.now.spans.now
+        → result ≡ is_from_behind given.now.settings captures time }
+{
+    given.settings.early && is_behind(given.spans, time)
+}
+
+/// Whether a frame that leaves at a time is passed over, whichever frame it could be.
+fn is_passed_over(given: &Given<'_>, time: u64) -> bool
+    ensures { (captures : List TheCapture) → AreSpans captures given.now.spans.now
+        → result ≡ is_passed_over given.now.settings captures time }
+{
+    is_from_before(given, time) || is_from_behind(given, time)
 }
 
 /// Marks that the frame of a number was seen to leave.
@@ -558,7 +574,7 @@ impl<'a> Walk<'a> {
             self.hide(frame.time)?;
             return self.pass_unread(at.source);
         }
-        if is_from_before(given, frame.time) {
+        if is_passed_over(given, frame.time) {
             self.pass_early(at.source)?;
             return self.hide(frame.time);
         }

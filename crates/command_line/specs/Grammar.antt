@@ -291,8 +291,8 @@ of_captures =
 -- what says which types begin a tag, and how long is waited
 abbrev pub by_times : App
 by_times =
-    with_rule (with_rule (with_rule (with_rule of_captures (several (codes "tpid"))) (milliseconds (codes "wait"))) (milliseconds (codes "lost")))
-    (flag (codes "late"))
+    with_rule (with_rule (with_rule (with_rule (with_rule of_captures (several (codes "tpid"))) (milliseconds (codes "wait"))) (milliseconds (codes "lost")))
+    (flag (codes "late"))) (flag (codes "early"))
 
 -- what says how the frames of captures are read
 abbrev pub by_captures : App

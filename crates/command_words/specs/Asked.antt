@@ -174,6 +174,7 @@ pub record IsRecord (rows : List Row) (words : RecordWords) : Type 0 where
   pub wait : IsOptionalNumber (codes "wait") rows words.wait
   pub lost : IsOptionalNumber (codes "lost") rows words.lost
   pub late : IsLate rows words.lost words.late
+  pub early : IsFlag (codes "early") rows words.early
   pub skews : AreTexts (codes "skew") rows words.skews.items
   pub fcs : IsFlag (codes "fcs") rows words.fcs
   pub padded : IsFlag (codes "padded") rows words.padded

@@ -492,6 +492,7 @@ fn read_record<'a>(
         wait,
         lost,
         late,
+        early: given.get_flag("early"),
         skews: texts_of(alloc, given, "skew")?,
         fcs: given.get_flag("fcs"),
         padded: given.get_flag("padded"),

@@ -287,6 +287,8 @@ pub struct RecordWords<'a> {
     pub lost: Option<u32>,
     /// Whether frames were on their way as the captures of what was sent began. It is only where a frame is said to be lost.
     pub late: bool,
+    /// Whether frames were sent behind the ends of the captures of what was sent.
+    pub early: bool,
     /// Files, each with the milliseconds that are added to its times.
     pub skews: Vec<&'a str>,
     /// Whether each frame ends in its check sequence.
@@ -297,6 +299,6 @@ pub struct RecordWords<'a> {
     pub sources: bool,
     /// The file for the history, `-` or None for standard output.
     pub out: Option<&'a str>,
-    /// Whether a frame that left in doubt, a stray, or a frame that is still open is an error.
+    /// Whether a frame that left in doubt, a stray, a frame that is still open, or a capture that may lack its tags is an error.
     pub strict: bool,
 }

@@ -2,9 +2,9 @@
 ghost use Rattle.std.specs.Prelude.{◌≡◌};
 ghost use Rattle.bench_history.specs.Among.{are_in_order, ascend_from};
 
-use crate::beginnings::may_begin_late;
 use crate::clocks::{Ahead, frames_ahead};
 use crate::tags::{has_tag, without_tags};
+use crate::unseen::{may_begin_late, may_end_early};
 use bench_history::Doubts;
 use bench_record::{Capture, RecordSettings, RecordedEvent, Recording, Source, TimedEvent};
 use std::alloc::{AllocError, Global};
@@ -26,6 +26,8 @@ pub(crate) struct Findings {
     pub(crate) doubtful: Vec<Source>,
     /// Those that left, and that no open frame can be.
     pub(crate) strays: Vec<Source>,
+    /// Whether some of these left behind the end of a capture in front of the unit, and no such frames are passed over.
+    pub(crate) may_end_early: bool,
     /// Those that left before any of their core was sent.
     pub(crate) ahead: Vec<Ahead>,
     /// Those that were sent, and neither left nor are lost.
@@ -35,8 +37,8 @@ pub(crate) struct Findings {
 }
 
 impl Findings {
-    /// Whether something in the history is in doubt, a stray or open, left out for want of room, or taken for what may have been on its way as
-    /// captures began.
+    /// Whether something in the history is in doubt, a stray or open, left out for want of room, taken for what may have been on its way as captures
+    /// began, or of a capture that may lack its tags.
     pub(crate) fn leave_doubt(&self) -> bool {
         self.may_begin_late
             || !self.unwritable.is_empty()
@@ -44,6 +46,7 @@ impl Findings {
             || !self.strays.is_empty()
             || !self.ahead.is_empty()
             || !self.open.is_empty()
+            || !self.untagged.is_empty()
     }
 }
 
@@ -255,6 +258,7 @@ pub(crate) fn find(
         unwritable: in_order(alloc, &passed.unwritable)?,
         doubtful: in_order(alloc, &finder.doubtful)?,
         strays: in_order(alloc, &finder.strays)?,
+        may_end_early: !settings.early && may_end_early(captures, &finder.strays),
         ahead: frames_ahead(alloc, captures, settings, &left)?,
         open: in_order(alloc, &open)?,
         untagged: without_tags(alloc, captures, settings.tpids, &finder.left_tagged)?,

@@ -167,6 +167,7 @@ fn settings_of<'t>(words: &RecordWords<'_>, tpids: &'t [u16]) -> RecordSettings<
         wait: words.wait.map(u64::from),
         lost: words.lost.map(u64::from),
         late: words.late,
+        early: words.early,
     }
 }
 

@@ -14,6 +14,10 @@ const NAMED: usize = 10;
 const BEGUN_LATE: &[u8] =
     b"was the sender on before the captures of --into began? --late, with --lost\n";
 
+/// What is asked where strays left behind the end of a capture in front of the unit.
+const ENDED_EARLY: &[u8] =
+    b"did the sender go on behind the ends of the captures of --into? --early\n";
+
 /// Records that follow each other, from one to another.
 #[derive(Clone, Copy)]
 struct Run {
@@ -192,6 +196,9 @@ fn report_doubts<E: Write>(names: &[&str], findings: &Findings, err: &mut E) {
     report_frames(names, &findings.doubtful, doubtful, err);
     let strays = "frames are strays, which no open frame can be";
     report_frames(names, &findings.strays, strays, err);
+    if findings.may_end_early {
+        let _ = err.write_all(ENDED_EARLY);
+    }
     for (number, name) in names.iter().enumerate() {
         report_ahead(number, name, &findings.ahead, err);
     }

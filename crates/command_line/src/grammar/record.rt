@@ -88,10 +88,16 @@ fn by_times<'a>(alloc: Global) -> Result<Command<'a>, AllocError>
         "late",
         "Frames were on their way as the captures of --into began; what left until --lost after the first record of each is passed over; wants --lost; has no value [example: --late]",
     );
+    let early = flag(
+        alloc,
+        "early",
+        "Frames were sent behind the ends of the captures of --into; what left from the last record of each on is passed over; has no value [example: --early]",
+    );
     let with_tpid = with_arg(of_captures(alloc), tpid);
     let with_wait = with_arg(with_tpid, wait);
     let with_lost = with_arg(with_wait, lost);
-    with_arg(with_lost, late)
+    let with_late = with_arg(with_lost, late);
+    with_arg(with_late, early)
 }
 
 /// The command that says what captures have of frames, too.
@@ -130,7 +136,7 @@ pub(super) fn recording<'a>(alloc: Global) -> Result<Command<'a>, AllocError>
     let strict = flag(
         alloc,
         "strict",
-        "Write nothing where a frame left in doubt, is a stray, left before it was sent, or is still open; has no value [example: --strict]",
+        "Write nothing where a frame left in doubt, is a stray, left before it was sent, is still open, or may lack its tags; has no value [example: --strict]",
     );
     let with_sources = with_arg(by_captures(alloc), sources);
     let with_out = with_arg(with_sources, out(alloc));

@@ -15,23 +15,27 @@ returns-clause-asked c =
       wait = c.in-Some.ensures.asked;
       lost = c.in-Some-read_optional.ensures.asked;
       late = c.in-Some-read_late.ensures.asked;
+      early = record {
+        with = λ e. c.get_flag.ensures.value (one_text-rows found (codes "early") ∙ e);
+        without = λ e. c.get_flag.ensures.other (one_text-rows found (codes "early") ∙ e);
+      };
       skews = c.in_ok-texts_of-5.ensures;
       fcs = record {
-        with = λ e. c.get_flag.ensures.value (one_text-rows found (codes "fcs") ∙ e);
-        without = λ e. c.get_flag.ensures.other (one_text-rows found (codes "fcs") ∙ e);
+        with = λ e. c.get_flag-2.ensures.value (one_text-rows found (codes "fcs") ∙ e);
+        without = λ e. c.get_flag-2.ensures.other (one_text-rows found (codes "fcs") ∙ e);
       };
       padded = record {
-        with = λ e. c.get_flag-2.ensures.value (one_text-rows found (codes "padded") ∙ e);
-        without = λ e. c.get_flag-2.ensures.other (one_text-rows found (codes "padded") ∙ e);
+        with = λ e. c.get_flag-3.ensures.value (one_text-rows found (codes "padded") ∙ e);
+        without = λ e. c.get_flag-3.ensures.other (one_text-rows found (codes "padded") ∙ e);
       };
       sources = record {
-        with = λ e. c.get_flag-3.ensures.value (one_text-rows found (codes "sources") ∙ e);
-        without = λ e. c.get_flag-3.ensures.other (one_text-rows found (codes "sources") ∙ e);
+        with = λ e. c.get_flag-4.ensures.value (one_text-rows found (codes "sources") ∙ e);
+        without = λ e. c.get_flag-4.ensures.other (one_text-rows found (codes "sources") ∙ e);
       };
       out = sym (first_value-rows found (codes "out")) ∙ sym c.get_str.ensures;
       strict = record {
-        with = λ e. c.get_flag-4.ensures.value (one_text-rows found (codes "strict") ∙ e);
-        without = λ e. c.get_flag-4.ensures.other (one_text-rows found (codes "strict") ∙ e);
+        with = λ e. c.get_flag-5.ensures.value (one_text-rows found (codes "strict") ∙ e);
+        without = λ e. c.get_flag-5.ensures.other (one_text-rows found (codes "strict") ∙ e);
       };
     }
 

@@ -7,7 +7,7 @@ use Rattle.bench_record.specs.Matching.{candidates}
 use Rattle.bench_record.specs.Recorded.{core_in, early, hide}
 use Rattle.bench_record.specs.Walk.{sourced_shown, sure_of}
 use Rattle.bench_record.proofs.Candidates.{candidates_in_order}
-use Rattle.bench_record.proofs.Walks.{leave_found, leave_from_before, leave_none, leave_sure, leave_unread, leave_unsure, seen_as, seen_later}
+use Rattle.bench_record.proofs.Walks.{leave_found, leave_passed_over, leave_none, leave_sure, leave_unread, leave_unsure, seen_as, seen_later}
 use Rattle.bench_record.proofs.walk.Walk.leave.Goals as goal
 
 pub leave_doubtful-requires : goal.leave_doubtful-requires
@@ -31,15 +31,15 @@ returns-then-is_unread-clause-seen c = λ captures since seen are is within long
     (c.pass_unread.ensures.seen s.lost at.frame.time (hide at.frame.time seen)
     (c.in_ok-hide.ensures.seen s.lost at.frame.time seen (seen_later s.lost since at.frame.time seen c.args.self.now within is)))
 
-pub returns-then-is_from_before-clause-seen : goal.returns-then-is_from_before-clause-seen
-returns-then-is_from_before-clause-seen c = λ captures since seen are is within long.
+pub returns-then-is_passed_over-clause-seen : goal.returns-then-is_passed_over-clause-seen
+returns-then-is_passed_over-clause-seen c = λ captures since seen are is within long.
     let s = c.args.given.now.settings in
     let at = sourced_shown c.args.at.now in
-    IfOk-weaker c.hide-then-is_from_before.result _ _
-    (λ done so. seen_as s.lost at.frame.time _ _ c.hide-then-is_from_before.new.self
-    (leave_from_before s captures at c.args.gem seen (sym c.is_unread.ensures ∙ c.if-is_unread.false)
-    (sym (c.is_from_before.ensures captures are) ∙ c.if-is_from_before.true)) so)
-    (c.hide-then-is_from_before.ensures.seen s.lost at.frame.time (early at.source seen)
+    IfOk-weaker c.hide-then-is_passed_over.result _ _
+    (λ done so. seen_as s.lost at.frame.time _ _ c.hide-then-is_passed_over.new.self
+    (leave_passed_over s captures at c.args.gem seen (sym c.is_unread.ensures ∙ c.if-is_unread.false)
+    (sym (c.is_passed_over.ensures captures are) ∙ c.if-is_passed_over.true)) so)
+    (c.hide-then-is_passed_over.ensures.seen s.lost at.frame.time (early at.source seen)
     (c.in_ok-pass_early.ensures.seen s.lost at.frame.time seen (seen_later s.lost since at.frame.time seen c.args.self.now within is)))
 
 pub returns-then-is_empty-clause-seen : goal.returns-then-is_empty-clause-seen
@@ -56,7 +56,7 @@ returns-then-is_empty-clause-seen c = λ captures since seen are is within long.
     (λ done so. seen_as s.lost at.frame.time _ _ c.leave_unmatched.new.self
     (leave_none s captures at c.args.gem seen c.in_ok-numbers.numbers.items none
     ∙ leave_found s captures at c.args.gem seen c.in_ok-numbers.numbers.items (sym c.is_unread.ensures ∙ c.if-is_unread.false)
-    (sym (c.is_from_before.ensures captures are) ∙ c.if-is_from_before.false) found) so)
+    (sym (c.is_passed_over.ensures captures are) ∙ c.if-is_passed_over.false) found) so)
     (c.leave_unmatched.ensures.seen captures at.frame.time seen are later)
 
 pub returns-in-Some-clause-seen : goal.returns-in-Some-clause-seen
@@ -75,7 +75,7 @@ returns-in-Some-clause-seen c = λ captures since seen are is within long.
     (λ done so. seen_as s.lost at.frame.time _ _ c.leave_as.new.self
     (leave_sure s captures at c.args.gem seen numbers c.in-Some.number sure
     ∙ leave_found s captures at c.args.gem seen numbers (sym c.is_unread.ensures ∙ c.if-is_unread.false)
-    (sym (c.is_from_before.ensures captures are) ∙ c.if-is_from_before.false) found) so)
+    (sym (c.is_passed_over.ensures captures are) ∙ c.if-is_passed_over.false) found) so)
     (c.leave_as.ensures.seen seen later)
 
 pub returns-in-None-clause-seen : goal.returns-in-None-clause-seen
@@ -95,5 +95,5 @@ returns-in-None-clause-seen c = λ captures since seen are is within long.
     (λ done so. seen_as s.lost at.frame.time _ _ c.leave_doubtful.new.self
     (leave_unsure s captures at c.args.gem seen numbers some unsure
     ∙ leave_found s captures at c.args.gem seen numbers (sym c.is_unread.ensures ∙ c.if-is_unread.false)
-    (sym (c.is_from_before.ensures captures are) ∙ c.if-is_from_before.false) found) so)
+    (sym (c.is_passed_over.ensures captures are) ∙ c.if-is_passed_over.false) found) so)
     (c.leave_doubtful.ensures.seen s.lost at.frame.time seen later)
