@@ -16,7 +16,7 @@ use Rattle.frame_rows.proofs.Means.{found_has}
 use Rattle.frame_classes.specs.Beside.{SideFits}
 use Rattle.frame_classes.specs.Left.{AreLeftOf, first_left, rows_of_side}
 use Rattle.frame_classes.specs.Told.{class_at, classes_at, is_shown, one_of, side_by, three_of, told_of_classes, two_of}
-use Rattle.frame_classes.proofs.Left.{find-filter}
+use Rattle.frame_classes.proofs.LeftRows.{find-filter}
 
 none_some : {X : Type 0} (x : X) → None ≡ Some x → ⊥
 none_some x e = cc

@@ -23,7 +23,7 @@ use Rattle.frame_classes.specs.Told.{class_at, classes_at, is_shown, one_of, row
 use Rattle.frame_classes.proofs.Changed.{near_changed, near_of_agree}
 use Rattle.frame_classes.proofs.Choosing.{Relation, choose_one, choose_two, pair_of, relation_of}
 use Rattle.frame_classes.proofs.Leaves.{class_near, with_itself}
-use Rattle.frame_classes.proofs.Left.{find-filter}
+use Rattle.frame_classes.proofs.LeftRows.{find-filter}
 use Rattle.frame_classes.proofs.Levels.{earlier}
 use Rattle.frame_classes.proofs.Pairs.{IsPair}
 use Rattle.frame_classes.proofs.Standing.{field_within}

@@ -15,7 +15,7 @@ use Rattle.frame_rows.specs.Sight.{Side}
 use Rattle.frame_classes.specs.Left.{AreLeftOf, is_of, rows_at, rows_of_side}
 use Rattle.frame_classes.specs.Told.{rows_of_all}
 use Rattle.frame_classes.specs.Splitting.{CanBe, IsOf}
-use Rattle.frame_classes.proofs.Left.{fields-more, filter-filter, passes-append, rows_at-filter}
+use Rattle.frame_classes.proofs.LeftRows.{fields-more, filter-filter, passes-append, rows_at-filter}
 use Rattle.frame_classes.proofs.Near.{value-with_other, value-with_same}
 use Rattle.frame_classes.proofs.Step.{passes_before}
 

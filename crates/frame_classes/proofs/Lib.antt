@@ -1,5 +1,9 @@
 pub mod Finding
-pub mod Left
+pub mod LeftRows
+pub mod Filtered
+pub mod WordPlaces
+pub mod Masks
+pub mod FirstPlaces
 pub mod Near
 pub mod Step
 pub mod Leaves
@@ -31,6 +35,7 @@ pub mod Staying
 pub mod Kept
 pub mod Silent
 pub mod Sought
+pub mod MetRows
 pub mod KnownClasses
 pub mod Lines
 pub mod SameTags

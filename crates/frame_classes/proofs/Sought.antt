@@ -72,7 +72,7 @@ none_told : (told : Told) → None ≡ Some told → ⊥
 none_told told e = cc
 
 -- the class by the one between
-between : (before here after : Option FrameClass) (told : Told) (used : Use) → three_of before here after ≡ Some told → is_wanted (Some used) told ≡ true
+pub between : (before here after : Option FrameClass) (told : Told) (used : Use) → three_of before here after ≡ Some told → is_wanted (Some used) told ≡ true
     → (class : FrameClass) × ((here ≡ Some class) × (same_use class.used used ≡ true))
 between None here after told used is looked = absurd (none_told told is)
 between (Some b) None after told used is looked = absurd (none_told told is)
@@ -81,7 +81,7 @@ between (Some b) (Some h) (Some a) told used is looked =
     (h, (refl, subst (λ (t : Told). is_wanted (Some used) t ≡ true) (sym (some_told (Three b h a) told is)) looked))
 
 -- and the row that gives it
-row_of : (o : Option Row) (give : Row → FrameClass) (class : FrameClass) → option_map give o ≡ Some class → (row : Row) × ((o ≡ Some row) × (give row ≡ class))
+pub row_of : (o : Option Row) (give : Row → FrameClass) (class : FrameClass) → option_map give o ≡ Some class → (row : Row) × ((o ≡ Some row) × (give row ≡ class))
 row_of None give class is = absurd (none_class is)
   where
     none_class : None ≡ Some class → ⊥
@@ -91,7 +91,7 @@ row_of (Some row) give class is = (row, (refl, some_class is))
     some_class : Some (give row) ≡ Some class → give row ≡ class
     some_class e = cc
 
-shown : (b : Bool) (told : Option Told) (some : Told) → (if b then told else None) ≡ Some some → told ≡ Some some
+pub shown : (b : Bool) (told : Option Told) (some : Told) → (if b then told else None) ≡ Some some → told ≡ Some some
 shown true told some is = is
 shown false told some is = absurd (none_told some is)
 

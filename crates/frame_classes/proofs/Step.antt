@@ -17,7 +17,7 @@ use Rattle.frame_rows.specs.Field.{place_of, value_at, with_value}
 use Rattle.frame_rows.specs.Source.{dscp_behind}
 use Rattle.frame_rows.specs.Row.{ends_read, marking_reads, passes, row_admits, row_marks, row_reads}
 use Rattle.frame_classes.specs.Splitting.{IsNear, Stands, StandsFor}
-use Rattle.frame_classes.proofs.Left.{passes-append}
+use Rattle.frame_classes.proofs.LeftRows.{passes-append}
 use Rattle.frame_classes.proofs.Near.{row_reads-later, row_reads-same, value-with_other, value-with_same}
 
 -- ---- what a filter leaves

@@ -3,10 +3,12 @@ pub mod Differences
 pub mod Frame
 pub mod Told
 pub mod Listed
+pub mod Words
 pub mod Left
 pub mod Beside
 pub mod Settled
 pub mod Silent
+pub mod Meeting
 pub mod Found
 pub mod Choices
 pub mod Splitting

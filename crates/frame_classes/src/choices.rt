@@ -6,8 +6,9 @@ ghost use Rattle.arrayvec.specs.ArrayVec.{array_vec_len};
 ghost use Rattle.frame_rows.specs.declared.row.Row.{Row};
 ghost use Rattle.frame_rows.specs.Row.{ask_at, named_by};
 
+use crate::left::Left;
 use crate::settled::are_rows_settled;
-use crate::sides::{MAX_ROWS, Sides};
+use crate::sides::Sides;
 use arrayvec::ArrayVec;
 use frame_rows::{Field, LONG, Packet, Row, Values};
 use tag_view::is_tag_type;
@@ -18,9 +19,6 @@ pub(crate) const MAX_CHOICES: usize = 600;
 /// Values of a field.
 pub(crate) type Choices = ArrayVec<u16, MAX_CHOICES>;
 
-/// Rows, by their places.
-pub(crate) type Left = ArrayVec<u16, MAX_ROWS>;
-
 /// Types, as one sends them first: of tags, of packets, and four of which one at least is no input TPID (IEEE 802, the local
 /// experimental Ethertypes, the one that an organisation extends, and the one of the configuration test).
 const TYPES: [u16; 12] = [
@@ -30,13 +28,12 @@ const TYPES: [u16; 12] = [
 /// Lengths, each the greatest of those that nothing tells apart. The first stands for all that are greater, too.
 const LENGTHS: [u16; 7] = [LONG, 23, 21, 19, 17, 15, 13];
 
-/// One value.
-fn only(value: u16) -> Choices
-    ensures { result.items ≡ value ∷ [] }
+/// Puts one value alone.
+fn put_only(choices: &mut Choices, value: u16)
+    requires { choices.old.items ≡ [] }
+    ensures { choices.new.items ≡ value ∷ [] }
 {
-    let mut choices = Choices::new();
     choices.push(value);
-    choices
 }
 
 /// The rows that ask nothing of the fields before one that the values there aren't, and these values.
@@ -63,23 +60,23 @@ impl<'r> Case<'r> {
     ghost use Rattle.frame_classes.specs.Told.{side_by};
     ghost use Rattle.frame_classes.specs.Splitting.{AreCovering, HasSeveral, begins_tag};
 
-    fn row(&self, place: u16) -> Option<&'r Row>
+    fn row(&self, place: usize) -> Option<&'r Row>
         ensures { option_copied result ≡ slice_get self.now.rows.now place }
     {
-        self.rows.get(usize::from(place))
+        self.rows.get(place)
     }
 
     /// Whether no row that is left tells two values of a field apart.
     fn are_alike(&self, field: Field, one: u16, other: u16) -> bool
         ensures { result
-            ≡ are_alike self.now.rows.now self.now.left.now.items self.now.values.now field one other }
+            ≡ are_alike self.now.rows.now self.now.left.now self.now.values.now field one other }
     {
         self.left
             .iter()
-            .all(|place| self.is_alike_at(*place, field, one, other))
+            .all(|place| self.is_alike_at(place, field, one, other))
     }
 
-    fn is_alike_at(&self, place: u16, field: Field, one: u16, other: u16) -> bool
+    fn is_alike_at(&self, place: usize, field: Field, one: u16, other: u16) -> bool
         ensures { result
             ≡ test_at (is_alike self.now.values.now field one other) true self.now.rows.now place }
     {
@@ -91,24 +88,24 @@ impl<'r> Case<'r> {
 
     /// Whether a row that is left names a value of a field.
     fn is_named(&self, field: Field, value: u16) -> bool
-        ensures { result ≡ is_named self.now.rows.now self.now.left.now.items field value }
+        ensures { result ≡ is_named self.now.rows.now self.now.left.now field value }
     {
         self.left
             .iter()
-            .any(|place| self.named_at(*place, field) == Some(value))
+            .any(|place| self.named_at(place, field) == Some(value))
     }
 
     /// Whether a row that is left names any value of a field.
     fn is_asked(&self, field: Field) -> bool
-        ensures { result ≡ is_asked self.now.rows.now self.now.left.now.items field }
+        ensures { result ≡ is_asked self.now.rows.now self.now.left.now field }
     {
         self.left
             .iter()
-            .any(|place| self.named_at(*place, field).is_some())
+            .any(|place| self.named_at(place, field).is_some())
     }
 
     /// The value of a field that the row at a place names.
-    fn named_at(&self, place: u16, field: Field) -> Option<u16>
+    fn named_at(&self, place: usize, field: Field) -> Option<u16>
         ensures { result ≡ option_and_then (λ (row : Row). named_by (ask_at row field))
             (slice_get self.now.rows.now place) }
     {
@@ -118,12 +115,12 @@ impl<'r> Case<'r> {
 
     /// Whether the ending of the frames of a row that is left, or the priority of an added tag, depends on each value of a field.
     fn is_read(&self, field: Field) -> bool
-        ensures { result ≡ is_read self.now.rows.now self.now.left.now.items field }
+        ensures { result ≡ is_read self.now.rows.now self.now.left.now field }
     {
-        self.left.iter().any(|place| self.is_read_at(*place, field))
+        self.left.iter().any(|place| self.is_read_at(place, field))
     }
 
-    fn is_read_at(&self, place: u16, field: Field) -> bool
+    fn is_read_at(&self, place: usize, field: Field) -> bool
         ensures { result ≡ test_at (λ row. row_reads_all field row) false self.now.rows.now place }
     {
         match self.row(place) {
@@ -132,26 +129,29 @@ impl<'r> Case<'r> {
         }
     }
 
-    /// Values of a field, in frames of at least so many bytes, with which the sides see frames as they do with each other value.
-    pub(crate) fn choices(&self, field: Field, least: usize) -> Choices
+    /// Puts values of a field, in frames of at least so many bytes, with which the sides see frames as they do with each other value.
+    pub(crate) fn put_choices(&self, choices: &mut Choices, field: Field, least: usize)
+        requires none { choices.old.items ≡ [] }
         requires beside { AreBeside self.now.sides.now.sides.now self.now.rows.now
             self.now.sides.now.ends }
         requires same { self.now.rows.now ≡ self.now.sides.now.rows.now }
         requires left { AreLeftOf (map side_by self.now.sides.now.sides.now) (take (place_of field) fields) self.now.values.now
-            self.now.left.now.items }
-        requires few { length self.now.left.now.items ≤ 402 }
-        ensures { AreCovering (map side_by self.now.sides.now.sides.now) self.now.left.now.items
-            least field self.now.values.now result.items }
+            self.now.left.now }
+        requires few { length self.now.left.now ≤ 402 }
+        ensures { AreCovering (map side_by self.now.sides.now.sides.now) self.now.left.now
+            least field self.now.values.now choices.new.items }
     {
         if self.values.get(Field::Length) < field.end() {
-            return only(0);
+            return put_only(choices, 0);
         }
         match field {
-            Field::FirstType | Field::SecondType | Field::ThirdType => self.types(field),
-            Field::Length => self.lengths(least),
-            Field::FirstVid | Field::SecondVid | Field::ThirdVid => self.vids(field),
-            Field::FirstPriority | Field::SecondPriority => self.numbers(field, 8),
-            Field::FirstEligible | Field::SecondEligible => self.numbers(field, 2),
+            Field::FirstType | Field::SecondType | Field::ThirdType => {
+                self.put_types(choices, field)
+            }
+            Field::Length => self.put_lengths(choices, least),
+            Field::FirstVid | Field::SecondVid | Field::ThirdVid => self.put_vids(choices, field),
+            Field::FirstPriority | Field::SecondPriority => self.put_numbers(choices, field, 8),
+            Field::FirstEligible | Field::SecondEligible => self.put_numbers(choices, field, 2),
         }
     }
 
@@ -162,7 +162,7 @@ impl<'r> Case<'r> {
         ensures only { (c : ℕ) → Contains choices.new.items c
             → Contains choices.old.items c ⊎ (c ≡ value) }
         ensures stands { Any (λ c. (c ≡ value) ⊎ (are_alike self.now.rows.now
-            self.now.left.now.items self.now.values.now field c value ≡ true)) choices.new.items }
+            self.now.left.now self.now.values.now field c value ≡ true)) choices.new.items }
         ensures len { array_vec_len choices.new ≤ array_vec_len choices.old + 1 }
     {
         if !self.has_alike(choices, field, value) {
@@ -172,7 +172,7 @@ impl<'r> Case<'r> {
 
     /// Whether one of some values is like another.
     fn has_alike(&self, choices: &Choices, field: Field, value: u16) -> bool
-        ensures { result ≡ list_any (λ c. are_alike self.now.rows.now self.now.left.now.items
+        ensures { result ≡ list_any (λ c. are_alike self.now.rows.now self.now.left.now
             self.now.values.now field c value) choices.now.items }
     {
         choices
@@ -203,25 +203,25 @@ impl<'r> Case<'r> {
         }
     }
 
-    /// Types, behind the length.
-    fn types(&self, field: Field) -> Choices
+    /// Puts types, behind the length.
+    fn put_types(&self, choices: &mut Choices, field: Field)
+        requires none { choices.old.items ≡ [] }
         requires beside { AreBeside self.now.sides.now.sides.now self.now.rows.now
             self.now.sides.now.ends }
         requires left { AreLeftOf (map side_by self.now.sides.now.sides.now) (take (place_of field) fields) self.now.values.now
-            self.now.left.now.items }
+            self.now.left.now }
         requires eleven { length self.now.values.now.values ≡ 11 }
         requires behind { 0 < place_of field }
         requires early { place_of field < 4 }
         requires long { end_of field ≤ value_at Length self.now.values.now }
-        ensures { (least : ℕ) → AreCovering (map side_by self.now.sides.now.sides.now) self.now.left.now.items
-            least field self.now.values.now result.items }
+        ensures { (least : ℕ) → AreCovering (map side_by self.now.sides.now.sides.now) self.now.left.now
+            least field self.now.values.now choices.new.items }
     {
-        let mut choices = only(self.first_type(field));
+        put_only(choices, self.first_type(field));
         for ethertype in &TYPES {
-            self.put_type(&mut choices, field, *ethertype);
+            self.put_type(choices, field, *ethertype);
         }
-        self.put_inputs(&mut choices, field);
-        choices
+        self.put_inputs(choices, field);
     }
 
     /// Puts the input TPID of each side.
@@ -233,7 +233,7 @@ impl<'r> Case<'r> {
         ensures fit { All (λ c. c < 2 ^ 16) choices.old.items → All (λ c. c < 2 ^ 16) choices.new.items }
         ensures stands { All (λ side. Any (λ c. (c ≡ side.settings.input_tpid)
             ⊎ (((begins_tag (map side_by self.now.sides.now.sides.now) side.settings.input_tpid ≡ false ⊎ (length self.now.sides.now.sides.now ≤ 1))
-            ⊎ (place_of field ≡ 3)) × (are_alike self.now.rows.now self.now.left.now.items self.now.values.now field c side.settings.input_tpid ≡ true)))
+            ⊎ (place_of field ≡ 3)) × (are_alike self.now.rows.now self.now.left.now self.now.values.now field c side.settings.input_tpid ≡ true)))
             choices.new.items) (map side_by self.now.sides.now.sides.now) }
     {
         for side in self.sides.sides {
@@ -256,7 +256,7 @@ impl<'r> Case<'r> {
             → Contains choices.old.items c ⊎ (c ≡ ethertype) }
         ensures stands { Any (λ c. (c ≡ ethertype)
             ⊎ (((begins_tag (map side_by self.now.sides.now.sides.now) ethertype ≡ false ⊎ (length self.now.sides.now.sides.now ≤ 1))
-            ⊎ (place_of field ≡ 3)) × (are_alike self.now.rows.now self.now.left.now.items self.now.values.now field c ethertype ≡ true)))
+            ⊎ (place_of field ≡ 3)) × (are_alike self.now.rows.now self.now.left.now self.now.values.now field c ethertype ≡ true)))
             choices.new.items }
         ensures len { array_vec_len choices.new ≤ array_vec_len choices.old + 1 }
     {
@@ -266,20 +266,19 @@ impl<'r> Case<'r> {
         self.put(choices, field, ethertype);
     }
 
-    /// Lengths, each the greatest of those that rows don't tell apart, in frames of at least so many bytes.
-    fn lengths(&self, least: usize) -> Choices
+    /// Puts lengths, each the greatest of those that rows don't tell apart, in frames of at least so many bytes.
+    fn put_lengths(&self, choices: &mut Choices, least: usize)
+        requires none { choices.old.items ≡ [] }
         requires beside { AreBeside self.now.sides.now.sides.now self.now.rows.now
             self.now.sides.now.ends }
         requires left { AreLeftOf (map side_by self.now.sides.now.sides.now) [] self.now.values.now
-            self.now.left.now.items }
-        ensures { AreCovering (map side_by self.now.sides.now.sides.now) self.now.left.now.items
-            least Length self.now.values.now result.items }
+            self.now.left.now }
+        ensures { AreCovering (map side_by self.now.sides.now.sides.now) self.now.left.now
+            least Length self.now.values.now choices.new.items }
     {
-        let mut choices = Choices::new();
         for length in &LENGTHS {
-            self.put_length(&mut choices, *length, least);
+            self.put_length(choices, *length, least);
         }
-        choices
     }
 
     /// Puts a length that a frame of at least so many bytes can have behind the others, if it is like none of them.
@@ -289,7 +288,7 @@ impl<'r> Case<'r> {
         ensures only { (c : ℕ) → Contains choices.new.items c
             → Contains choices.old.items c ⊎ ((c ≡ length) × IsTried least length) }
         ensures stands { IsTried least length → Any (λ c. (c ≡ length) ⊎ (are_alike self.now.rows.now
-            self.now.left.now.items self.now.values.now Length c length ≡ true)) choices.new.items }
+            self.now.left.now self.now.values.now Length c length ≡ true)) choices.new.items }
         ensures len { array_vec_len choices.new ≤ array_vec_len choices.old + 1 }
     {
         if length == LONG {
@@ -300,29 +299,30 @@ impl<'r> Case<'r> {
         }
     }
 
-    /// Numbers under `end`: all where a row asks for one or depends on them; else as many as there are sides, or one where that
-    /// stands for all.
-    fn numbers(&self, field: Field, end: u16) -> Choices
+    /// Puts numbers under `end`: all where a row asks for one or depends on them; else as many as there are sides, or one where
+    /// that stands for all.
+    fn put_numbers(&self, choices: &mut Choices, field: Field, end: u16)
+        requires none { choices.old.items ≡ [] }
         requires beside { AreBeside self.now.sides.now.sides.now self.now.rows.now
             self.now.sides.now.ends }
         requires same { self.now.rows.now ≡ self.now.sides.now.rows.now }
         requires left { AreLeftOf (map side_by self.now.sides.now.sides.now) (take (place_of field) fields) self.now.values.now
-            self.now.left.now.items }
+            self.now.left.now }
         requires eleven { length self.now.values.now.values ≡ 11 }
         requires late { 6 < place_of field }
         requires end { end ≡ limit_of field }
         requires few { end ≤ 8 }
         requires long { end_of field ≤ value_at Length self.now.values.now }
-        ensures { (least : ℕ) → AreCovering (map side_by self.now.sides.now.sides.now) self.now.left.now.items
-            least field self.now.values.now result.items }
+        ensures { (least : ℕ) → AreCovering (map side_by self.now.sides.now.sides.now) self.now.left.now
+            least field self.now.values.now choices.new.items }
     {
         if self.is_read(field) || self.is_asked(field) {
-            return up_to(end);
+            return put_up_to(choices, end);
         }
         if self.is_settled(field) {
-            return only(self.values.plain(field));
+            return put_only(choices, self.values.plain(field));
         }
-        self.several(field, end)
+        self.put_several(choices, field, end);
     }
 
     /// Whether one value of a priority, or of a drop eligible indicator, that no row asks or ends by stands for all.
@@ -330,7 +330,7 @@ impl<'r> Case<'r> {
         requires beside { AreBeside self.now.sides.now.sides.now self.now.rows.now
             self.now.sides.now.ends }
         requires same { self.now.rows.now ≡ self.now.sides.now.rows.now }
-        ensures { result ≡ is_settled (map side_by self.now.sides.now.sides.now) self.now.left.now.items field }
+        ensures { result ≡ is_settled (map side_by self.now.sides.now.sides.now) self.now.left.now field }
     {
         match self.sides.count() {
             0 | 1 => true,
@@ -346,7 +346,7 @@ impl<'r> Case<'r> {
         requires same { self.now.rows.now ≡ self.now.sides.now.rows.now }
         requires one { one < 3 }
         requires other { other < 3 }
-        ensures { result ≡ are_settled (map side_by self.now.sides.now.sides.now) self.now.left.now.items field one other }
+        ensures { result ≡ are_settled (map side_by self.now.sides.now.sides.now) self.now.left.now field one other }
     {
         match (
             self.sides.first(self.left, one),
@@ -357,109 +357,108 @@ impl<'r> Case<'r> {
         }
     }
 
-    /// As many values under `end` as there are sides, or all if they are fewer, first the one that one sends.
-    fn several(&self, field: Field, end: u16) -> Choices
+    /// Puts as many values under `end` as there are sides, or all if they are fewer, first the one that one sends.
+    fn put_several(&self, choices: &mut Choices, field: Field, end: u16)
+        requires none { choices.old.items ≡ [] }
         requires beside { AreBeside self.now.sides.now.sides.now self.now.rows.now
             self.now.sides.now.ends }
         requires end { end ≡ limit_of field }
         requires some { 2 ≤ end }
-        ensures fit { All (λ c. c < end) result.items }
-        ensures several { HasSeveral (length self.now.sides.now.sides.now) (λ c. Contains result.items c)
-            ⊎ ((v : ℕ) → v < end → Contains result.items v) }
+        ensures fit { All (λ c. c < end) choices.new.items }
+        ensures several { HasSeveral (length self.now.sides.now.sides.now) (λ c. Contains choices.new.items c)
+            ⊎ ((v : ℕ) → v < end → Contains choices.new.items v) }
     {
-        let mut choices = Choices::new();
         let plain = self.values.plain(field);
         for number in 0..(self.sides.count() as u16).min(end) {
             choices.push((plain + number) % end);
         }
-        choices
     }
 
-    /// As many VIDs as there are sides, or as many for each DSCP where a row depends on it, beside those that are named; and those.
-    fn vids(&self, field: Field) -> Choices
+    /// Puts as many VIDs as there are sides, or as many for each DSCP where a row depends on it, beside those that are named; and
+    /// those.
+    fn put_vids(&self, choices: &mut Choices, field: Field)
+        requires none { choices.old.items ≡ [] }
         requires beside { AreBeside self.now.sides.now.sides.now self.now.rows.now
             self.now.sides.now.ends }
         requires left { AreLeftOf (map side_by self.now.sides.now.sides.now) (take (place_of field) fields) self.now.values.now
-            self.now.left.now.items }
+            self.now.left.now }
         requires eleven { length self.now.values.now.values ≡ 11 }
         requires behind { 3 < place_of field }
         requires early { place_of field < 7 }
         requires long { end_of field ≤ value_at Length self.now.values.now }
-        requires few { length self.now.left.now.items ≤ 402 }
-        ensures { (least : ℕ) → AreCovering (map side_by self.now.sides.now.sides.now) self.now.left.now.items
-            least field self.now.values.now result.items }
+        requires few { length self.now.left.now ≤ 402 }
+        ensures { (least : ℕ) → AreCovering (map side_by self.now.sides.now.sides.now) self.now.left.now
+            least field self.now.values.now choices.new.items }
     {
         let packet = self.values.packet(field);
         if self.is_told_by_dscp(field, packet) {
-            return self.vids_by_dscp(field, packet);
+            return self.put_vids_by_dscp(choices, field, packet);
         }
         if self.is_asked(field) {
-            return self.vids_by_name(field);
+            return self.put_vids_by_name(choices, field);
         }
-        self.several(field, 4096)
+        self.put_several(choices, field, 4096);
     }
 
     /// Whether a row that is left depends on the DSCP of a packet, which is in a field.
     fn is_told_by_dscp(&self, field: Field, packet: Packet) -> bool
         ensures { result ≡ (has_dscp packet
-            && is_read self.now.rows.now self.now.left.now.items field) }
+            && is_read self.now.rows.now self.now.left.now field) }
     {
         packet.has_dscp() && self.is_read(field)
     }
 
-    /// Each VID that is named, and before them as many that aren't as there are sides.
-    fn vids_by_name(&self, field: Field) -> Choices
+    /// Puts each VID that is named, and before them as many that aren't as there are sides.
+    fn put_vids_by_name(&self, choices: &mut Choices, field: Field)
+        requires none { choices.old.items ≡ [] }
         requires beside { AreBeside self.now.sides.now.sides.now self.now.rows.now
             self.now.sides.now.ends }
-        requires few { length self.now.left.now.items ≤ 402 }
-        ensures fit { All (λ c. c < 2 ^ 12) result.items }
+        requires few { length self.now.left.now ≤ 402 }
+        ensures fit { All (λ c. c < 2 ^ 12) choices.new.items }
         ensures named { (c : ℕ) → c < 2 ^ 12
-            → is_named self.now.rows.now self.now.left.now.items field c ≡ true → Contains result.items c }
-        ensures others { (v : ℕ) → v < 2 ^ 12 → is_named self.now.rows.now self.now.left.now.items field v ≡ false
-            → Contains result.items v ⊎ HasSeveral (length self.now.sides.now.sides.now)
-            (λ c. Contains result.items c × (is_named self.now.rows.now self.now.left.now.items field c ≡ false)) }
+            → is_named self.now.rows.now self.now.left.now field c ≡ true → Contains choices.new.items c }
+        ensures others { (v : ℕ) → v < 2 ^ 12 → is_named self.now.rows.now self.now.left.now field v ≡ false
+            → Contains choices.new.items v ⊎ HasSeveral (length self.now.sides.now.sides.now)
+            (λ c. Contains choices.new.items c × (is_named self.now.rows.now self.now.left.now field c ≡ false)) }
     {
-        let mut choices = Choices::new();
-        self.put_unnamed(&mut choices, field);
-        self.put_named(&mut choices, field);
-        choices
+        self.put_unnamed(choices, field);
+        self.put_named(choices, field);
     }
 
-    /// Each VID that is named, and before them for each DSCP as many that aren't as there are sides.
-    fn vids_by_dscp(&self, field: Field, packet: Packet) -> Choices
+    /// Puts each VID that is named, and before them for each DSCP as many that aren't as there are sides.
+    fn put_vids_by_dscp(&self, choices: &mut Choices, field: Field, packet: Packet)
+        requires none { choices.old.items ≡ [] }
         requires beside { AreBeside self.now.sides.now.sides.now self.now.rows.now
             self.now.sides.now.ends }
-        requires few { length self.now.left.now.items ≤ 402 }
+        requires few { length self.now.left.now ≤ 402 }
         requires has { has_dscp packet ≡ true }
-        ensures fit { All (λ c. c < 2 ^ 12) result.items }
+        ensures fit { All (λ c. c < 2 ^ 12) choices.new.items }
         ensures named { (c : ℕ) → c < 2 ^ 12
-            → is_named self.now.rows.now self.now.left.now.items field c ≡ true → Contains result.items c }
-        ensures others { (v : ℕ) → v < 2 ^ 12 → is_named self.now.rows.now self.now.left.now.items field v ≡ false
-            → Contains result.items v ⊎ HasSeveral (length self.now.sides.now.sides.now)
-            (λ c. Contains result.items c × IsUnnamed self.now.rows.now self.now.left.now.items field packet (dscp_in packet v) c) }
+            → is_named self.now.rows.now self.now.left.now field c ≡ true → Contains choices.new.items c }
+        ensures others { (v : ℕ) → v < 2 ^ 12 → is_named self.now.rows.now self.now.left.now field v ≡ false
+            → Contains choices.new.items v ⊎ HasSeveral (length self.now.sides.now.sides.now)
+            (λ c. Contains choices.new.items c × IsUnnamed self.now.rows.now self.now.left.now field packet (dscp_in packet v) c) }
     {
-        let mut choices = Choices::new();
-        self.put_each_dscp(&mut choices, field, packet);
-        self.put_named(&mut choices, field);
-        choices
+        self.put_each_dscp(choices, field, packet);
+        self.put_named(choices, field);
     }
 
     /// Puts each VID that is named.
     fn put_named(&self, choices: &mut Choices, field: Field)
-        requires { length choices.old.items + length self.now.left.now.items ≤ 600 }
+        requires { length choices.old.items + length self.now.left.now ≤ 600 }
         ensures kept { (c : ℕ) → Contains choices.old.items c → Contains choices.new.items c }
         ensures fit { All (λ c. c < 2 ^ 12) choices.old.items → All (λ c. c < 2 ^ 12) choices.new.items }
         ensures named { (c : ℕ) → c < 2 ^ 12
-            → is_named self.now.rows.now self.now.left.now.items field c ≡ true
+            → is_named self.now.rows.now self.now.left.now field c ≡ true
             → Contains choices.new.items c }
     {
-        for place in self.left {
-            self.put_named_at(choices, *place, field);
+        for place in self.left.iter() {
+            self.put_named_at(choices, place, field);
         }
     }
 
     /// Puts the VID that the row at a place names, if there is one.
-    fn put_named_at(&self, choices: &mut Choices, place: u16, field: Field)
+    fn put_named_at(&self, choices: &mut Choices, place: usize, field: Field)
         requires { array_vec_len choices.old < 600 }
         ensures kept { (c : ℕ) → Contains choices.old.items c → Contains choices.new.items c }
         ensures fit { All (λ c. c < 2 ^ 12) choices.old.items → All (λ c. c < 2 ^ 12) choices.new.items }
@@ -479,9 +478,9 @@ impl<'r> Case<'r> {
             self.now.sides.now.ends }
         requires none { choices.old.items ≡ [] }
         ensures fit { All (λ c. c < 2 ^ 12) choices.new.items }
-        ensures others { (v : ℕ) → v < 2 ^ 12 → is_named self.now.rows.now self.now.left.now.items field v ≡ false
+        ensures others { (v : ℕ) → v < 2 ^ 12 → is_named self.now.rows.now self.now.left.now field v ≡ false
             → Contains choices.new.items v ⊎ HasSeveral (length self.now.sides.now.sides.now)
-            (λ c. Contains choices.new.items c × (is_named self.now.rows.now self.now.left.now.items field c ≡ false)) }
+            (λ c. Contains choices.new.items c × (is_named self.now.rows.now self.now.left.now field c ≡ false)) }
         ensures len { length choices.new.items ≤ 3 }
     {
         for number in 0..4096u16 {
@@ -495,7 +494,7 @@ impl<'r> Case<'r> {
     /// Puts a VID, if no row that is left names it.
     fn put_if_unnamed(&self, choices: &mut Choices, field: Field, vid: u16)
         requires { array_vec_len choices.old < 600 }
-        ensures { choices.new.items ≡ (if is_named self.now.rows.now self.now.left.now.items field vid then choices.old.items else choices.old.items ++ vid ∷ []) }
+        ensures { choices.new.items ≡ (if is_named self.now.rows.now self.now.left.now field vid then choices.old.items else choices.old.items ++ vid ∷ []) }
     {
         if !self.is_named(field, vid) {
             choices.push(vid);
@@ -509,9 +508,9 @@ impl<'r> Case<'r> {
         requires none { choices.old.items ≡ [] }
         requires has { has_dscp packet ≡ true }
         ensures fit { All (λ c. c < 2 ^ 12) choices.new.items }
-        ensures others { (v : ℕ) → v < 2 ^ 12 → is_named self.now.rows.now self.now.left.now.items field v ≡ false
+        ensures others { (v : ℕ) → v < 2 ^ 12 → is_named self.now.rows.now self.now.left.now field v ≡ false
             → Contains choices.new.items v ⊎ HasSeveral (length self.now.sides.now.sides.now)
-            (λ c. Contains choices.new.items c × IsUnnamed self.now.rows.now self.now.left.now.items field packet (dscp_in packet v) c) }
+            (λ c. Contains choices.new.items c × IsUnnamed self.now.rows.now self.now.left.now field packet (dscp_in packet v) c) }
         ensures len { length choices.new.items ≤ 192 }
     {
         for dscp in 0..64u16 {
@@ -528,9 +527,9 @@ impl<'r> Case<'r> {
         requires has { has_dscp packet ≡ true }
         ensures kept { (c : ℕ) → Contains choices.old.items c → Contains choices.new.items c }
         ensures fit { All (λ c. c < 2 ^ 12) choices.old.items → All (λ c. c < 2 ^ 12) choices.new.items }
-        ensures others { (v : ℕ) → v < 2 ^ 12 → dscp_in packet v ≡ Some dscp → is_named self.now.rows.now self.now.left.now.items field v ≡ false
+        ensures others { (v : ℕ) → v < 2 ^ 12 → dscp_in packet v ≡ Some dscp → is_named self.now.rows.now self.now.left.now field v ≡ false
             → Contains choices.new.items v ⊎ HasSeveral (length self.now.sides.now.sides.now)
-            (λ c. Contains choices.new.items c × IsUnnamed self.now.rows.now self.now.left.now.items field packet (Some dscp) c) }
+            (λ c. Contains choices.new.items c × IsUnnamed self.now.rows.now self.now.left.now field packet (Some dscp) c) }
         ensures len { length choices.new.items ≤ length choices.old.items + 3 }
     {
         let enough = choices.len() + self.sides.count();
@@ -543,16 +542,15 @@ impl<'r> Case<'r> {
     }
 }
 
-/// The numbers under `end`.
-fn up_to(end: u16) -> Choices
-    requires { end ≤ 8 }
-    ensures { result.items ≡ range_with_len 0 end }
+/// Puts the numbers under `end`.
+fn put_up_to(choices: &mut Choices, end: u16)
+    requires none { choices.old.items ≡ [] }
+    requires few { end ≤ 8 }
+    ensures { choices.new.items ≡ range_with_len 0 end }
 {
-    let mut choices = Choices::new();
     for number in 0..end {
         choices.push(number);
     }
-    choices
 }
 
 /// Puts a value, if it isn't there.

@@ -7,7 +7,7 @@ ghost use Rattle.frame_rows.specs.Row.{ending_of};
 ghost use Rattle.frame_rows.specs.Source.{priority_by};
 ghost use Rattle.frame_classes.specs.Splitting.{Agree};
 
-use crate::choices::Left;
+use crate::left::Left;
 use crate::settled::asks_nothing;
 use crate::sides::Sides;
 use crate::told::Told;
@@ -68,7 +68,7 @@ impl<'r> Sides<'r> {
         field: Field,
     ) -> Option<FrameClass>
         requires beside { AreBeside self.now.sides.now self.now.rows.now self.now.ends }
-        requires left { AreLeftOf (map side_by self.now.sides.now) (take (place_of field) fields) values.now left.now.items }
+        requires left { AreLeftOf (map side_by self.now.sides.now) (take (place_of field) fields) values.now left.now }
         requires three { side < 3 }
         ensures { IfSome (slice_get self.now.sides.now side) (λ (s : _). IfSome result (λ (class : _).
             (others : Values) → Agree (place_of field) values.now others → class_at (side_by s) others ≡ Some class)) }
@@ -86,7 +86,7 @@ impl<'r> Sides<'r> {
     /// values are.
     pub(crate) fn known(&self, left: &Left, values: &Values, field: Field) -> Option<Told>
         requires beside { AreBeside self.now.sides.now self.now.rows.now self.now.ends }
-        requires left { AreLeftOf (map side_by self.now.sides.now) (take (place_of field) fields) values.now left.now.items }
+        requires left { AreLeftOf (map side_by self.now.sides.now) (take (place_of field) fields) values.now left.now }
         ensures { IfSome result (λ (told : _). (others : Values) → Agree (place_of field) values.now others
             → classes_at (map side_by self.now.sides.now) others ≡ Some told) }
     {

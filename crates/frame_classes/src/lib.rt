@@ -20,16 +20,22 @@
 //! one shows the difference. **Why nothing is too much:** each value that is looked at is one that a frame can have, and a frame of the
 //! values is written, and has them.
 //!
-//! **What it costs.** A case costs its rows. Nothing grows but the list that is given.
+//! **One use.** Where only the frames of one entry are looked for, or of none, rows that no such frame can have are left out before: those that ask for
+//! another value of some field than every row of that use does.
+//!
+//! **What it costs.** A case costs its rows, which are bits of a few words. Nothing grows but the list that is given.
 #![tactic(auto)]
 
 mod choices;
 mod example;
 mod found;
 mod known;
+mod left;
 mod listing;
+mod meeting;
 mod settled;
 mod sides;
+mod spare;
 mod splitting;
 mod told;
 

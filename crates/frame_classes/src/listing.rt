@@ -10,6 +10,7 @@ ghost use Rattle.frame_classes.specs.Told.{side_by};
 
 use crate::example::{ClassExample, Difference, Tear, frame_of};
 use crate::found::{Found, Sample};
+use crate::meeting::met;
 use crate::sides::{Sides, rows_of};
 use crate::splitting::Splitting;
 use crate::told::Told;
@@ -96,7 +97,10 @@ pub fn torn_by(
     let first = Rows::of(alloc, before, port)?;
     let between = Rows::of(alloc, here, port)?;
     let last = Rows::of(alloc, after, port)?;
-    let sides = [first, between, last];
+    let earlier = met(alloc, &between.rows, used, &first)?;
+    let here = met(alloc, &between.rows, used, &between)?;
+    let later = met(alloc, &between.rows, used, &last)?;
+    let sides = [earlier, here, later];
     let found = found_of(alloc, &sides, least, Some(used))?;
     tears_of(alloc, port, &found, least)
 }
@@ -124,7 +128,7 @@ fn found_of(
         least,
         wanted,
     };
-    splitting.find_all(&mut found)?;
+    splitting.find_all(alloc, &mut found)?;
     Ok(found)
 }
 

@@ -6,7 +6,7 @@ ghost use Rattle.frame_rows.specs.Sight.{rows_apart, same_tag, same_tags, tags_a
 ghost use Rattle.frame_classes.specs.Silent.{AreFirstAlike};
 ghost use Rattle.frame_classes.specs.Told.{rows_of_all, side_by};
 
-use crate::choices::Left;
+use crate::left::Left;
 use crate::settled::are_seen_alike;
 use crate::told::{Told, is_same_use};
 use frame_rows::{Ending, Field, FrameClass, Row, Rows, Use, Values};
@@ -98,12 +98,11 @@ impl<'r> Sides<'r> {
     }
 
     /// Whether the row at a place is one of a side, under 3.
-    fn is_of(&self, place: u16, side: usize) -> bool
+    fn is_of(&self, place: usize, side: usize) -> bool
         requires beside { AreBeside self.now.sides.now self.now.rows.now self.now.ends }
         requires three { side < 3 }
         ensures { result ≡ is_of (map side_by self.now.sides.now) side place }
     {
-        let place = usize::from(place);
         match side {
             0 => place < self.ends[0],
             1 => self.ends[0] <= place && place < self.ends[1],
@@ -114,20 +113,20 @@ impl<'r> Sides<'r> {
     /// Of the rows that are left those of the second side of this use.
     pub(crate) fn used_of(&self, left: &Left, used: Use) -> Left
         requires beside { AreBeside self.now.sides.now self.now.rows.now self.now.ends }
-        requires few { length left.now.items ≤ 402 }
-        ensures { result.items ≡ filter (is_used_at (map side_by self.now.sides.now) used) left.now.items }
+        requires few { length left.now ≤ 402 }
+        ensures { result ≡ filter (is_used_at (map side_by self.now.sides.now) used) left.now }
     {
-        let mut places = Left::new();
-        for place in left {
-            if self.is_used_at(*place, used) {
-                places.push(*place);
+        let mut places = Left::none();
+        for place in left.iter() {
+            if self.is_used_at(place, used) {
+                places.push(place);
             }
         }
         places
     }
 
     /// Whether the row at a place is one of the second side, and of this use.
-    fn is_used_at(&self, place: u16, used: Use) -> bool
+    fn is_used_at(&self, place: usize, used: Use) -> bool
         requires beside { AreBeside self.now.sides.now self.now.rows.now self.now.ends }
         ensures { result ≡ is_used_at (map side_by self.now.sides.now) used place }
     {
@@ -135,10 +134,10 @@ impl<'r> Sides<'r> {
     }
 
     /// Whether the row at a place, if one stands there, is of this use.
-    fn is_used(&self, place: u16, used: Use) -> bool
+    fn is_used(&self, place: usize, used: Use) -> bool
         ensures { result ≡ test_at (λ row. same_use row.used used) false self.now.rows.now place }
     {
-        match self.rows.get(usize::from(place)) {
+        match self.rows.get(place) {
             Some(row) => is_same_use(row.used, used),
             None => false,
         }
@@ -148,11 +147,11 @@ impl<'r> Sides<'r> {
     pub(crate) fn first(&self, left: &Left, side: usize) -> Option<&'r Row>
         requires beside { AreBeside self.now.sides.now self.now.rows.now self.now.ends }
         requires three { side < 3 }
-        ensures { option_copied result ≡ first_left (map side_by self.now.sides.now) left.now.items side }
+        ensures { option_copied result ≡ first_left (map side_by self.now.sides.now) left.now side }
     {
-        for place in left {
-            if self.is_of(*place, side) {
-                if let Some(row) = self.rows.get(usize::from(*place)) {
+        for place in left.iter() {
+            if self.is_of(place, side) {
+                if let Some(row) = self.rows.get(place) {
                     return Some(row);
                 }
             }
@@ -163,7 +162,7 @@ impl<'r> Sides<'r> {
     /// Whether nothing is told of frames for which these rows are left, whatever their values of a field and those behind it are.
     pub(crate) fn is_silent(&self, left: &Left, field: Field) -> bool
         requires beside { AreBeside self.now.sides.now self.now.rows.now self.now.ends }
-        ensures { result ≡ true → IsSilent (map side_by self.now.sides.now) left.now.items field }
+        ensures { result ≡ true → IsSilent (map side_by self.now.sides.now) left.now field }
     {
         match self.sides.len() {
             0 | 1 => false,
@@ -179,8 +178,8 @@ impl<'r> Sides<'r> {
         requires other { other < 3 }
         ensures { result ≡ true → IfSome (slice_get self.now.sides.now one) (λ (s : _).
             IfSome (slice_get self.now.sides.now other) (λ (t : _).
-            AreFirstAlike field (side_by s) (side_by t) (first_left (map side_by self.now.sides.now) left.now.items one)
-            (first_left (map side_by self.now.sides.now) left.now.items other))) }
+            AreFirstAlike field (side_by s) (side_by t) (first_left (map side_by self.now.sides.now) left.now one)
+            (first_left (map side_by self.now.sides.now) left.now other))) }
     {
         let row = self.first(left, one);
         let beside = self.first(left, other);
@@ -193,7 +192,7 @@ impl<'r> Sides<'r> {
     /// The class of frames with these values by a side, where these rows are left.
     fn class(&self, left: &Left, side: usize, values: &Values) -> Option<FrameClass>
         requires beside { AreBeside self.now.sides.now self.now.rows.now self.now.ends }
-        requires left { AreLeftOf (map side_by self.now.sides.now) fields values.now left.now.items }
+        requires left { AreLeftOf (map side_by self.now.sides.now) fields values.now left.now }
         requires three { side < 3 }
         ensures { IfSome (slice_get self.now.sides.now side) (λ (s : _). result ≡ class_at (side_by s) values.now) }
     {
@@ -206,7 +205,7 @@ impl<'r> Sides<'r> {
     /// The class of frames with these values by each side, where these rows are left.
     pub(crate) fn classes(&self, left: &Left, values: &Values) -> Option<Told>
         requires beside { AreBeside self.now.sides.now self.now.rows.now self.now.ends }
-        requires left { AreLeftOf (map side_by self.now.sides.now) fields values.now left.now.items }
+        requires left { AreLeftOf (map side_by self.now.sides.now) fields values.now left.now }
         ensures { result ≡ classes_at (map side_by self.now.sides.now) values.now }
     {
         let first = self.class(left, 0, values);
@@ -219,7 +218,7 @@ impl<'r> Sides<'r> {
     /// otherwise; of three, where the one between sees them otherwise than the first and the last.
     pub(crate) fn is_shown(&self, left: &Left, values: &Values) -> bool
         requires beside { AreBeside self.now.sides.now self.now.rows.now self.now.ends }
-        requires left { AreLeftOf (map side_by self.now.sides.now) fields values.now left.now.items }
+        requires left { AreLeftOf (map side_by self.now.sides.now) fields values.now left.now }
         ensures { result ≡ is_shown (map side_by self.now.sides.now) values.now }
     {
         match self.sides.len() {
@@ -242,7 +241,7 @@ impl<'r> Sides<'r> {
         reasons: bool,
     ) -> bool
         requires beside { AreBeside self.now.sides.now self.now.rows.now self.now.ends }
-        requires left { AreLeftOf (map side_by self.now.sides.now) fields values.now left.now.items }
+        requires left { AreLeftOf (map side_by self.now.sides.now) fields values.now left.now }
         requires one { one < 3 }
         requires other { other < 3 }
         ensures { IfSome (slice_get self.now.sides.now one) (λ (s : _).

@@ -1,12 +1,14 @@
 //! Frames told apart, field by field.
 ghost use Rattle.frame_rows.specs.declared.field.Values.{Values};
 
-use crate::choices::{Case, Left};
+use crate::choices::Case;
 use crate::found::Found;
+use crate::left::Left;
 use crate::sides::Sides;
+use crate::spare::Spare;
 use crate::told::{Told, is_wanted};
 use frame_rows::{Field, Use, Values};
-use std::alloc::AllocError;
+use std::alloc::{AllocError, Global};
 
 /// The frames of at least so many bytes that come in at a port, told apart by its rows.
 #[derive(Drop)]
@@ -32,7 +34,7 @@ impl<'r> Splitting<'r> {
     ghost use Rattle.frame_classes.specs.Found.{Ascend, told_of};
 
     /// Finds what is told of all frames.
-    pub(crate) fn find_all(&self, found: &mut Found) -> Result<(), AllocError>
+    pub(crate) fn find_all(&self, alloc: Global, found: &mut Found) -> Result<(), AllocError>
         requires beside { AreBeside self.now.sides.now.sides.now self.now.sides.now.rows.now
             self.now.sides.now.ends }
         requires none { found.old.samples.items ≡ [] }
@@ -43,17 +45,19 @@ impl<'r> Splitting<'r> {
         ensures every { OnOk result ((values : Values) → AreAllFound (map side_by self.now.sides.now.sides.now) self.now.wanted
             self.now.least 0 values found.new.samples.items) }
     {
-        let mut left = Left::new();
+        let mut left = Left::none();
         for place in 0..self.sides.rows.len() {
-            left.push(place as u16);
+            left.push(place);
         }
-        self.find(found, &left, Values::zero(), 0)
+        let mut spare = Spare::new(alloc);
+        self.find(found, &mut spare, &left, Values::zero(), 0)
     }
 
     /// Finds the classes of frames that have these values in the fields before a level, where these rows are left.
     fn find(
         &self,
         found: &mut Found,
+        spare: &mut Spare,
         left: &Left,
         values: Values,
         level: usize,
@@ -61,9 +65,9 @@ impl<'r> Splitting<'r> {
         requires beside { AreBeside self.now.sides.now.sides.now self.now.sides.now.rows.now
             self.now.sides.now.ends }
         requires level { level ≤ length fields }
-        requires few { length left.now.items ≤ 402 }
+        requires few { length left.now ≤ 402 }
         requires eleven { length values.values ≡ length fields }
-        requires left { AreLeftOf (map side_by self.now.sides.now.sides.now) (take level fields) values left.now.items }
+        requires left { AreLeftOf (map side_by self.now.sides.now.sides.now) (take level fields) values left.now }
         requires values { IsOf self.now.least (take level fields) values }
         requires samples { All (IsSample (map side_by self.now.sides.now.sides.now) self.now.least) found.old.samples.items }
         requires ascend { Ascend found.old.samples.items }
@@ -90,12 +94,21 @@ impl<'r> Splitting<'r> {
             values: &values,
             sides: self.sides,
         };
-        for value in &case.choices(*field, self.least) {
+        let mut choices = spare.take()?;
+        case.put_choices(&mut choices, *field, self.least);
+        for value in &*choices {
             if self.leads(&sought, *field, *value) {
                 let narrower = self.narrowed(left, *field, *value);
-                self.find(found, &narrower, values.with(*field, *value), level + 1)?;
+                self.find(
+                    found,
+                    spare,
+                    &narrower,
+                    values.with(*field, *value),
+                    level + 1,
+                )?;
             }
         }
+        spare.give(choices)?;
         Ok(())
     }
 
@@ -104,7 +117,7 @@ impl<'r> Splitting<'r> {
     fn is_known(&self, found: &Found, left: &Left, values: &Values, field: Field) -> bool
         requires beside { AreBeside self.now.sides.now.sides.now self.now.sides.now.rows.now
             self.now.sides.now.ends }
-        requires left { AreLeftOf (map side_by self.now.sides.now.sides.now) (take (place_of field) fields) values.now left.now.items }
+        requires left { AreLeftOf (map side_by self.now.sides.now.sides.now) (take (place_of field) fields) values.now left.now }
         requires samples { All (IsSample (map side_by self.now.sides.now.sides.now) self.now.least) found.now.samples.items }
         requires ascend { Ascend found.now.samples.items }
         ensures { result ≡ true → (others : Values) (told : _) → Agree (place_of field) values.now others
@@ -121,9 +134,9 @@ impl<'r> Splitting<'r> {
     fn sought(&self, left: &Left) -> Option<Left>
         requires beside { AreBeside self.now.sides.now.sides.now self.now.sides.now.rows.now
             self.now.sides.now.ends }
-        requires few { length left.now.items ≤ 402 }
-        ensures { IfSome result (λ (sought : _). AreSought (map side_by self.now.sides.now.sides.now) self.now.wanted left.now.items
-            sought.items) }
+        requires few { length left.now ≤ 402 }
+        ensures { IfSome result (λ (sought : _). AreSought (map side_by self.now.sides.now.sides.now) self.now.wanted left.now
+            sought) }
     {
         match self.wanted {
             Some(used) if self.sides.count() > 2 => Some(self.sides.used_of(left, used)),
@@ -134,7 +147,7 @@ impl<'r> Splitting<'r> {
     /// Whether frames with a value of a field may be such as are looked for: a row of them admits it.
     fn leads(&self, sought: &Option<Left>, field: Field, value: u16) -> bool
         ensures { result ≡ option_map_or (λ (places : _). list_any (test_at (λ row. row_admits row field value) false
-            self.now.sides.now.rows.now) places.items) sought.now true }
+            self.now.sides.now.rows.now) places) sought.now true }
     {
         match sought {
             None => true,
@@ -145,35 +158,35 @@ impl<'r> Splitting<'r> {
     /// Whether a row at one of these places admits a value of a field.
     fn admits_any(&self, places: &Left, field: Field, value: u16) -> bool
         ensures { result ≡ list_any (test_at (λ row. row_admits row field value) false self.now.sides.now.rows.now)
-            places.now.items }
+            places.now }
     {
         places
             .iter()
-            .any(|place| self.admits_at(*place, field, value))
+            .any(|place| self.admits_at(place, field, value))
     }
 
     /// The rows that a value of a field leaves.
     fn narrowed(&self, left: &Left, field: Field, value: u16) -> Left
-        requires { length left.now.items ≤ 402 }
-        ensures few { length result.items ≤ 402 }
-        ensures items { result.items ≡ filter (test_at (λ row. row_admits row field value) false
-            self.now.sides.now.rows.now) left.now.items }
+        requires { length left.now ≤ 402 }
+        ensures few { length result ≤ 402 }
+        ensures items { result ≡ filter (test_at (λ row. row_admits row field value) false
+            self.now.sides.now.rows.now) left.now }
     {
-        let mut narrower = Left::new();
-        for place in left {
-            if self.admits_at(*place, field, value) {
-                narrower.push(*place);
+        let mut narrower = Left::none();
+        for place in left.iter() {
+            if self.admits_at(place, field, value) {
+                narrower.push(place);
             }
         }
         narrower
     }
 
     /// Whether the row at a place, if one stands there, admits a value of a field.
-    fn admits_at(&self, place: u16, field: Field, value: u16) -> bool
+    fn admits_at(&self, place: usize, field: Field, value: u16) -> bool
         ensures { result ≡ test_at (λ row. row_admits row field value) false
             self.now.sides.now.rows.now place }
     {
-        match self.sides.rows.get(usize::from(place)) {
+        match self.sides.rows.get(place) {
             Some(row) => row.admits(field, value),
             None => false,
         }
@@ -184,7 +197,7 @@ impl<'r> Splitting<'r> {
         requires beside { AreBeside self.now.sides.now.sides.now self.now.sides.now.rows.now
             self.now.sides.now.ends }
         requires eleven { length values.values ≡ length fields }
-        requires left { AreLeftOf (map side_by self.now.sides.now.sides.now) fields values left.now.items }
+        requires left { AreLeftOf (map side_by self.now.sides.now.sides.now) fields values left.now }
         requires values { IsOf self.now.least fields values }
         requires samples { All (IsSample (map side_by self.now.sides.now.sides.now) self.now.least) found.old.samples.items }
         requires ascend { Ascend found.old.samples.items }
@@ -213,7 +226,7 @@ impl<'r> Splitting<'r> {
             self.now.sides.now.ends }
         requires eleven { length values.values ≡ length fields }
         requires classes { classes_at (map side_by self.now.sides.now.sides.now) values ≡ Some told }
-        requires left { AreLeftOf (map side_by self.now.sides.now.sides.now) fields values left.now.items }
+        requires left { AreLeftOf (map side_by self.now.sides.now.sides.now) fields values left.now }
         requires values { IsOf self.now.least fields values }
         requires samples { All (IsSample (map side_by self.now.sides.now.sides.now) self.now.least) found.old.samples.items }
         requires ascend { Ascend found.old.samples.items }

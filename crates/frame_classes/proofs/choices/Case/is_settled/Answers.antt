@@ -13,7 +13,7 @@ returns-in-2 c =
     let same = length-map self.sides.now.sides.now side_by in
     let counted = c.count.ensures in
     let two = c.in-2.is in
-    c.are_settled.ensures ∙ sym (settled_two (map side_by self.sides.now.sides.now) self.left.now.items c.args.field (omega (arith, same, counted, two)))
+    c.are_settled.ensures ∙ sym (settled_two (map side_by self.sides.now.sides.now) self.left.now c.args.field (omega (arith, same, counted, two)))
 
 and_first : (r a b : Bool) → r ≡ a → r ≡ false → r ≡ (a && b)
 and_first r true b p q = absurd (true≢false (sym p ∙ q))
@@ -26,9 +26,9 @@ returns-else-are_settled c =
     let same = length-map self.sides.now.sides.now side_by in
     let counted = c.count.ensures in
     let three : 2 < length sides = omega (arith, same, counted) in
-    and_first c.are_settled-in_default.result (are_settled sides self.left.now.items c.args.field 1 0) (are_settled sides self.left.now.items c.args.field 1 2)
+    and_first c.are_settled-in_default.result (are_settled sides self.left.now c.args.field 1 0) (are_settled sides self.left.now c.args.field 1 2)
     c.are_settled-in_default.ensures c.if-are_settled.false
-    ∙ sym (settled_three sides self.left.now.items c.args.field three)
+    ∙ sym (settled_three sides self.left.now c.args.field three)
 
 and_second : (r a b : Bool) → a ≡ true → r ≡ b → r ≡ (a && b)
 and_second r true b p q = q
@@ -41,7 +41,7 @@ returns-then-are_settled c =
     let same = length-map self.sides.now.sides.now side_by in
     let counted = c.count.ensures in
     let three : 2 < length sides = omega (arith, same, counted) in
-    and_second c.are_settled-then-are_settled.result (are_settled sides self.left.now.items c.args.field 1 0)
-    (are_settled sides self.left.now.items c.args.field 1 2) (sym c.are_settled-in_default.ensures ∙ c.if-are_settled.true)
+    and_second c.are_settled-then-are_settled.result (are_settled sides self.left.now c.args.field 1 0)
+    (are_settled sides self.left.now c.args.field 1 2) (sym c.are_settled-in_default.ensures ∙ c.if-are_settled.true)
     c.are_settled-then-are_settled.ensures
-    ∙ sym (settled_three sides self.left.now.items c.args.field three)
+    ∙ sym (settled_three sides self.left.now c.args.field three)

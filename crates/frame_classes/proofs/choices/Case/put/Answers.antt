@@ -7,6 +7,6 @@ pub returns-else-not-has_alike-clause-stands : goal.returns-else-not-has_alike-c
 returns-else-not-has_alike-clause-stands c =
     let is =
     Any-from_list_any
-    (λ (v : ℕ). are_alike c.args.self.now.rows.now c.args.self.now.left.now.items c.args.self.now.values.now c.args.field v c.args.value)
+    (λ (v : ℕ). are_alike c.args.self.now.rows.now c.args.self.now.left.now c.args.self.now.values.now c.args.field v c.args.value)
     c.args.choices.now.items (sym c.if-not-has_alike.ensures) in
     (is.0, is.1, is.2, is.3, inr is.4)

@@ -10,7 +10,7 @@ pub loop-other-preserved : goal.loop-other-preserved
 loop-other-preserved c =
     let n = c.loop-other.other in
     let bits = bits_by c.args.packet c.args.dscp in
-    let named = is_named c.args.self.now.rows.now c.args.self.now.left.now.items c.args.field in
+    let named = is_named c.args.self.now.rows.now c.args.self.now.left.now c.args.field in
     let items = c.loop-other.choices.items in
     let more = c.put_if_unnamed.new.choices.items in
     let put = put_bits named items more c.bits.result (bits n) c.bits.ensures.value c.put_if_unnamed.ensures in
@@ -26,7 +26,7 @@ loop-other-preserved c =
 
 pub returns-clause-others : goal.returns-clause-others
 returns-clause-others c = λ v small is free.
-    let named = is_named c.args.self.now.rows.now c.args.self.now.left.now.items c.args.field in
+    let named = is_named c.args.self.now.rows.now c.args.self.now.left.now c.args.field in
     let at = bits_found c.args.packet c.args.dscp v c.requires.has small is in
     let less = at.1.0 in
     inl (subst (Contains c.loop-other.choices.items) at.1.1

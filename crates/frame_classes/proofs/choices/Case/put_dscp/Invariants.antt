@@ -11,5 +11,5 @@ invariant-loop-other l =
     record {
       few : length l.choices.items ≤ length l.initial.choices.items + length l.self.sides.now.sides.now;
       fit : All (λ c. c < 2 ^ 12) l.initial.choices.items → All (λ c. c < 2 ^ 12) l.choices.items;
-      tried : AreTried (λ k. bits_by l.packet l.dscp k) (is_named l.self.rows.now l.self.left.now.items l.field) l.initial.choices.items l.choices.items l.other;
+      tried : AreTried (λ k. bits_by l.packet l.dscp k) (is_named l.self.rows.now l.self.left.now l.field) l.initial.choices.items l.choices.items l.other;
     }

@@ -10,7 +10,7 @@ use Rattle.frame_classes.proofs.choices.Case.put_each_dscp.Goals as goal
 pub loop-dscp-preserved : goal.loop-dscp-preserved
 loop-dscp-preserved c =
     let rows = c.args.self.now.rows.now in
-    let places = c.args.self.now.left.now.items in
+    let places = c.args.self.now.left.now in
     let count = length c.args.self.now.sides.now.sides.now in
     let few = c.loop-dscp.invariant.few in
     let len = c.put_dscp.ensures.len in
@@ -31,7 +31,7 @@ loop-dscp-preserved c =
 pub returns-clause-others : goal.returns-clause-others
 returns-clause-others c = λ v small free.
     let rows = c.args.self.now.rows.now in
-    let places = c.args.self.now.left.now.items in
+    let places = c.args.self.now.left.now in
     let count = length c.args.self.now.sides.now.sides.now in
     let found = dscp_small c.args.packet v c.requires.has in
     let less = found.1.0 in

@@ -11,7 +11,7 @@ invariant-loop-dscp l =
     record {
       few : length l.choices.items ≤ 3 * l.dscp;
       fit : All (λ c. c < 2 ^ 12) l.choices.items;
-      others : (v : ℕ) (d : ℕ) → v < 2 ^ 12 → d < l.dscp → dscp_in l.packet v ≡ Some d → is_named l.self.rows.now l.self.left.now.items l.field v ≡ false
+      others : (v : ℕ) (d : ℕ) → v < 2 ^ 12 → d < l.dscp → dscp_in l.packet v ≡ Some d → is_named l.self.rows.now l.self.left.now l.field v ≡ false
           → Contains l.choices.items v ⊎ HasSeveral (length l.self.sides.now.sides.now)
-          (λ c. Contains l.choices.items c × IsUnnamed l.self.rows.now l.self.left.now.items l.field l.packet (Some d) c);
+          (λ c. Contains l.choices.items c × IsUnnamed l.self.rows.now l.self.left.now l.field l.packet (Some d) c);
     }

@@ -23,10 +23,10 @@ loop-side-preserved c =
       kept = λ v h. c.put_type.ensures.kept v (c.loop-side.invariant.kept v h);
       fit = λ fit. fit_more c.loop-side.choices.items c.put_type.new.choices.items item.settings.input_tpid fits c.put_type.ensures.only
           (c.loop-side.invariant.fit fit);
-      cover = inputs_more (map side_by self.sides.now.sides.now) (length self.sides.now.sides.now) self.rows.now self.left.now.items self.values.now
+      cover = inputs_more (map side_by self.sides.now.sides.now) (length self.sides.now.sides.now) self.rows.now self.left.now self.values.now
           c.args.field c.loop-side.choices.items c.put_type.new.choices.items c.loop-side.side-index (side_by item)
           (omega (arith, same)) c.put_type.ensures.kept
-          (subst (λ (s : Side). Covers (map side_by self.sides.now.sides.now) (length self.sides.now.sides.now) self.rows.now self.left.now.items self.values.now
+          (subst (λ (s : Side). Covers (map side_by self.sides.now.sides.now) (length self.sides.now.sides.now) self.rows.now self.left.now self.values.now
           c.args.field c.put_type.new.choices.items s.settings.input_tpid) (sym at) c.put_type.ensures.stands)
           c.loop-side.invariant.cover;
     }
@@ -37,5 +37,5 @@ returns-clause-stands c =
     let sides = map side_by self.sides.now.sides.now in
     let same = length-map self.sides.now.sides.now side_by in
     let all : length sides ≤ c.loop-side.side-index = omega (arith, same) in
-    subst (All (λ side. Covers sides (length self.sides.now.sides.now) self.rows.now self.left.now.items
+    subst (All (λ side. Covers sides (length self.sides.now.sides.now) self.rows.now self.left.now
     self.values.now c.args.field c.loop-side.choices.items side.settings.input_tpid)) (take_all c.loop-side.side-index sides all) c.loop-side.invariant.cover

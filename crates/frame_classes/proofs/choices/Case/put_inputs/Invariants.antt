@@ -11,6 +11,6 @@ invariant-loop-side l =
       few : length l.choices.items ≤ length l.initial.choices.items + l.side-index;
       kept : (c : ℕ) → Contains l.initial.choices.items c → Contains l.choices.items c;
       fit : All (λ c. c < 2 ^ 16) l.initial.choices.items → All (λ c. c < 2 ^ 16) l.choices.items;
-      cover : All (λ side. Covers (map side_by l.self.sides.now.sides.now) (length l.self.sides.now.sides.now) l.self.rows.now l.self.left.now.items
+      cover : All (λ side. Covers (map side_by l.self.sides.now.sides.now) (length l.self.sides.now.sides.now) l.self.rows.now l.self.left.now
           l.self.values.now l.field l.choices.items side.settings.input_tpid) (take l.side-index (map side_by l.self.sides.now.sides.now));
     }

@@ -1,12 +1,12 @@
-use Rattle.std.proofs.Common.{◌≡◌, List, ℕ, ap, arith, inr, length, subst, sym, true}
+use Rattle.std.proofs.Common.{◌≡◌, List, ℕ, ap, arith, inr, length, subst, sym, true, ◌∙◌}
 use Rattle.frame_classes.specs.Choices.{is_named}
 use Rattle.frame_classes.proofs.Vids.{named_further}
 use Rattle.frame_classes.proofs.choices.Case.put_named.Goals as goal
 
 pub loop-place-init : goal.loop-place-init
 loop-place-init c =
-    let rest = c.into_iter-place-iterator.ensures.into_iter_gives.0 in
-    let count : length c.into_iter-place-iterator.result.rest.now ≡ length c.args.self.now.left.now.items = ap length rest in
+    let rest = c.into_iter-place-iterator.ensures.into_iter_gives ∙ c.iter-place-items.ensures.places in
+    let count : length c.into_iter-place-iterator.result ≡ length c.args.self.now.left.now = ap length rest in
     record {
       room = omega (arith, c.requires);
       kept = λ v h. h;
@@ -25,7 +25,7 @@ loop-place-preserved c =
       kept = λ v h. c.put_named_at.ensures.kept v (c.loop-place.invariant.kept v h);
       fit = λ h. c.put_named_at.ensures.fit (c.loop-place.invariant.fit h);
       named = λ v small h.
-          named_further c.args.self.now.rows.now c.loop-place.place-iterator.rest.now c.next.new.self.rest.now c.in-Some.place.now c.args.field
+          named_further c.args.self.now.rows.now c.loop-place.place-iterator c.next.new.self c.in-Some.place c.args.field
           c.loop-place.choices.items c.put_named_at.new.choices.items steps c.put_named_at.ensures.kept c.put_named_at.ensures.named v small
           (c.loop-place.invariant.named v small h);
     }

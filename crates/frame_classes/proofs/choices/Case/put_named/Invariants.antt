@@ -7,9 +7,9 @@ use Rattle.frame_classes.proofs.choices.Case.put_named.Given as goal
 abbrev pub invariant-loop-place : goal.invariant-loop-place
 invariant-loop-place l =
     record {
-      room : length l.choices.items + length l.place-iterator.rest.now ≤ 600;
+      room : length l.choices.items + length l.place-iterator ≤ 600;
       kept : (c : ℕ) → Contains l.initial.choices.items c → Contains l.choices.items c;
       fit : All (λ c. c < 2 ^ 12) l.initial.choices.items → All (λ c. c < 2 ^ 12) l.choices.items;
-      named : (c : ℕ) → c < 2 ^ 12 → is_named l.self.rows.now l.self.left.now.items l.field c ≡ true
-          → Contains l.choices.items c ⊎ (is_named l.self.rows.now l.place-iterator.rest.now l.field c ≡ true);
+      named : (c : ℕ) → c < 2 ^ 12 → is_named l.self.rows.now l.self.left.now l.field c ≡ true
+          → Contains l.choices.items c ⊎ (is_named l.self.rows.now l.place-iterator l.field c ≡ true);
     }

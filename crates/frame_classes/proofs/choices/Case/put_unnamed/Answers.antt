@@ -7,7 +7,7 @@ use Rattle.frame_classes.proofs.choices.Case.put_unnamed.Goals as goal
 pub loop-number-preserved : goal.loop-number-preserved
 loop-number-preserved c =
     let n = c.loop-number.number in
-    let named = is_named c.args.self.now.rows.now c.args.self.now.left.now.items c.args.field in
+    let named = is_named c.args.self.now.rows.now c.args.self.now.left.now c.args.field in
     let items = c.loop-number.choices.items in
     let more = c.put_if_unnamed.new.choices.items in
     let put = c.put_if_unnamed.ensures in
@@ -20,7 +20,7 @@ loop-number-preserved c =
 
 pub returns-clause-others : goal.returns-clause-others
 returns-clause-others c = λ v small free.
-    let named = is_named c.args.self.now.rows.now c.args.self.now.left.now.items c.args.field in
+    let named = is_named c.args.self.now.rows.now c.args.self.now.left.now c.args.field in
     let at = vid_at v small in
     let less = at.1.0 in
     inl (subst (Contains c.loop-number.choices.items) at.1.1

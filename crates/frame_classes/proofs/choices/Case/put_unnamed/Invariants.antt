@@ -10,5 +10,5 @@ invariant-loop-number l =
     record {
       few : length l.choices.items ≤ length l.self.sides.now.sides.now;
       fit : All (λ c. c < 2 ^ 12) l.choices.items;
-      tried : AreTried (λ k. (k + 1) % 4096) (is_named l.self.rows.now l.self.left.now.items l.field) [] l.choices.items l.number;
+      tried : AreTried (λ k. (k + 1) % 4096) (is_named l.self.rows.now l.self.left.now l.field) [] l.choices.items l.number;
     }

@@ -13,13 +13,13 @@ returns-in-Some-Some c =
     let sides = c.args.self.now.sides.now in
     let values = c.args.values.now in
     if_some (λ (s : Rows). Some c.class.result ≡ class_at (side_by s) values) (slice_get sides c.args.side) (λ s is.
-    class_of sides c.args.side s values c.args.left.now.items (Some c.in-Some-Some.row.now) (Some c.class.result) c.requires.left is c.in-Some-Some.ensures
+    class_of sides c.args.side s values c.args.left.now (Some c.in-Some-Some.row.now) (Some c.class.result) c.requires.left is c.in-Some-Some.ensures
     (ap (λ (k : FrameClass). Some k) (c.class.ensures ∙ ap (λ (r : Rows). class_of_row r.endings c.in-Some-Some.row.now values) (c.in-Some-Some.ensures'.lookup.3.1 s ∙ at_get sides c.args.side s is))))
 
 pub returns-in_default-2 : goal.returns-in_default-2
 returns-in_default-2 c =
     let sides = c.args.self.now.sides.now in
     let values = c.args.values.now in
-    let none : ◌≡◌ {A = Option Row} None (first_left (map side_by sides) c.args.left.now.items c.args.side) = search rules in
+    let none : ◌≡◌ {A = Option Row} None (first_left (map side_by sides) c.args.left.now c.args.side) = search rules in
     if_some (λ (s : Rows). ◌≡◌ {A = Option FrameClass} None (class_at (side_by s) values)) (slice_get sides c.args.side) (λ s is.
-    class_of sides c.args.side s values c.args.left.now.items None None c.requires.left is none refl)
+    class_of sides c.args.side s values c.args.left.now None None c.requires.left is none refl)

@@ -1,4 +1,4 @@
-use Rattle.std.proofs.Common.{◌≡◌, ◌+◌, ◌≤◌, ◌++◌, length}
+use Rattle.std.proofs.Common.{◌≡◌, ◌++◌}
 use Rattle.std.specs.Prelude.{filter, map}
 use Rattle.frame_classes.specs.Silent.{is_used_at}
 use Rattle.frame_classes.specs.Told.{side_by}
@@ -8,7 +8,4 @@ use Rattle.frame_classes.proofs.sides.Sides.used_of.Given as goal
 abbrev pub invariant-loop-place : goal.invariant-loop-place
 invariant-loop-place l =
     let test = is_used_at (map side_by l.self.sides.now) l.used in
-    record {
-      left : l.places.items ++ filter test l.place-iterator.rest.now ≡ filter test l.left.items;
-      few : length l.places.items + length l.place-iterator.rest.now ≤ 402;
-    }
+    l.places ++ filter test l.place-iterator ≡ filter test l.left

@@ -22,7 +22,7 @@ pub keep-requires-clause-left : goal.keep-requires-clause-left
 keep-requires-clause-left t c =
     let past : 11 ≤ c.args.level = c.in_default.ensures.lookup.3 in
     let all : c.args.level ≡ 11 = omega (arith, c.requires.level) in
-    subst (λ (n : ℕ). AreLeftOf (map side_by c.args.self.now.sides.now.sides.now) (take n fields) c.args.values c.args.left.now.items) all c.requires.left
+    subst (λ (n : ℕ). AreLeftOf (map side_by c.args.self.now.sides.now.sides.now) (take n fields) c.args.values c.args.left.now) all c.requires.left
 
 pub keep-requires-clause-values : goal.keep-requires-clause-values
 keep-requires-clause-values t c =
@@ -30,23 +30,23 @@ keep-requires-clause-values t c =
     let all : c.args.level ≡ 11 = omega (arith, c.requires.level) in
     subst (λ (n : ℕ). IsOf c.args.self.now.least (take n fields) c.args.values) all c.requires.values
 
-pub choices-requires-clause-left : goal.choices-requires-clause-left
-choices-requires-clause-left t c =
+pub put_choices-requires-clause-left : goal.put_choices-requires-clause-left
+put_choices-requires-clause-left t c =
     let field = c.in-Some.field.now in
     let at = is_at c.args.level field c.in-Some.ensures.lookup.3.0 (c.in-Some.ensures.lookup.3.1 Length) in
-    subst (λ (n : ℕ). AreLeftOf (map side_by c.args.self.now.sides.now.sides.now) (take n fields) c.args.values c.args.left.now.items) (sym at.place) c.requires.left
+    subst (λ (n : ℕ). AreLeftOf (map side_by c.args.self.now.sides.now.sides.now) (take n fields) c.args.values c.args.left.now) (sym at.place) c.requires.left
 
 pub loop-value-init : goal.loop-value-init
 loop-value-init t c =
     let sides = map side_by c.args.self.now.sides.now.sides.now in
     let field = c.in-Some.field.now in
     let at = is_at c.args.level field c.in-Some.ensures.lookup.3.0 (c.in-Some.ensures.lookup.3.1 Length) in
-    let rest = c.into_iter-value-iterator.ensures.into_iter_gives.0 in
-    let left = subst (λ (n : ℕ). AreLeftOf sides (take n fields) c.args.values c.args.left.now.items) (sym at.place) c.requires.left in
-    let choices : AreChoices sides c.args.self.now.least field c.args.values c.choices.result.items =
-    choices_of sides c.args.self.now.least field c.args.values c.args.left.now.items c.choices.result.items
+    let rest : c.into_iter-value-iterator.result.rest.now ≡ c.put_choices.new.choices.items = rw c.deref.ensures at c.into_iter-value-iterator.ensures.into_iter_gives.0 in
+    let left = subst (λ (n : ℕ). AreLeftOf sides (take n fields) c.args.values c.args.left.now) (sym at.place) c.requires.left in
+    let choices : AreChoices sides c.args.self.now.least field c.args.values c.put_choices.new.choices.items =
+    choices_of sides c.args.self.now.least field c.args.values c.args.left.now c.put_choices.new.choices.items
     (omega (arith, length-map c.args.self.now.sides.now.sides.now side_by, c.requires.beside.three)) c.requires.beside.fit c.requires.beside.marked
-    c.requires.eleven left c.choices.ensures in
+    c.requires.eleven left c.put_choices.ensures in
     record {
       more = none_more sides c.args.self.now.least c.args.found.now.samples.items c.requires.samples c.requires.ascend;
       going = record {
@@ -81,7 +81,7 @@ find-requires t c =
             (
               lengths,
               (
-                left_level sides c.args.self.now.sides.now.rows.now c.args.level field c.args.values c.with.result value c.args.left.now.items c.narrowed-narrower.result.items at within c.requires.eleven c.with.ensures c.requires.beside.together c.requires.left c.narrowed-narrower.ensures.items,
+                left_level sides c.args.self.now.sides.now.rows.now c.args.level field c.args.values c.with.result value c.args.left.now c.narrowed-narrower.result at within c.requires.eleven c.with.ensures c.requires.beside.together c.requires.left c.narrowed-narrower.ensures.items,
                 (
                   of_level c.args.self.now.least c.args.level field c.args.values c.with.result value at within c.requires.eleven c.with.ensures is c.requires.values can,
                   (c.loop-value.invariant.more.samples, c.loop-value.invariant.more.ascend),
@@ -93,8 +93,8 @@ find-requires t c =
       ),
     )
 
-pub loop-value-preserved-in-Continue-1 : goal.loop-value-preserved-in-Continue-1
-loop-value-preserved-in-Continue-1 t c =
+pub loop-value-preserved-in-Continue-branch-2 : goal.loop-value-preserved-in-Continue-branch-2
+loop-value-preserved-in-Continue-branch-2 t c =
     let sides = map side_by c.args.self.now.sides.now.sides.now in
     let field = c.in-Some.field.now in
     let within : c.args.level < 11 = c.in-Some.ensures.lookup.3.0 in
@@ -139,9 +139,9 @@ returns-then-is_silent-clause-every t c =
     let sides = map side_by c.args.self.now.sides.now.sides.now in
     let field = c.in-Some.field.now in
     let at = is_at c.args.level field c.in-Some.ensures.lookup.3.0 (c.in-Some.ensures.lookup.3.1 Length) in
-    silent_found sides c.args.self.now.wanted c.args.self.now.least field c.args.level c.args.values c.args.left.now.items c.args.found.now.samples.items
+    silent_found sides c.args.self.now.wanted c.args.self.now.least field c.args.level c.args.values c.args.left.now c.args.found.now.samples.items
     (omega (arith, length-map c.args.self.now.sides.now.sides.now side_by, c.requires.beside.three)) at.place
-    (subst (λ (n : ℕ). AreLeftOf sides (take n fields) c.args.values c.args.left.now.items) (sym at.place) c.requires.left)
+    (subst (λ (n : ℕ). AreLeftOf sides (take n fields) c.args.values c.args.left.now) (sym at.place) c.requires.left)
     (c.is_silent.ensures c.if-is_silent.true)
 
 pub returns-then-is_known-clause-every : goal.returns-then-is_known-clause-every
@@ -157,7 +157,7 @@ pub is_known-requires-clause-left : goal.is_known-requires-clause-left
 is_known-requires-clause-left t c =
     let field = c.in-Some.field.now in
     let at = is_at c.args.level field c.in-Some.ensures.lookup.3.0 (c.in-Some.ensures.lookup.3.1 Length) in
-    subst (λ (n : ℕ). AreLeftOf (map side_by c.args.self.now.sides.now.sides.now) (take n fields) c.args.values c.args.left.now.items) (sym at.place) c.requires.left
+    subst (λ (n : ℕ). AreLeftOf (map side_by c.args.self.now.sides.now.sides.now) (take n fields) c.args.values c.args.left.now) (sym at.place) c.requires.left
 
 pub loop-value-preserved : goal.loop-value-preserved
 loop-value-preserved t c =
@@ -171,10 +171,10 @@ loop-value-preserved t c =
     let steps = c.in-Some-value.ensures.steps in
     let test = test_at (λ row. row_admits row field value) false rows in
     let changed = with_value field value c.args.values in
-    let narrower : List ℕ = filter test c.args.left.now.items in
-    let none = not_led (λ places. places.items) sides c.args.self.now.wanted c.args.left.now.items c.sought-sought.result test c.sought-sought.ensures
+    let narrower : List ℕ = filter test c.args.left.now in
+    let none = not_led (λ (places : List ℕ). places) sides c.args.self.now.wanted c.args.left.now c.sought-sought.result test c.sought-sought.ensures
     (sym c.leads.ensures ∙ c.if-leads.false) in
-    let left = left_level sides rows c.args.level field c.args.values changed value c.args.left.now.items narrower at within c.requires.eleven refl
+    let left = left_level sides rows c.args.level field c.args.values changed value c.args.left.now narrower at within c.requires.eleven refl
     c.requires.beside.together c.requires.left refl in
     let all = not_sought sides c.args.self.now.wanted c.args.self.now.least (c.args.level + 1) changed narrower c.loop-value.found.samples.items left none in
     record {

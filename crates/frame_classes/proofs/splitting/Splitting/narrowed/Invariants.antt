@@ -9,6 +9,6 @@ abbrev pub invariant-loop-place : goal.invariant-loop-place
 invariant-loop-place l =
     let test = test_at (λ row. row_admits row l.field l.value) false l.self.sides.now.rows.now in
     record {
-      left : l.narrower.items ++ filter test l.place-iterator.rest.now ≡ filter test l.left.items;
-      few : length l.narrower.items + length l.place-iterator.rest.now ≤ 402;
+      left : l.narrower ++ filter test l.place-iterator ≡ filter test l.left;
+      few : length l.narrower + length l.place-iterator ≤ 402;
     }
