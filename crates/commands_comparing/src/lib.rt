@@ -4,6 +4,7 @@
 #![tactic(auto)]
 
 mod comparing;
+mod links;
 mod moments;
 mod ports;
 mod sides;

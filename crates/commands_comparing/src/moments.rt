@@ -5,7 +5,7 @@ use crate::watching::Watched;
 use command_words::HitlessWords;
 use commands_files::{Linted, apply_kept, report_short, report_text};
 use explain_findings::named_ports;
-use mib_state::Mib;
+use mib_state::{Mib, Touch};
 use script_trace::{Accepted, Applied};
 use std::alloc::{AllocError, Global};
 use std::io::{BufWriter, Write};
@@ -65,13 +65,14 @@ impl<'a> Change<'a> {
 fn write_moment<W: Write>(
     alloc: Global,
     moment: &Moment<'_>,
+    touch: Touch,
     least: usize,
     watched: &mut [Watched],
     list: &mut TearList,
     writer: &mut W,
 ) -> Result<(), TextFault> {
     for each in watched.iter_mut() {
-        each.look(alloc, moment, least)?;
+        each.follow(alloc, moment, touch, least)?;
         list.port(moment, each.port, &each.tears, writer)?;
     }
     Ok(())
@@ -91,7 +92,7 @@ fn write_moments<W: Write>(
     let mut version = change.earlier.len() as u64;
     let between = change.requests.len().saturating_sub(1);
     for each in change.requests.iter().take(between) {
-        let _ = here.carry_out(&each.request);
+        let touch = here.carry_out(&each.request).touch;
         version = version.saturating_add(1);
         let moment = Moment {
             version,
@@ -100,7 +101,7 @@ fn write_moments<W: Write>(
             here: &here,
             after: change.after,
         };
-        write_moment(alloc, &moment, least, &mut watched, list, writer)?;
+        write_moment(alloc, &moment, touch, least, &mut watched, list, writer)?;
     }
     Ok(())
 }

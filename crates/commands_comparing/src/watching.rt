@@ -1,7 +1,8 @@
 //! A port that is watched over a change: what it does with frames at each moment as neither the beginning nor the end does.
+use crate::links::Links;
 use frame_classes::{Tear, Use, torn, torn_by};
 use frame_rows::{Row, Rows};
-use mib_state::Mib;
+use mib_state::{Mib, Touch};
 use std::alloc::{AllocError, Global};
 use std::mem::replace;
 use text_differences::{Moment, ShownTear};
@@ -11,6 +12,8 @@ use text_differences::{Moment, ShownTear};
 #[derive(Drop)]
 pub(crate) struct Watched {
     pub(crate) port: u16,
+    /// On which managed entities it hangs what it does with frames at the moment that was looked at last.
+    links: Links,
     before: Rows,
     here: Rows,
     after: Rows,
@@ -77,11 +80,37 @@ impl Watched {
     ) -> Result<Watched, AllocError> {
         Ok(Watched {
             port,
+            links: Links::of(before, port),
             before: Rows::of(alloc, before, port)?,
             here: Rows::of(alloc, before, port)?,
             after: Rows::of(alloc, after, port)?,
             tears: Vec::new(alloc),
         })
+    }
+
+    /// Whether the step to a moment may have changed what the port does with frames: it touched an instance on which that hung before, or hangs
+    /// now.
+    fn is_touched(&mut self, here: &Mib, touch: Touch) -> bool {
+        let Touch::One { class, instance } = touch else {
+            return !matches!(touch, Touch::Nothing);
+        };
+        let last = replace(&mut self.links, Links::of(here, self.port));
+        last.has(class, instance) || self.links.has(class, instance)
+    }
+
+    /// Looks at a moment of the change, which a step led to that touched this, for frames of so many bytes at least. A port that it didn't touch stays as
+    /// it was decided.
+    pub(crate) fn follow(
+        &mut self,
+        alloc: Global,
+        moment: &Moment<'_>,
+        touch: Touch,
+        least: usize,
+    ) -> Result<(), AllocError> {
+        if self.is_touched(moment.here, touch) {
+            return self.look(alloc, moment, least);
+        }
+        Ok(())
     }
 
     /// Whether the moment that is looked at is as the beginning or as the end, so that it is torn for no frame.
@@ -90,12 +119,7 @@ impl Watched {
     }
 
     /// Looks at a moment of the change, for frames of so many bytes at least.
-    pub(crate) fn look(
-        &mut self,
-        alloc: Global,
-        moment: &Moment<'_>,
-        least: usize,
-    ) -> Result<(), AllocError> {
+    fn look(&mut self, alloc: Global, moment: &Moment<'_>, least: usize) -> Result<(), AllocError> {
         let rows = Rows::of(alloc, moment.here, self.port)?;
         if are_same(&rows, &self.here) {
             return Ok(());
