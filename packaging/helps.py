@@ -1,6 +1,8 @@
-"""What the helps of the program say, for the manual page and the completions."""
+"""What the helps of the program say, for the manual page and the completions, and that of `python -m onuctl.live`, for a page of its own."""
+import os
 import re
 import subprocess
+import sys
 from typing import Dict, List, NamedTuple
 
 COLUMNS = re.compile("  +")
@@ -112,3 +114,11 @@ class Helps:
     def all(self):
         """Each help by the name of its command; the program's own has none."""
         return {"": self.program, **self.commands}
+
+
+def live_help():
+    """The help of `python -m onuctl.live`, of the package in this repository. The library must be built."""
+    package = os.path.join(os.path.dirname(os.path.dirname(os.path.abspath(__file__))), "python")
+    command = [sys.executable, "-B", "-m", "onuctl.live", "--help"]
+    environment = {**os.environ, "PYTHONPATH": package}
+    return subprocess.run(command, stdin=subprocess.DEVNULL, stdout=subprocess.PIPE, env=environment, check=True).stdout.decode()

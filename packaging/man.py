@@ -1,12 +1,13 @@
 #!/usr/bin/env python3
-"""Writes the manual page of the program, onuctl.1: all that its helps say, and the date of the changelog's newest release.
-usage: man.py PROGRAM"""
+"""Writes the manual page of the program, onuctl.1: all that its helps say, and the date of the changelog's newest release. With --live it writes
+that of a unit on network interfaces, onuctl-live.1: all that the help of `python -m onuctl.live` says.
+usage: man.py [--live] PROGRAM"""
 import os
 import re
 import sys
 
 sys.dont_write_bytecode = True
-from helps import Helps  # noqa: E402
+from helps import Help, Helps, live_help  # noqa: E402
 
 CHANGELOG = os.path.join(os.path.dirname(os.path.abspath(__file__)), "../CHANGELOG.md")
 # So many characters stand in a line of an 80-column page.
@@ -103,10 +104,14 @@ def call(name, rest):
 
 def usage(name, text):
     """How a command is called: options bold and on the line of their values, values in italics."""
-    rest = shown(text[len(f"onuctl {name} "):])
+    return call(f"onuctl {name}", in_faces(shown(text[len(f"onuctl {name} "):])))
+
+
+def in_faces(rest):
+    """What stands behind a command's name, in roff, with its faces."""
     for pattern, roff in ((" <", r"\\fR\\ <"), (r"\\-\\-", r"\\fB\\-\\-"), ("<", r"\\fI"), (">", r"\\fR")):
         rest = re.sub(pattern, roff, rest)
-    return call(f"onuctl {name}", rest)
+    return rest
 
 
 def words_of(said, name):
@@ -162,18 +167,39 @@ def tail(helps):
         yield from entry(4, f".I share/doc/onuctl/{name}", text)
 
 
-def page(helps):
-    """The manual page."""
+def date():
+    """The date of the changelog's newest release."""
     with open(CHANGELOG, encoding="utf-8") as file:
         released = re.search(r"^## .*\(([0-9-]*)\)", file.read(), re.MULTILINE)
-    lines = [*head(helps, released[1] if released else ""), *commands(helps), *numbers(helps), *tail(helps), *examples(helps)]
-    return "\n".join([*lines, ".SH SEE ALSO", ".BR dot (1),", ".BR wireshark (1)"]) + "\n"
+    return released[1] if released else ""
+
+
+def page(helps):
+    """The manual page."""
+    lines = [*head(helps, date()), *commands(helps), *numbers(helps), *tail(helps), *examples(helps)]
+    return "\n".join([*lines, ".SH SEE ALSO", ".BR dot (1),", ".BR onuctl-live (1),", ".BR wireshark (1)"]) + "\n"
+
+
+def live_page(version, text):
+    """The manual page of a unit on network interfaces, by the version of the program and the help."""
+    said = Help(text)
+    name, rest = said.usage.split(" [", 1)
+    lines = [
+        f'.TH ONUCTL-LIVE 1 "{date()}" "{version.split(",")[0]}" "User Commands"',
+        *(".nh", ".ad l", ".SH NAME", f"onuctl-live \\- {shown(said.about[:1].lower())}{shown(said.about[1:])}", ".SH SYNOPSIS"),
+        *call(shown(name), in_faces(shown(f"[{rest}"))),
+        *(".SH OPTIONS", *words_of(said, ""), ".SH DESCRIPTION", *paragraphs(said.more), ".SH EXAMPLES"),
+    ]
+    for example in said.examples:
+        lines += rows(folded(example, " \\"))
+    return "\n".join([*lines, ".SH SEE ALSO", ".BR onuctl (1),", ".BR packet (7),", ".BR tcpdump (8)"]) + "\n"
 
 
 def main(words):
-    if len(words) != 1:
+    if len(words) - (words[:1] == ["--live"]) != 1:
         sys.exit(__doc__)
-    sys.stdout.write(page(Helps(words[0])))
+    helps = Helps(words[-1])
+    sys.stdout.write(page(helps) if len(words) == 1 else live_page(helps.version, live_help()))
     return 0
 
 

@@ -2,12 +2,13 @@
 
 A :class:`Unit` answers OMCI messages and forwards Ethernet frames upstream as ITU-T G.988 says. :func:`judge` says whether a right unit
 may have behaved as a history says, and whether anything in it was judged. :func:`encode` makes a script of words, :func:`decode` says what one means, and :func:`mib`,
-:func:`lint` and :func:`rules` show what its messages leave.
+:func:`lint` and :func:`rules` show what its messages leave. ``python -m onuctl.live`` puts a unit on network interfaces of Linux.
 
 Proved are the library's replies, what becomes of a frame, the answers of :func:`replay`, of a judgement whether it is explained and
 which line it names, and the bad line that :func:`mib`, :func:`lint` and :func:`rules` name. Tested only are the texts of
 :meth:`Unit.explain` and of ``Finding.details``, all else that :func:`encode`, :func:`decode`, :func:`mib`, :func:`lint` and :func:`rules`
-say, and this package itself, which puts frames together, reads JSON and copies units. ``docs/PROOFS.md`` has the whole.
+say, and this package itself, which puts frames together, reads JSON, copies units and moves frames from and to interfaces.
+``docs/PROOFS.md`` has the whole.
 
     >>> from onuctl import Unit
     >>> with Unit() as unit:

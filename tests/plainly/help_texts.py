@@ -1,4 +1,4 @@
-"""The texts of all helps of the program, and of `install` and `release`, word by word."""
+"""The texts of all helps of the program, of `python -m onuctl.live`, and of `install` and `release`, word by word."""
 
 PROGRAM = """\
 Answer OMCI messages and forward Ethernet frames, as an optical network unit does
@@ -234,12 +234,13 @@ Options:
       --wait <MS>          A reply is in force for frames this long after it, in milliseconds; without it that isn't judged [example: 100]
       --lost <MS>          A frame that isn't seen to leave in this time is lost, in milliseconds; a time under the unit's longest delay makes of one late frame an l and an s; without it that isn't judged [example: 1000]
       --late               Frames were on their way as the captures of --into began; what left until --lost after the first record of each is passed over; wants --lost; has no value [example: --late]
+      --early              Frames were sent behind the ends of the captures of --into; what left from the last record of each on is passed over; has no value [example: --early]
       --skew <FILE=MS>     Add milliseconds to the times of a capture, a decimal number of either sign, where its clock is another [example: gem.pcap=-0.25]
       --fcs                Take the check sequence off each frame but those of --omci; has no value [example: --fcs]
       --padded             Compare frames without the zeros that end them, as a wire pads them; has no value [example: --padded]
       --sources            Say above each line in which record of which file it was seen; has no value [example: --sources]
       --out <FILE>         Write the history to this file, with the remarks of --sources; it gets its name once it is whole; - is standard output [example: bench.history]
-      --strict             Write nothing where a frame left in doubt, is a stray, left before it was sent, or is still open; has no value [example: --strict]
+      --strict             Write nothing where a frame left in doubt, is a stray, left before it was sent, is still open, or may lack its tags; has no value [example: --strict]
   -h, --help               Print help
 
 Captures are files in libpcap's classic format or in pcapng. Each of --omci, --into, --out-of, --tpid and --skew may be given several times.
@@ -404,9 +405,32 @@ The status with which the program ends
   141  nobody reads standard output any more""",
 }
 
+# Of a unit on network interfaces.
+LIVE = """\
+Put a unit on network interfaces: it answers OMCI messages, and forwards the frames that arrive at its ports
+
+Usage: python -m onuctl.live [OPTIONS] --omci <IFACE> --uni <PORT=IFACE>
+
+Options:
+      --omci <IFACE>      Interface of the OMCI messages, which are frames of Ethertype 0x88B5; the sender gets the reply [example: omci0]
+      --uni <PORT=IFACE>  Interface at whose other end a port's frames come in; the port is 0 to 65535 [example: 257=uni0]
+      --gem <GEM=IFACE>   Interface by which the frames of a GEM port leave; the GEM port is 0 to 65535 [example: 1024=gem0]
+      --pon <IFACE>       Interface by which those of every other GEM port leave [example: pon0]
+      --gem-vlan          Put the GEM port in front of what leaves by --pon, as the VID of an S-tag of its own, for captures and tests alone; has no value [example: --gem-vlan]
+      --stats <SECONDS>   Write the totals to standard error every so many seconds, too [example: 10]
+      --json              Write the totals as JSON, for other programs; has no value [example: --json]
+  -h, --help              Print help
+
+Each of --uni and --gem may be given several times. One of --gem and --pon has to be given.
+Packet sockets are Linux's. They take root, CAP_NET_RAW or a network namespace of your own.
+SIGTERM or SIGINT ends it, and it writes its totals to standard output.
+Status: 0; 1 where the words are wrong, an interface can't be used or a write failed; 141 where nobody reads standard output
+Example: python -m onuctl.live --omci omci0 --uni 257=uni0 --gem 1024=gem0
+Example: python -m onuctl.live --omci omci0 --uni 257=uni0 --uni 258=uni1 --pon pon0 --gem-vlan"""
+
 # Of scripts at the top.
 INSTALL = """\
-Installs the program, its manual page and completions, the library for C with its header, the Python package and the documents. What isn't
+Installs the program, its manual pages and completions, the library for C with its header, the Python package and the documents. What isn't
 proved and built yet is proved and built first.
 usage: install PREFIX
        install --help

@@ -46,11 +46,20 @@ def lacking_lines(page, program):
     """The lines of the helps whose words a page lacks: outside the subsections and in that of the help's name, or anywhere where it has none."""
     whole, parts = parts_of(page)
     for name, text in helps(program).items():
-        within = parts.get(name, "") + parts[""] if name else whole
-        for line in text.splitlines():
-            words = re.sub("^ (usage|example): ", " ", plain(" " + line))
-            if not re.fullmatch("( [a-z]+:)?", words) and words not in within:
-                yield f"onuctl {'help ' + name if name else '--help'}: {line}"
+        for line in lacking_of(text, parts.get(name, "") + parts[""] if name else whole):
+            yield f"onuctl {'help ' + name if name else '--help'}: {line}"
+
+
+def lacking_of_one(page, text):
+    """The lines of a help whose words the page of this help alone lacks."""
+    return lacking_of(text, parts_of(page)[0])
+
+
+def lacking_of(text, within):
+    for line in text.splitlines():
+        words = re.sub("^ (usage|example): ", " ", plain(" " + line))
+        if not re.fullmatch("( [a-z]+:)?", words) and words not in within:
+            yield line
 
 
 def examples_of(text):
