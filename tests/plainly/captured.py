@@ -260,7 +260,7 @@ RECORDED = [
     ("and isn't where that is said", GONE_ON, SENT_ON, ["f 257 AD+0801", "g 0 1024 AD+0801", "f 257 AD+0800"],
      [f"out-of1024: 2 {EARLY}: records 2, 3", f"into257: 1 {OPEN}: record 2"]),
     ("the capture that ends first decides", GONE_ON,
-     [(5, INTO, "AD+0801"), (5, "--into 258", "AD+0803"), (10, OUT_OF, "AD+0801"), (1000006, "--into 258", "AD+0804"), (1000007, INTO, "AD+0805"),
+     [(5, INTO, "AD+0801"), (5, "--into 258", "AD+0803"), (5, OUT_OF, "AD+0801"), (1000006, "--into 258", "AD+0804"), (1000007, INTO, "AD+0805"),
       (1000007, OUT_OF, "AD+0804"), (1000006, OUT_OF, "AD+0806"), (3000000, OUT_OF, "AD+0809")],
      ["f 257 AD+0801", "f 258 AD+0803", "g 0 1024 AD+0801", "l 1", "f 258 AD+0804", "f 257 AD+0805"],
      [f"out-of1024: 3 {EARLY}: records 2-4", f"into257: 1 {OPEN}: record 2", f"into258: 1 {OPEN}: record 2"]),
