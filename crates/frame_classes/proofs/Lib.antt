@@ -34,7 +34,9 @@ pub mod Choosing
 pub mod Staying
 pub mod Kept
 pub mod Silent
+pub mod OnlyEndings
 pub mod Sought
+pub mod Quiet
 pub mod MetRows
 pub mod KnownClasses
 pub mod Lines

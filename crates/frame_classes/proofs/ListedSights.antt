@@ -17,7 +17,7 @@ use Rattle.frame_classes.specs.declared.found.Sample.{Sample}
 use Rattle.frame_classes.specs.declared.told.Told.{Told}
 use Rattle.frame_classes.specs.declared.told.Told.TheVariants.{One, Two, Three}
 use Rattle.frame_classes.specs.Classes.{AreClasses, IsFrame, classes_in}
-use Rattle.frame_classes.specs.Differences.{AreDifferences, AreTorn, AreTornBy, IsTear, IsTorn, pair_number, pairs_in, triple_number, triples_in}
+use Rattle.frame_classes.specs.Differences.{AreApartBy, AreDifferences, AreTorn, AreTornBy, AreTornByRows, IsTear, IsTorn, IsTornRow, is_torn_by, pair_number, pairs_in, triple_number, triples_in}
 use Rattle.frame_classes.specs.Listed.{count_told, of_one, of_three, of_two, tell}
 use Rattle.frame_classes.specs.Splitting.{AreTold}
 use Rattle.frame_classes.specs.Told.{class_at, is_wanted, one_of, same_use, three_of, told_by, told_number, two_of}
@@ -52,6 +52,16 @@ two_first a b c d e = cc
 
 two_second : (a b c d : FrameClass) → Some (Two a b) ≡ Some (Two c d) → b ≡ d
 two_second a b c d e = cc
+
+-- both classes are there
+two_parts : (one other : Option FrameClass) (c d : FrameClass) → two_of one other ≡ Some (Two c d) → (one ≡ Some c) × (other ≡ Some d)
+two_parts None other c d h = absurd (none_some (Two c d) h)
+two_parts (Some a) None c d h = absurd (none_some (Two c d) h)
+two_parts (Some a) (Some b) c d h =
+    (ap (λ (k : FrameClass). Some k) (two_first a b c d h), ap (λ (k : FrameClass). Some k) (two_second a b c d h))
+
+class_same : (c d : FrameClass) → Some c ≡ Some d → c ≡ d
+class_same c d e = cc
 
 three_first : (a b c x y z : FrameClass) → Some (Three a b c) ≡ Some (Three x y z) → a ≡ x
 three_first a b c x y z e = cc
@@ -111,28 +121,50 @@ are_classes e port least side list is said =
 pair_same : (p q : FrameClass × FrameClass) → Some (of_two p) ≡ Some (of_two q) → p ≡ q
 pair_same (a, b) (c, d) e = let first = two_first a b c d e in let second = two_second a b c d e in cc
 
-pub are_differences : (e f : Entities) (port least : ℕ) (one other : Side) (list : List ((FrameClass × FrameClass) × List ℕ))
-    → IsSide e port one → IsSide f port other → AreSaid (one ∷ other ∷ []) None least (tell of_two list) → AreDifferences e f port least list
-are_differences e f port least one other list is is' said =
+pub are_apart_by : (least : ℕ) (one other : Side) (list : List ((FrameClass × FrameClass) × List ℕ))
+    → AreSaid (one ∷ other ∷ []) None least (tell of_two list) → AreApartBy one other least list
+are_apart_by least one other list said =
     record {
       each = λ k d h.
           let difference = get_or list k d in
           let two = said_at (one ∷ other ∷ []) least of_two list said.each k d h in
           let told = shown (apart difference.1) (classes difference.1) (of_two difference.0) two.told in
-          let same = sym (two_by difference.1 two.frame) ∙ told.1 in
-          record {
-            frame = two.frame;
-            before = two_first (class_of e port difference.1) (class_of f port difference.1) difference.0.0 difference.0.1 same;
-            after = two_second (class_of e port difference.1) (class_of f port difference.1) difference.0.0 difference.0.1 same;
-            differ = tell_apart.apart difference.1 two.frame.bytes_fit told.0;
-          };
-      every = λ bytes frame differ.
-          told_listed (one ∷ other ∷ []) None least of_two list (class_of e port bytes, class_of f port bytes) said
+          let parts = two_parts (class_at one (values_of difference.1)) (class_at other (values_of difference.1)) difference.0.0 difference.0.1 told.1 in
+          record { frame = two.frame; before = parts.0; after = parts.1; apart = told.0 };
+      every = λ bytes before after frame is is' differ.
+          told_listed (one ∷ other ∷ []) None least of_two list (before, after) said
           (λ p q same. pair_same p q (ap (λ (t : Told). Some t) same)) bytes frame
-          (show (apart bytes) (classes bytes) (Two (class_of e port bytes) (class_of f port bytes)) (is_apart bytes frame differ (apart bytes) refl) (two_by bytes frame)) refl;
+          (show (apart bytes) (classes bytes) (Two before after) differ
+          (two_is (class_at one (values_of bytes)) (class_at other (values_of bytes)) before after is is')) refl;
       once =
           rising_less pair_number of_two (2 ^ 26 + 1) (pairs_in list) (λ p. omega arith)
           (subst IsStrictlyIncreasing (ap (map told_number) (told_same of_two list)) said.once);
+    }
+  where
+    apart : List ℕ → Bool
+    apart bytes = seen_apart true one other (values_of bytes)
+
+    classes : List ℕ → Option Told
+    classes bytes = two_of (class_at one (values_of bytes)) (class_at other (values_of bytes))
+
+pub are_differences : (e f : Entities) (port least : ℕ) (one other : Side) (list : List ((FrameClass × FrameClass) × List ℕ))
+    → IsSide e port one → IsSide f port other → AreApartBy one other least list → AreDifferences e f port least list
+are_differences e f port least one other list is is' by_rows =
+    record {
+      each = λ k d h.
+          let difference = get_or list k d in
+          let two = by_rows.each k d h in
+          let fits = two.frame.bytes_fit in
+          record {
+            frame = two.frame;
+            before = class_same (class_of e port difference.1) difference.0.0 (sym (class_is e port one is difference.1 fits) ∙ two.before);
+            after = class_same (class_of f port difference.1) difference.0.1 (sym (class_is f port other is' difference.1 fits) ∙ two.after);
+            differ = tell_apart.apart difference.1 fits two.apart;
+          };
+      every = λ bytes frame differ.
+          by_rows.every bytes (class_of e port bytes) (class_of f port bytes) frame (class_is e port one is bytes frame.bytes_fit)
+          (class_is f port other is' bytes frame.bytes_fit) (is_apart bytes frame differ (apart bytes) refl);
+      once = by_rows.once;
     }
   where
     tell_apart : AreSeenApart e f port one other
@@ -140,14 +172,6 @@ are_differences e f port least one other list is is' said =
 
     apart : List ℕ → Bool
     apart bytes = seen_apart true one other (values_of bytes)
-
-    classes : List ℕ → Option Told
-    classes bytes = two_of (class_at one (values_of bytes)) (class_at other (values_of bytes))
-
-    two_by : (bytes : List ℕ) → IsFrame least bytes → classes bytes ≡ Some (Two (class_of e port bytes) (class_of f port bytes))
-    two_by bytes frame =
-        two_is (class_at one (values_of bytes)) (class_at other (values_of bytes)) (class_of e port bytes) (class_of f port bytes)
-        (class_is e port one is bytes frame.bytes_fit) (class_is f port other is' bytes frame.bytes_fit)
 
     is_apart : (bytes : List ℕ) → IsFrame least bytes → (sight_of e port bytes ≡ sight_of f port bytes → ⊥) → (b : Bool) → apart bytes ≡ b → apart bytes ≡ true
     is_apart bytes frame differ true p = p
@@ -159,50 +183,84 @@ triple_same : (p q : FrameClass × FrameClass × FrameClass) → Some (of_three 
 triple_same (a, b, c) (x, y, z) e =
     let first = three_first a b c x y z e in let second = three_second a b c x y z e in let third = three_third a b c x y z e in cc
 
--- those that are looked for are torn, and all of those that are looked for are listed
+three_parts : (one other last : Option FrameClass) (b c d : FrameClass) → three_of one other last ≡ Some (Three b c d)
+    → (one ≡ Some b) × ((other ≡ Some c) × (last ≡ Some d))
+three_parts None other last b c d h = absurd (none_some (Three b c d) h)
+three_parts (Some x) None last b c d h = absurd (none_some (Three b c d) h)
+three_parts (Some x) (Some y) None b c d h = absurd (none_some (Three b c d) h)
+three_parts (Some x) (Some y) (Some z) b c d h = (
+  ap (λ (k : FrameClass). Some k) (three_first x y z b c d h),
+  (ap (λ (k : FrameClass). Some k) (three_second x y z b c d h), ap (λ (k : FrameClass). Some k) (three_third x y z b c d h)),
+)
+
+-- by rows: those that are looked for are torn, and all of those that are looked for are listed
+record AreRowTears (before here after : Side) (least : ℕ) (wanted : Option Use) (tears : List ((FrameClass × FrameClass × FrameClass) × List ℕ)) : Type 0 where
+  each : All (IsTornRow before here after least) tears
+  looked_for : All (λ tear. is_wanted wanted (of_three tear.0) ≡ true) tears
+  every : (bytes : List ℕ) (b h a : FrameClass) → IsFrame least bytes → class_at before (values_of bytes) ≡ Some b
+      → class_at here (values_of bytes) ≡ Some h → class_at after (values_of bytes) ≡ Some a → is_wanted wanted (of_three (b, h, a)) ≡ true
+      → is_torn_by before here after (values_of bytes) ≡ true → Contains (triples_in tears) (b, h, a)
+  once : IsStrictlyIncreasing (map triple_number (triples_in tears))
+
+row_tears : (least : ℕ) (wanted : Option Use) (before here after : Side) (list : List ((FrameClass × FrameClass × FrameClass) × List ℕ))
+    → AreSaid (before ∷ here ∷ after ∷ []) wanted least (tell of_three list) → AreRowTears before here after least wanted list
+row_tears least wanted before here after list said =
+    record {
+      each = λ k d h.
+          let tear = get_or list k d in
+          let three = said_at (before ∷ here ∷ after ∷ []) least of_three list said.each k d h in
+          let told = shown (is_torn_by before here after (values_of tear.1)) (classes tear.1) (of_three tear.0) three.told in
+          let parts = three_parts (class_at before (values_of tear.1)) (class_at here (values_of tear.1)) (class_at after (values_of tear.1))
+          tear.0.0 tear.0.1 tear.0.2 told.1 in
+          record { frame = three.frame; before = parts.0; here = parts.1.0; after = parts.1.1; torn = told.0 };
+      looked_for = λ k d h.
+          let f : (FrameClass × FrameClass × FrameClass) × List ℕ → Told × List ℕ = λ each. (of_three each.0, each.1) in
+          let count = length-map list f in
+          ap (λ (t : Told × List ℕ). is_wanted wanted t.0) (sym (get_or-map f list k d (of_three d.0, d.1) h))
+          ∙ said.looked_for k (of_three d.0, d.1) (omega (arith, count, h));
+      every = λ bytes b h a frame is is' is'' looked torn.
+          told_listed (before ∷ here ∷ after ∷ []) wanted least of_three list (b, h, a) said
+          (λ p q same. triple_same p q (ap (λ (t : Told). Some t) same)) bytes frame
+          (show (is_torn_by before here after (values_of bytes)) (classes bytes) (Three b h a) torn
+          (three_is (class_at before (values_of bytes)) (class_at here (values_of bytes)) (class_at after (values_of bytes)) b h a is is' is'')) looked;
+      once =
+          rising_less triple_number of_three (2 ^ 52 + 2 ^ 26 + 1) (triples_in list) (λ t. omega arith)
+          (subst IsStrictlyIncreasing (ap (map told_number) (told_same of_three list)) said.once);
+    }
+  where
+    classes : List ℕ → Option Told
+    classes bytes = three_of (class_at before (values_of bytes)) (class_at here (values_of bytes)) (class_at after (values_of bytes))
+
+-- and so by configurations
 record AreTears (e f g : Entities) (port least : ℕ) (wanted : Option Use) (tears : List ((FrameClass × FrameClass × FrameClass) × List ℕ)) : Type 0 where
   each : All (IsTear e f g port least) tears
-  looked_for : All (λ tear. is_wanted wanted (of_three tear.0) ≡ true) tears
   every : (bytes : List ℕ) → IsFrame least bytes → IsTorn e f g port bytes
       → is_wanted wanted (of_three (class_of e port bytes, class_of f port bytes, class_of g port bytes)) ≡ true
       → Contains (triples_in tears) (class_of e port bytes, class_of f port bytes, class_of g port bytes)
   once : IsStrictlyIncreasing (map triple_number (triples_in tears))
 
 are_tears : (e f g : Entities) (port least : ℕ) (wanted : Option Use) (before here after : Side) (list : List ((FrameClass × FrameClass × FrameClass) × List ℕ))
-    → IsSide e port before → IsSide f port here → IsSide g port after
-    → AreSaid (before ∷ here ∷ after ∷ []) wanted least (tell of_three list) → AreTears e f g port least wanted list
-are_tears e f g port least wanted before here after list is is' is'' said =
+    → IsSide e port before → IsSide f port here → IsSide g port after → AreRowTears before here after least wanted list
+    → AreTears e f g port least wanted list
+are_tears e f g port least wanted before here after list is is' is'' rows =
     record {
       each = λ k d h.
           let tear = get_or list k d in
-          let three = said_at (before ∷ here ∷ after ∷ []) least of_three list said.each k d h in
-          let told = shown (apart before tear.1 && apart after tear.1) (classes tear.1) (of_three tear.0) three.told in
-          let same = sym (three_by tear.1 three.frame) ∙ told.1 in
-          let torn = both (apart before tear.1) (apart after tear.1) told.0 in
+          let three = rows.each k d h in
+          let fits = three.frame.bytes_fit in
+          let torn = both (apart before tear.1) (apart after tear.1) three.torn in
           record {
             frame = three.frame;
-            before = three_first (class_of e port tear.1) (class_of f port tear.1) (class_of g port tear.1) tear.0.0 tear.0.1 tear.0.2 same;
-            here = three_second (class_of e port tear.1) (class_of f port tear.1) (class_of g port tear.1) tear.0.0 tear.0.1 tear.0.2 same;
-            after = three_third (class_of e port tear.1) (class_of f port tear.1) (class_of g port tear.1) tear.0.0 tear.0.1 tear.0.2 same;
-            torn =
-                record {
-                  before = from_before.unlike tear.1 three.frame.bytes_fit torn.0;
-                  after = from_after.unlike tear.1 three.frame.bytes_fit torn.1;
-                };
+            before = class_same (class_of e port tear.1) tear.0.0 (sym (class_is e port before is tear.1 fits) ∙ three.before);
+            here = class_same (class_of f port tear.1) tear.0.1 (sym (class_is f port here is' tear.1 fits) ∙ three.here);
+            after = class_same (class_of g port tear.1) tear.0.2 (sym (class_is g port after is'' tear.1 fits) ∙ three.after);
+            torn = record { before = from_before.unlike tear.1 fits torn.0; after = from_after.unlike tear.1 fits torn.1 };
           };
-      looked_for = λ k d h.
-          let f : (FrameClass × FrameClass × FrameClass) × List ℕ → Told × List ℕ = λ each. (of_three each.0, each.1) in
-          let count = length-map list f in
-          ap (λ (t : Told × List ℕ). is_wanted wanted t.0) (sym (get_or-map f list k d (of_three d.0, d.1) h))
-          ∙ said.looked_for k (of_three d.0, d.1) (omega (arith, count, h));
       every = λ bytes frame torn looked.
-          told_listed (before ∷ here ∷ after ∷ []) wanted least of_three list (class_of e port bytes, class_of f port bytes, class_of g port bytes) said
-          (λ p q same. triple_same p q (ap (λ (t : Told). Some t) same)) bytes frame
-          (show (apart before bytes && apart after bytes) (classes bytes) (Three (class_of e port bytes) (class_of f port bytes) (class_of g port bytes))
-          (is_apart bytes frame torn) (three_by bytes frame)) looked;
-      once =
-          rising_less triple_number of_three (2 ^ 52 + 2 ^ 26 + 1) (triples_in list) (λ t. omega arith)
-          (subst IsStrictlyIncreasing (ap (map told_number) (told_same of_three list)) said.once);
+          rows.every bytes (class_of e port bytes) (class_of f port bytes) (class_of g port bytes) frame
+          (class_is e port before is bytes frame.bytes_fit) (class_is f port here is' bytes frame.bytes_fit) (class_is g port after is'' bytes frame.bytes_fit)
+          looked (is_apart bytes frame torn);
+      once = rows.once;
     }
   where
     from_before : AreSeenApart f e port here before
@@ -213,16 +271,6 @@ are_tears e f g port least wanted before here after list is is' is'' said =
 
     apart : Side → List ℕ → Bool
     apart side bytes = seen_apart false here side (values_of bytes)
-
-    classes : List ℕ → Option Told
-    classes bytes = three_of (class_at before (values_of bytes)) (class_at here (values_of bytes)) (class_at after (values_of bytes))
-
-    three_by : (bytes : List ℕ) → IsFrame least bytes
-        → classes bytes ≡ Some (Three (class_of e port bytes) (class_of f port bytes) (class_of g port bytes))
-    three_by bytes frame =
-        three_is (class_at before (values_of bytes)) (class_at here (values_of bytes)) (class_at after (values_of bytes))
-        (class_of e port bytes) (class_of f port bytes) (class_of g port bytes)
-        (class_is e port before is bytes frame.bytes_fit) (class_is f port here is' bytes frame.bytes_fit) (class_is g port after is'' bytes frame.bytes_fit)
 
     one_apart : (e' : Entities) (side : Side) (bytes : List ℕ) → IsFrame least bytes → AreSeenApart f e' port here side
         → (IsLike (sight_of f port bytes) (sight_of e' port bytes) → ⊥) → (b : Bool) → apart side bytes ≡ b → apart side bytes ≡ true
@@ -238,7 +286,7 @@ pub are_torn : (e f g : Entities) (port least : ℕ) (before here after : Side) 
     → IsSide e port before → IsSide f port here → IsSide g port after
     → AreSaid (before ∷ here ∷ after ∷ []) None least (tell of_three list) → AreTorn e f g port least list
 are_torn e f g port least before here after list is is' is'' said =
-    let tears = are_tears e f g port least None before here after list is is' is'' said in
+    let tears = are_tears e f g port least None before here after list is is' is'' (row_tears least None before here after list said) in
     record { each = tears.each; every = λ bytes frame torn. tears.every bytes frame torn refl; once = tears.once }
 
 -- those of one use
@@ -266,16 +314,32 @@ use_self NoTable = refl
 use_self (Entry number) = eq-eqb number number refl
 use_self NoEntry = refl
 
-pub are_torn_by : (e f g : Entities) (port least : ℕ) (used : Use) (before here after : Side) (list : List ((FrameClass × FrameClass × FrameClass) × List ℕ))
-    → IsSide e port before → IsSide f port here → IsSide g port after
-    → AreSaid (before ∷ here ∷ after ∷ []) (Some used) least (tell of_three list) → AreTornBy e f g port least used list
-are_torn_by e f g port least used before here after list is is' is'' said =
-    let tears = are_tears e f g port least (Some used) before here after list is is' is'' said in
+pub are_torn_by_rows : (least : ℕ) (used : Use) (before here after : Side) (list : List ((FrameClass × FrameClass × FrameClass) × List ℕ))
+    → AreSaid (before ∷ here ∷ after ∷ []) (Some used) least (tell of_three list) → AreTornByRows before here after least used list
+are_torn_by_rows least used before here after list said =
+    let tears = row_tears least (Some used) before here after list said in
     record {
       each = tears.each;
       uses = λ k d h. use_is (get_or list k d).0.1.used used (tears.looked_for k d h);
-      every = λ bytes frame torn same.
-          tears.every bytes frame torn (ap (λ (u : Use). same_use u used) same ∙ use_self used);
+      every = λ bytes b h a frame is is' is'' same torn.
+          tears.every bytes b h a frame is is' is'' (ap (λ (u : Use). same_use u used) same ∙ use_self used) torn;
+      once = tears.once;
+    }
+
+pub are_torn_by : (e f g : Entities) (port least : ℕ) (used : Use) (before here after : Side) (list : List ((FrameClass × FrameClass × FrameClass) × List ℕ))
+    → IsSide e port before → IsSide f port here → IsSide g port after → AreTornByRows before here after least used list
+    → AreTornBy e f g port least used list
+are_torn_by e f g port least used before here after list is is' is'' rows =
+    let tears = are_tears e f g port least (Some used) before here after list is is' is'' (record {
+      each = rows.each;
+      looked_for = λ k d h. ap (λ (u : Use). same_use u used) (rows.uses k d h) ∙ use_self used;
+      every = λ bytes b h a frame at at' at'' looked torn. rows.every bytes b h a frame at at' at'' (use_is h.used used looked) torn;
+      once = rows.once;
+    }) in
+    record {
+      each = tears.each;
+      uses = rows.uses;
+      every = λ bytes frame torn same. tears.every bytes frame torn (ap (λ (u : Use). same_use u used) same ∙ use_self used);
       once = tears.once;
     }
 

@@ -53,20 +53,17 @@ leave_alike one other count row row' values settings tags retag =
     ∙ ap (λ (n : ℕ). leaving_by other count n row.retag values) tags
     ∙ ap (λ (r : Retag). leaving_by other count row'.tags r values) retag
 
-alike_apart : (reasons : Bool) (field : Field) (one other : Side) (row row' : Row) (values : Values) → one.settings ≡ other.settings
-    → one.endings ≡ other.endings → AreSeenAlike field row row' → rows_apart reasons one other values (Some row) (Some row') ≡ false
-alike_apart reasons field one other row row' values settings endings alike =
+pub alike_apart : (reasons : Bool) (one other : Side) (row row' : Row) (values : Values) → AreSeenAlike one other row row'
+    → rows_apart reasons one other values (Some row) (Some row') ≡ false
+alike_apart reasons one other row row' values alike =
     ap (λ (t : Bool). endings_apart reasons (ending_of one.endings row.ends values) (ending_of other.endings row'.ends values) t) same_leaving
-    ∙ ap (λ (e : Ending). endings_apart reasons e (ending_of other.endings row'.ends values) false) same_ending
+    ∙ ap (λ (e : Ending). endings_apart reasons e (ending_of other.endings row'.ends values) false) (alike.ends values)
     ∙ ending_self reasons (ending_of other.endings row'.ends values)
   where
-    same_ending : ending_of one.endings row.ends values ≡ ending_of other.endings row'.ends values
-    same_ending = ap (λ (e : List Ending). ending_of e row.ends values) endings ∙ ap (λ (e : _). ending_of other.endings e values) alike.ends
-
     same_leaving : tags_apart one other values row row' ≡ false
     same_leaving =
         ap not (tags_match (leaving one.settings (max row.tags row'.tags) row values) (leaving other.settings (max row.tags row'.tags) row' values)
-        (leave_alike one.settings other.settings (max row.tags row'.tags) row row' values settings alike.tags alike.retag))
+        (leave_alike one.settings other.settings (max row.tags row'.tags) row row' values alike.settings alike.tags alike.retag))
 
 -- ---- by the first rows that are left
 
@@ -81,14 +78,11 @@ apart_by : (reasons : Bool) (sides : List Side) (field : Field) (values others :
     → AreLeftOf sides (take (place_of field) fields) values places → Agree (place_of field) values others
     → rows_of_side sides m ≡ one.rows → rows_of_side sides n ≡ other.rows
     → AreFirstAlike field one other (first_left sides places m) (first_left sides places n) → seen_apart reasons one other others ≡ false
-apart_by reasons sides field values others places m n one other left agree at at' alike = by_rows alike.rows
-  where
-    by_rows : (r r' : Row) × ((first_left sides places m ≡ Some r) × ((first_left sides places n ≡ Some r') × AreSeenAlike field r r'))
-        → seen_apart reasons one other others ≡ false
-    by_rows (r, r', (first, (second, seen))) =
-        ap (λ (o : Option Row). rows_apart reasons one other others o (first_row other.rows others)) (chosen sides field values others places m one r left agree at first seen.nothing)
-        ∙ ap (rows_apart reasons one other others (Some r)) (chosen sides field values others places n other r' left agree at' second seen.nothing')
-        ∙ alike_apart reasons field one other r r' others alike.settings alike.endings seen
+apart_by reasons sides field values others places m n one other left agree at at' alike =
+    ap (λ (o : Option Row). rows_apart reasons one other others o (first_row other.rows others))
+    (chosen sides field values others places m one alike.r left agree at alike.first alike.nothing)
+    ∙ ap (rows_apart reasons one other others (Some alike.r)) (chosen sides field values others places n other alike.r' left agree at' alike.first' alike.nothing')
+    ∙ alike_apart reasons one other alike.r alike.r' others alike.seen
 
 not_shown : (sides : List Side) (field : Field) (values others : Values) (places : List ℕ) → length sides ≤ 3
     → AreLeftOf sides (take (place_of field) fields) values places → Agree (place_of field) values others → IsSilent sides places field

@@ -48,7 +48,7 @@ none_at rows test kept (place ∷ rest) h =
     by_kept true is (Some row) at here later = rw (is, at) (All-cons (λ row. test row ≡ false) row (rows_at rows (filter kept rest)) (rw (is, at) at here) later)
 
 -- what holds of those that pass holds of each that passes
-of_filtered : (P : Row → Type 0) (test : Row → Bool) (rows : List Row) → All P (filter test rows) → All (λ row. test row ≡ true → P row) rows
+pub of_filtered : (P : Row → Type 0) (test : Row → Bool) (rows : List Row) → All P (filter test rows) → All (λ row. test row ≡ true → P row) rows
 of_filtered P test [] h = All-nil (λ row. test row ≡ true → P row)
 of_filtered P test (row ∷ rest) h = by_test (test row) refl (of_filtered P test rest)
   where

@@ -52,7 +52,7 @@ right_holds a b h = (and_parts a b h).1
 -- a tag's type begins one
 type_of_tag : (input : ℕ) (ask : Ask) (value : ℕ) → asks_tag input ask ≡ true → admits ask value ≡ true → is_tag_type input value ≡ true
 type_of_tag input Any value h k = absurd (true≢false (sym h))
-type_of_tag input (Exactly only) value h k = absurd (true≢false (sym h))
+type_of_tag input (Exactly only) value h k = ap (is_tag_type input) (eqb-true value only k) ∙ h
 type_of_tag input (Between least most) value h k = absurd (true≢false (sym h))
 type_of_tag input (TagType type filter) value h k =
     ap (λ (n : ℕ). is_tag_type n value) (sym (eqb-true type input h)) ∙ left_holds (is_tag_type type value) (is_tpid filter type value) k
@@ -216,14 +216,14 @@ nothing_at row field later h behind =
     by_place true is k = let less : place_of later < place_of field = ltb-true (place_of later) (place_of field) is in absurd (omega arith)
     by_place false is k = rw is at k
 
-passes_all : (some : List Field) (row : Row) (values : Values) → All (λ f. is_any (ask_at row f) ≡ true) some → passes some row values ≡ true
+pub passes_all : (some : List Field) (row : Row) (values : Values) → All (λ f. is_any (ask_at row f) ≡ true) some → passes some row values ≡ true
 passes_all [] row values h = refl
 passes_all (f ∷ rest) row values h =
     let here = any_admits (ask_at row f) (value_at f values) (All-head (λ f. is_any (ask_at row f) ≡ true) f rest h) in
     let later = passes_all rest row values (All-tail (λ f. is_any (ask_at row f) ≡ true) f rest h) in
     rw (here, later) refl
 
-behind_nothing : (row : Row) (field : Field) → asks_nothing row field ≡ true → All (λ f. is_any (ask_at row f) ≡ true) (drop (place_of field) fields)
+pub behind_nothing : (row : Row) (field : Field) → asks_nothing row field ≡ true → All (λ f. is_any (ask_at row f) ≡ true) (drop (place_of field) fields)
 behind_nothing row field h k d within =
     let inside : place_of field + k < 11 = omega (arith, length-drop (place_of field) fields, field_within field) in
     subst (λ (f : Field). is_any (ask_at row f) ≡ true)

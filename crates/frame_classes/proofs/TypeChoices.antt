@@ -1,10 +1,10 @@
 -- The types that are looked at stand for all.
-use Rattle.std.proofs.Common.{◌≡◌, ◌≢◌, ℕ, ◌+◌, ◌^◌, ◌<◌, ◌≤◌, ◌==◌, ◌||◌, Bool, true, false, List, [], ◌∷◌, arith, refl, sym, subst, length, take, get_or, ◌⊎◌, inl, inr, ◌∙◌}
+use Rattle.std.proofs.Common.{◌≡◌, ℕ, ◌+◌, ◌%◌, ◌^◌, ◌<◌, ◌≤◌, ◌==◌, ◌||◌, ◌&&◌, not, Bool, true, false, List, [], ◌∷◌, arith, refl, sym, subst, length, take, get_or, ◌⊎◌, inl, inr, ◌∙◌}
 use Rattle.std.specs.Prelude.{All, Any, Contains}
 use Rattle.std.specs.List.{list_any}
-use Rattle.std.proofs.lemmas.Bool.{eqb-true, ne_eqb, true≢false}
+use Rattle.std.proofs.lemmas.Bool.{and_parts, eqb-true, true≢false}
 use Rattle.std.proofs.lemmas.List.{get_or_default}
-use Rattle.std.proofs.lemmas.List.Elements.{All-cons, All-contains, All-from_recursion, All-head, All-more, All-nil, All-tail, All-weaker}
+use Rattle.std.proofs.lemmas.List.Elements.{All-cons, All-contains, All-from_recursion, All-more, All-nil, All-weaker}
 use Rattle.std.proofs.lemmas.List.Folds.{Any-from_list_any}
 use Rattle.frame_rows.specs.declared.ask.Ask.{Ask}
 use Rattle.frame_rows.specs.declared.field.Field.{Field}
@@ -15,12 +15,14 @@ use Rattle.frame_rows.specs.Field.{end_of, fields, place_of, value_at}
 use Rattle.frame_rows.specs.Fits.{ask_fits, asks_type}
 use Rattle.frame_rows.specs.Sight.{Side}
 use Rattle.frame_rows.specs.Words.{limit_of}
-use Rattle.frame_rows.specs.Row.{ask_at}
-use Rattle.frame_classes.specs.Splitting.{CanBe, HasSeveral, IsCovered, IsNear, IsOf, Stands, begins_tag}
+use Rattle.frame_rows.specs.Row.{ask_at, named_by}
+use Rattle.tag_view.specs.Tag.{is_tag_type}
+use Rattle.frame_classes.specs.Choices.{HasSpare, are_alike, is_known_type, is_named, is_spare, is_value}
+use Rattle.frame_classes.specs.Splitting.{CanBe, IsCovered, IsNear, IsOf, Stands, begins_tag}
 use Rattle.frame_classes.specs.Left.{rows_at}
-use Rattle.frame_classes.proofs.Numbers.{still_left}
-use Rattle.frame_classes.proofs.Standing.{CoverBy, FitsSome, IsCase, field_within, fits_at, same_stands}
-use Rattle.frame_classes.proofs.Several.{several_more, several_none}
+use Rattle.frame_classes.proofs.Numbers.{none_left, still_left}
+use Rattle.frame_classes.proofs.Several.{turned_each}
+use Rattle.frame_classes.proofs.Standing.{CoverBy, FitsSome, IsCase, field_within, fits_at, other_can_be, same_stands}
 use Rattle.frame_classes.proofs.Types.{AsksSome, Covers, IsPlain, IsPlainFor, alike_stands, known_types, plain_begins, plain_stands}
 
 -- ---- one more
@@ -31,7 +33,7 @@ covers_kept sides count rows places values field choices more value kept (i, c, 
     let there = kept c (i, within, is) in
     (there.0, c, there.1, there.2, stands)
 
-pub cover_more : (sides : List Side) (count : ℕ) (rows : List Row) (places : List ℕ) (values : Values) (field : Field) (choices more : List ℕ) (index : ℕ) → index < 12
+pub cover_more : (sides : List Side) (count : ℕ) (rows : List Row) (places : List ℕ) (values : Values) (field : Field) (choices more : List ℕ) (index : ℕ) → index < 8
     → ((c : ℕ) → Contains choices c → Contains more c) → Covers sides count rows places values field more (get_or known_types index 0)
     → All (Covers sides count rows places values field choices) (take index known_types) → All (Covers sides count rows places values field more) (take (index + 1) known_types)
 cover_more sides count rows places values field choices more index within kept here before =
@@ -40,7 +42,7 @@ cover_more sides count rows places values field choices more index within kept h
     (λ value. covers_kept sides count rows places values field choices more value kept) (take index known_types) before) here
 
 cover_kept : (sides : List Side) (count : ℕ) (rows : List Row) (places : List ℕ) (values : Values) (field : Field) (choices more : List ℕ)
-    → ((c : ℕ) → Contains choices c → Contains more c) → All (Covers sides count rows places values field choices) (take 12 known_types)
+    → ((c : ℕ) → Contains choices c → Contains more c) → All (Covers sides count rows places values field choices) (take 8 known_types)
     → All (Covers sides count rows places values field more) known_types
 cover_kept sides count rows places values field choices more kept before =
     All-weaker (Covers sides count rows places values field choices) (Covers sides count rows places values field more)
@@ -87,103 +89,70 @@ asks_some : (sides : List Side) (field : Field) → 0 < place_of field → place
 asks_some sides field behind early row (i, side, within, is, fits) =
     (i, side, within, is, early_type side.settings.input_tpid field (ask_at row field) behind early (fits_at side.settings.input_tpid row fits field))
 
--- ---- a type that is no input TPID
+-- ---- a type that nothing asks for
 
--- one that is looked at, which is plain where it is none
-record IsSpare (type : ℕ) : Type 0 where
-  pub place : ℕ
-  pub within : place < 12
-  pub at : get_or known_types place 0 ≡ type
-  pub plain : (input : ℕ) → (type == input) ≡ false → IsPlain input type
+not_true : (a : Bool) → not a ≡ true → a ≡ false
+not_true true h = absurd (true≢false (sym h))
+not_true false h = refl
 
-spare_more : (n bound type : ℕ) → HasSeveral n (λ c. IsSpare c × (c < bound)) → bound ≤ type → IsSpare type
-    → HasSeveral (n + 1) (λ c. IsSpare c × (c < type + 1))
-spare_more n bound type several later spare =
-    several_more n (λ c. IsSpare c × (c < bound)) (λ c. IsSpare c × (c < type + 1)) type several (λ c h. below c h.1) (λ c h. (h.0, less c h.1)) (spare, omega arith)
-  where
-    below : (c : ℕ) → c < bound → c ≢ type
-    below c h e = omega arith
+or_none : (a b : Bool) → (a || b) ≡ false → (a ≡ false) × (b ≡ false)
+or_none true b h = absurd (true≢false h)
+or_none false b h = (refl, h)
 
-    less : (c : ℕ) → c < bound → c < type + 1
-    less c h = omega arith
+each_none : (p : Side → Bool) (sides : List Side) → list_any p sides ≡ false → All (λ side. p side ≡ false) sides
+each_none p [] h = All-nil (λ side. p side ≡ false)
+each_none p (side ∷ rest) h =
+    let parts = or_none (p side) (list_any p rest) h in
+    All-cons (λ side. p side ≡ false) side rest parts.0 (each_none p rest parts.1)
 
-spare_8 : IsSpare 0x88b5
-spare_8 =
+-- it is plain
+plain_by : (input type : ℕ) → is_tag_type input type ≡ false → is_known_type type ≡ false → IsPlain input type
+plain_by input type tag known =
+    let tags = or_none (type == 0x8100 || type == 0x88a8) (type == input) tag in
+    let others = or_none (type == 0x8100) (type == 0x88a8) tags.0 in
+    let k1 = or_none (type == 0x0800) _ known in
+    let k2 = or_none (type == 0x86DD) _ k1.1 in
+    let k3 = or_none (type == 0x0806) _ k2.1 in
+    let k4 = or_none (type == 0x8863) _ k3.1 in
+    let k5 = or_none (type == 0x8864) (type == 0x888E) k4.1 in
     record {
-      place = 8;
-      within = omega arith;
-      at = refl;
-      plain = λ input apart.
-          record { customer = refl; service = refl; no_input = apart; ipv4 = refl; ipv6 = refl; arp = refl; discovery = refl; session = refl; eapol = refl };
+      customer = others.0;
+      service = others.1;
+      no_input = tags.1;
+      ipv4 = k1.0;
+      ipv6 = k2.0;
+      arp = k3.0;
+      discovery = k4.0;
+      session = k5.0;
+      eapol = k5.1;
     }
 
-spare_9 : IsSpare 0x88b6
-spare_9 =
+-- no row names it, and it begins no tag
+pub record IsFree (sides : List Side) (rows : List Row) (places : List ℕ) (field : Field) (type : ℕ) : Type 0 where
+  pub free : is_named rows places field type ≡ false
+  pub begins : begins_tag sides type ≡ false
+  pub known : is_known_type type ≡ false
+
+spare_parts : (sides : List Side) (rows : List Row) (places : List ℕ) (field : Field) (type : ℕ) → is_spare sides rows places field type ≡ true
+    → IsFree sides rows places field type
+spare_parts sides rows places field type is =
+    let parts = and_parts (not (is_named rows places field type)) (not (begins_tag sides type) && not (is_known_type type)) is in
+    let others = and_parts (not (begins_tag sides type)) (not (is_known_type type)) parts.1 in
     record {
-      place = 9;
-      within = omega arith;
-      at = refl;
-      plain = λ input apart.
-          record { customer = refl; service = refl; no_input = apart; ipv4 = refl; ipv6 = refl; arp = refl; discovery = refl; session = refl; eapol = refl };
+      free = not_true (is_named rows places field type) parts.0;
+      begins = not_true (begins_tag sides type) others.0;
+      known = not_true (is_known_type type) others.1;
     }
 
-spare_10 : IsSpare 0x88b7
-spare_10 =
-    record {
-      place = 10;
-      within = omega arith;
-      at = refl;
-      plain = λ input apart.
-          record { customer = refl; service = refl; no_input = apart; ipv4 = refl; ipv6 = refl; arp = refl; discovery = refl; session = refl; eapol = refl };
-    }
+is_spare_by : (sides : List Side) (rows : List Row) (places : List ℕ) (field : Field) (type : ℕ) → is_named rows places field type ≡ false
+    → begins_tag sides type ≡ false → is_known_type type ≡ false → is_spare sides rows places field type ≡ true
+is_spare_by sides rows places field type free begins known = rw (free, begins, known) refl
 
-spare_11 : IsSpare 0x9000
-spare_11 =
-    record {
-      place = 11;
-      within = omega arith;
-      at = refl;
-      plain = λ input apart.
-          record { customer = refl; service = refl; no_input = apart; ipv4 = refl; ipv6 = refl; arp = refl; discovery = refl; session = refl; eapol = refl };
-    }
-
--- of four one is left where three are avoided
-spare_types : HasSeveral 4 (λ c. IsSpare c × (c < 0x9001))
-spare_types =
-    spare_more 3 0x88b8 0x9000
-    (spare_more 2 0x88b7 0x88b7
-    (spare_more 1 0x88b6 0x88b6 (spare_more 0 0 0x88b5 (several_none (λ c. IsSpare c × (c < 0))) (omega arith) spare_8) (omega arith) spare_9) (omega arith)
-    spare_10) (omega arith) spare_11
-
-abbrev inputs_of : List Side → List ℕ
-inputs_of [] = []
-inputs_of (side ∷ rest) = side.settings.input_tpid ∷ inputs_of rest
-
-length-inputs : (sides : List Side) → length (inputs_of sides) ≡ length sides
-length-inputs [] = refl
-length-inputs (side ∷ rest) =
-    let same = length-inputs rest in
-    omega (arith, same)
-
-none_of_inputs : (sides : List Side) (type : ℕ) → All (λ other. type ≢ other) (inputs_of sides) → All (λ side. (type == side.settings.input_tpid) ≡ false) sides
-none_of_inputs [] type apart = All-nil (λ side. (type == side.settings.input_tpid) ≡ false)
-none_of_inputs (side ∷ rest) type apart =
-    All-cons (λ side. (type == side.settings.input_tpid) ≡ false) side rest
-    (ne_eqb type side.settings.input_tpid (All-head (λ other. type ≢ other) side.settings.input_tpid (inputs_of rest) apart))
-    (none_of_inputs rest type (All-tail (λ other. type ≢ other) side.settings.input_tpid (inputs_of rest) apart))
-
-or_left : (a b : Bool) → (a || b) ≡ false → a ≡ false
-or_left true b h = h
-or_left false b h = refl
-
-or_right : (a b : Bool) → (a || b) ≡ false → b ≡ false
-or_right true b h = absurd (true≢false h)
-or_right false b h = h
-
-none_there : (p : Side → Bool) (sides : List Side) → list_any p sides ≡ false → All (λ side. p side ≡ false) sides
-none_there p [] h = All-nil (λ side. p side ≡ false)
-none_there p (side ∷ rest) h =
-    All-cons (λ side. p side ≡ false) side rest (or_left (p side) (list_any p rest) h) (none_there p rest (or_right (p side) (list_any p rest) h))
+plain_for : (sides : List Side) (type : ℕ) → begins_tag sides type ≡ false → is_known_type type ≡ false → IsPlainFor sides type
+plain_for sides type begins known =
+    All-weaker (λ side. is_tag_type side.settings.input_tpid type ≡ false) (λ side. IsPlain side.settings.input_tpid type)
+    (λ side none. plain_by side.settings.input_tpid type none known) sides
+    (each_none (λ (side : Side). is_tag_type side.settings.input_tpid type) sides begins)
 
 -- ---- all types
 
@@ -192,8 +161,10 @@ pub type_choices : (sides : List Side) (count : ℕ) (rows : List Row) (least : 
     → 0 < place_of field → place_of field < 4 → end_of field ≤ value_at Length values → All (λ c. c < 2 ^ 16) choices
     → All (Covers sides count rows places values field choices) known_types
     → All (λ side. Covers sides count rows places values field choices side.settings.input_tpid) sides
+    → ((c : ℕ) → is_named rows places field c ≡ true → Contains choices c)
+    → ((v : ℕ) → v < 2 ^ 16 → is_spare sides rows places field v ≡ true → HasSpare sides rows places field values choices)
     → CoverBy sides rows places least field values choices
-type_choices sides count rows least field values places choices case three counted eleven behind early long fits covers covers_inputs =
+type_choices sides count rows least field values places choices case three counted eleven behind early long fits covers covers_inputs named spare =
     record {
       within = All-weaker (λ c. c < 2 ^ 16) (CanBe least (value_at Length values) field)
           (λ c small. record {
@@ -250,21 +221,33 @@ type_choices sides count rows least field values places choices case three count
             same side.settings.input_tpid at
             (All-contains (λ s. Covers sides count rows places values field choices s.settings.input_tpid) sides side covers_inputs (i, within, is))
 
-        plain : IsPlainFor sides (value_at field others) → IsCovered sides places (rows_at rows places) field values others choices
-        plain is =
-            let inputs = length-inputs sides in
-            by_spare (spare_types (inputs_of sides) (omega (arith, inputs)))
+        none_names : (c : ℕ) → is_named rows places field c ≡ false → All (λ row. is_value c (named_by (ask_at row field)) ≡ false) (rows_at rows places)
+        none_names c free = none_left (λ row. is_value c (named_by (ask_at row field))) rows places free
+
+        -- with one of which nothing asks, too
+        unnamed : IsPlainFor sides v → is_named rows places field v ≡ false → HasSpare sides rows places field values choices
+            → IsCovered sides places (rows_at rows places) field values others choices
+        unnamed is free has =
+            let parts = spare_parts sides rows places field has.spare has.is in
+            inr (inr (
+              inl (record { early = early; type = inl (inl (plain_begins sides v is)) }),
+              by_cover has.spare (plain_stands sides (rows_at rows places) field values others has.spare behind early asks (none_names has.spare parts.free)
+                  (none_names v free) (plain_for sides has.spare parts.begins parts.known) is) (covers_spare has.there parts.begins),
+            ))
           where
-            by_spare : (c : ℕ) × ((IsSpare c × (c < 0x9001)) × All (λ other. c ≢ other) (inputs_of sides))
-                → IsCovered sides places (rows_at rows places) field values others choices
-            by_spare (c, ((spare, small), apart)) =
-                inr (inr (
-                  inl (record { early = early; type = inl (inl (plain_begins sides (value_at field others) is)) }),
-                  by_cover c (plain_stands sides (rows_at rows places) field values others c behind early asks
-                      (All-weaker (λ side. (c == side.settings.input_tpid) ≡ false) (λ side. IsPlain side.settings.input_tpid c)
-                      (λ side none. spare.plain side.settings.input_tpid none) sides (none_of_inputs sides c apart)) is)
-                      (subst (Covers sides count rows places values field choices) spare.at (covers spare.place 0 spare.within)),
-                ))
+            covers_spare : Any (λ c. (c ≡ has.spare) ⊎ (are_alike rows places values field c has.spare ≡ true)) choices → begins_tag sides has.spare ≡ false
+                → Covers sides count rows places values field choices has.spare
+            covers_spare (i, c, within, is, inl same) begins = (i, c, within, is, inl same)
+            covers_spare (i, c, within, is, inr alike) begins = (i, c, within, is, inr (inl (inl begins), alike))
+
+        plain : IsPlainFor sides v → is_known_type v ≡ false → IsCovered sides places (rows_at rows places) field values others choices
+        plain is known = by_name (is_named rows places field v) refl
+          where
+            by_name : (b : Bool) → is_named rows places field v ≡ b → IsCovered sides places (rows_at rows places) field values others choices
+            by_name true h = inl (named v h)
+            by_name false h =
+                unnamed is h (spare v (subst (λ (n : ℕ). v < n) (type_limit field behind early) (other_can_be least others of field).below)
+                (is_spare_by sides rows places field v h (plain_begins sides v is) known))
 
         by_value : (c s four six a d p e i : Bool) → (value_at field others == 0x8100) ≡ c → (value_at field others == 0x88a8) ≡ s
             → (value_at field others == 0x0800) ≡ four → (value_at field others == 0x86DD) ≡ six
@@ -284,23 +267,50 @@ type_choices sides count rows least field values places choices case three count
         by_value false false false false false false false false false hc hs h4 h6 ha hd hp he hi =
             plain (All-weaker (λ side. (value_at field others == side.settings.input_tpid) ≡ false) (λ side. IsPlain side.settings.input_tpid (value_at field others))
             (λ side none. record { customer = hc; service = hs; no_input = none; ipv4 = h4; ipv6 = h6; arp = ha; discovery = hd; session = hp; eapol = he })
-            sides (none_there (λ (side : Side). value_at field others == side.settings.input_tpid) sides hi))
+            sides (each_none (λ (side : Side). value_at field others == side.settings.input_tpid) sides hi)) (rw (h4, h6, ha, hd, hp, he) refl)
 
 -- by what code looks at
 known_fit : All (λ c. c < 2 ^ 16) known_types
 known_fit =
     All-from_recursion (λ c. c < 2 ^ 16) known_types
-    (omega arith, (omega arith, (omega arith, (omega arith, (omega arith, (omega arith, (omega arith, (omega arith, (omega arith, (omega arith, (omega arith, (omega arith, tt))))))))))))
+    (omega arith, (omega arith, (omega arith, (omega arith, (omega arith, (omega arith, (omega arith, (omega arith, tt))))))))
 
-pub known_small : (index : ℕ) → index < 12 → get_or known_types index 0 < 2 ^ 16
+pub known_small : (index : ℕ) → index < 8 → get_or known_types index 0 < 2 ^ 16
 known_small index within = known_fit index 0 within
 
 pub cover_all : (sides : List Side) (count : ℕ) (rows : List Row) (places : List ℕ) (values : Values) (field : Field) (choices more : List ℕ) (index : ℕ)
-    → index ≡ 12 → ((c : ℕ) → Contains choices c → Contains more c) → All (Covers sides count rows places values field choices) (take index known_types)
+    → index ≡ 8 → ((c : ℕ) → Contains choices c → Contains more c) → All (Covers sides count rows places values field choices) (take index known_types)
     → All (Covers sides count rows places values field more) known_types
 cover_all sides count rows places values field choices more index all kept before =
     cover_kept sides count rows places values field choices more kept
     (subst (λ (n : ℕ). All (Covers sides count rows places values field choices) (take n known_types)) all before)
+
+-- more are put behind them
+pub inputs_kept : (sides : List Side) (count : ℕ) (rows : List Row) (places : List ℕ) (values : Values) (field : Field) (choices more : List ℕ)
+    → ((c : ℕ) → Contains choices c → Contains more c)
+    → All (λ side. Covers sides count rows places values field choices side.settings.input_tpid) sides
+    → All (λ side. Covers sides count rows places values field more side.settings.input_tpid) sides
+inputs_kept sides count rows places values field choices more kept before =
+    All-weaker (λ side. Covers sides count rows places values field choices side.settings.input_tpid)
+    (λ side. Covers sides count rows places values field more side.settings.input_tpid)
+    (λ side. covers_kept sides count rows places values field choices more side.settings.input_tpid kept) sides before
+
+pub spare_kept : (sides : List Side) (rows : List Row) (places : List ℕ) (field : Field) (values : Values) (choices more : List ℕ)
+    → ((c : ℕ) → Contains choices c → Contains more c) → HasSpare sides rows places field values choices → HasSpare sides rows places field values more
+spare_kept sides rows places field values choices more kept has =
+    record { spare = has.spare; is = has.is; there = by_place has.there }
+  where
+    by_place : Any (λ c. (c ≡ has.spare) ⊎ (are_alike rows places values field c has.spare ≡ true)) choices
+        → Any (λ c. (c ≡ has.spare) ⊎ (are_alike rows places values field c has.spare ≡ true)) more
+    by_place (i, c, within, is, stands) =
+        let there = kept c (i, within, is) in
+        (there.0, c, there.1, there.2, stands)
+
+-- ---- a spare type is looked for
+
+-- each type is tried in turn
+pub type_at : (v : ℕ) → v < 2 ^ 16 → (k : ℕ) × ((k < 2 ^ 16) × ((0x88b5 + k) % 2 ^ 16 ≡ v))
+type_at v small = turned_each (2 ^ 16) 0x88b5 v (omega arith) small
 
 -- ---- input TPIDs, side by side
 

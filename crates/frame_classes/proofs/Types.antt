@@ -2,7 +2,7 @@
 use Rattle.std.proofs.Common.{◌≡◌, ◌≢◌, ℕ, ◌<◌, ◌≤◌, ◌==◌, Bool, true, false, ◌&&◌, ◌||◌, List, [], ◌∷◌, Option, Some, None, arith, refl, ap, map, sym, subst, get_or, nat_lt, ◌⊎◌, ◌∙◌}
 use Rattle.std.specs.Prelude.{All, Any as HasOne, slice_get}
 use Rattle.std.specs.List.{list_all, list_any}
-use Rattle.std.proofs.lemmas.Bool.{eqb-true, ne_eqb, true≢false}
+use Rattle.std.proofs.lemmas.Bool.{eqb-false, eqb-true, ne_eqb, true≢false}
 use Rattle.std.proofs.lemmas.List.Elements.{All-cons, All-contains, All-nil, All-weaker}
 use Rattle.std.proofs.lemmas.List.Folds.{list_any_none}
 use Rattle.frame_rows.specs.Sight.{Side}
@@ -27,11 +27,11 @@ use Rattle.frame_rows.specs.declared.row.Ends.TheVariants as ends
 use Rattle.frame_rows.specs.declared.row.Row.{Row}
 use Rattle.frame_rows.specs.Ask.{admits}
 use Rattle.frame_rows.specs.Alike.{alike_by, is_alike}
-use Rattle.frame_classes.specs.Choices.{are_alike, test_at}
+use Rattle.frame_classes.specs.Choices.{are_alike, is_value, test_at}
 use Rattle.frame_rows.specs.Field.{place_of, type_behind, value_at, vid_behind}
 use Rattle.frame_rows.specs.Fits.{asks_type}
 use Rattle.frame_rows.specs.Source.{packet_of}
-use Rattle.frame_rows.specs.Row.{ask_at, dscp_reads, ends_read, marking_reads, row_admits, row_marks, row_reads, source_reads}
+use Rattle.frame_rows.specs.Row.{ask_at, named_by, dscp_reads, ends_read, marking_reads, row_admits, row_marks, row_reads, source_reads}
 use Rattle.frame_classes.specs.Splitting.{Stands, StandsFor, begins_tag}
 
 -- ---- a value that is like one that stands for others
@@ -122,21 +122,23 @@ plain_filter ethertype.Arp input one other p q = p.arp ∙ sym q.arp
 plain_filter ethertype.Ipv6 input one other p q = p.ipv6 ∙ sym q.ipv6
 plain_filter ethertype.Eapol input one other p q = p.eapol ∙ sym q.eapol
 
-plain_admits : (ask : Ask) (input one other : ℕ) → asks_type input ask ≡ true → IsPlain input one → IsPlain input other → admits ask one ≡ admits ask other
-plain_admits Any input one other h p q = refl
-plain_admits (Exactly only) input one other h p q = absurd (true≢false (sym h))
-plain_admits (Between least most) input one other h p q = absurd (true≢false (sym h))
-plain_admits (TagType type f) input one other h p q =
+plain_admits : (ask : Ask) (input one other : ℕ) → asks_type input ask ≡ true → is_value one (named_by ask) ≡ false → is_value other (named_by ask) ≡ false
+    → IsPlain input one → IsPlain input other → admits ask one ≡ admits ask other
+plain_admits Any input one other h free free' p q = refl
+plain_admits (Exactly only) input one other h free free' p q =
+    ne_eqb one only (λ e. eqb-false only one free (sym e)) ∙ sym (ne_eqb other only (λ e. eqb-false only other free' (sym e)))
+plain_admits (Between least most) input one other h free free' p q = absurd (true≢false (sym h))
+plain_admits (TagType type f) input one other h free free' p q =
     let is = sym (eqb-true type input h) in
     let a = plain_tag type one (subst (λ (n : ℕ). IsPlain n one) is p) in
     let b = plain_tag type other (subst (λ (n : ℕ). IsPlain n other) is q) in
     rw (a, b) refl
-plain_admits (NoTagType type f) input one other h p q =
+plain_admits (NoTagType type f) input one other h free free' p q =
     let is = sym (eqb-true type input h) in
     let a = plain_tag type one (subst (λ (n : ℕ). IsPlain n one) is p) in
     let b = plain_tag type other (subst (λ (n : ℕ). IsPlain n other) is q) in
     rw (a, b) (plain_filter f input one other p q)
-plain_admits (Ethertype f) input one other h p q = plain_filter f input one other p q
+plain_admits (Ethertype f) input one other h free free' p q = plain_filter f input one other p q
 
 plain_packet : (input type : ℕ) → IsPlain input type → packet_of type ≡ Other
 plain_packet input type is = rw (is.ipv4, is.ipv6) refl
@@ -218,17 +220,20 @@ AsksSome sides field row = HasOne (λ side. asks_type side.settings.input_tpid (
 
 -- one of them stands for all
 pub plain_stands : (sides : List Side) (left : List Row) (field : Field) (values others : Values) (type : ℕ) → 0 < place_of field → place_of field < 4
-    → All (AsksSome sides field) left → IsPlainFor sides type → IsPlainFor sides (value_at field others) → Stands left field values others type
-plain_stands sides left field values others type behind early asks p q =
-    record { each = λ k d h. by_side (get_or left k d) (asks k d h); longer = λ first. absurd (omega arith) }
+    → All (AsksSome sides field) left → All (λ row. is_value type (named_by (ask_at row field)) ≡ false) left
+    → All (λ row. is_value (value_at field others) (named_by (ask_at row field)) ≡ false) left
+    → IsPlainFor sides type → IsPlainFor sides (value_at field others) → Stands left field values others type
+plain_stands sides left field values others type behind early asks free free' p q =
+    record { each = λ k d h. by_side (get_or left k d) (asks k d h) (free k d h) (free' k d h); longer = λ first. absurd (omega arith) }
   where
-    by_side : (row : Row) → AsksSome sides field row → StandsFor row field values type others (value_at field others)
-    by_side row (i, side, within, is, ask) =
+    by_side : (row : Row) → AsksSome sides field row → is_value type (named_by (ask_at row field)) ≡ false
+        → is_value (value_at field others) (named_by (ask_at row field)) ≡ false → StandsFor row field values type others (value_at field others)
+    by_side row (i, side, within, is, ask) none none' =
         let input = side.settings.input_tpid in
         let one = All-contains (λ s. IsPlain s.settings.input_tpid type) sides side p (i, within, is) in
         let other = All-contains (λ s. IsPlain s.settings.input_tpid (value_at field others)) sides side q (i, within, is) in
         record {
-          admits = plain_admits (ask_at row field) input type (value_at field others) ask one other;
+          admits = plain_admits (ask_at row field) input type (value_at field others) ask none none' one other;
           reads = λ _. plain_reads row field input type (value_at field others) values others behind early one other;
           marks = λ _. plain_marks row field input type (value_at field others) values others behind early one other;
         }
@@ -248,7 +253,7 @@ begins_by_rows (rows ∷ rest) type = ap (λ (b : Bool). is_tag_type rows.settin
 -- ---- types that are looked at
 
 abbrev pub known_types : List ℕ
-known_types = 0x8100 ∷ 0x0800 ∷ 0x88a8 ∷ 0x86dd ∷ 0x0806 ∷ 0x8863 ∷ 0x8864 ∷ 0x888e ∷ 0x88b5 ∷ 0x88b6 ∷ 0x88b7 ∷ 0x9000 ∷ []
+known_types = 0x8100 ∷ 0x0800 ∷ 0x88a8 ∷ 0x86dd ∷ 0x0806 ∷ 0x8863 ∷ 0x8864 ∷ 0x888e ∷ []
 
 -- one of some values is another, or like it: this where it begins no tag, or there is one side
 abbrev pub Covers : List Side → ℕ → List Row → List ℕ → Values → Field → List ℕ → ℕ → Type 0

@@ -491,13 +491,13 @@ put_bits named choices more put bits is h = subst (λ (n : ℕ). more ≡ (if na
 
 pub named_further : (rows : List Row) (places rest : List ℕ) (place : ℕ) (field : Field) (choices more : List ℕ) → places ≡ place ∷ rest
     → ((c : ℕ) → Contains choices c → Contains more c)
-    → ((c : ℕ) → c < 2 ^ 12 → test_at (λ row. is_value c (named_by (ask_at row field))) false rows place ≡ true → Contains more c)
-    → (c : ℕ) → c < 2 ^ 12 → Contains choices c ⊎ (is_named rows places field c ≡ true) → Contains more c ⊎ (is_named rows rest field c ≡ true)
-named_further rows places rest place field choices more is kept here c small (inl there) = inl (kept c there)
-named_further rows places rest place field choices more is kept here c small (inr named) =
+    → (c : ℕ) → (test_at (λ row. is_value c (named_by (ask_at row field))) false rows place ≡ true → Contains more c)
+    → Contains choices c ⊎ (is_named rows places field c ≡ true) → Contains more c ⊎ (is_named rows rest field c ≡ true)
+named_further rows places rest place field choices more is kept c here (inl there) = inl (kept c there)
+named_further rows places rest place field choices more is kept c here (inr named) =
     by_where (named_first rows place rest field c (subst (λ (ps : List ℕ). is_named rows ps field c ≡ true) is named))
   where
     by_where : (test_at (λ row. is_value c (named_by (ask_at row field))) false rows place ≡ true) ⊎ (is_named rows rest field c ≡ true)
         → Contains more c ⊎ (is_named rows rest field c ≡ true)
-    by_where (inl first) = inl (here c small first)
+    by_where (inl first) = inl (here first)
     by_where (inr later) = inr later

@@ -1,5 +1,5 @@
 -- Which values of a field the rows that are left tell apart.
-use Rattle.std.specs.Prelude.{◌≡◌, ◌≤◌, ◌⊎◌, ℕ, Bool, true, false, List, Option, Some, None, ◌==◌, slice_get}
+use Rattle.std.specs.Prelude.{◌≡◌, ◌≤◌, ◌⊎◌, ◌&&◌, ◌||◌, not, ℕ, Any, Bool, true, false, List, Option, Some, None, ◌==◌, slice_get}
 use Rattle.std.specs.List.{list_all, list_any}
 use Rattle.std.specs.Option.{option_map_or}
 use Rattle.frame_rows.specs.declared.field.Field.{Field}
@@ -10,6 +10,8 @@ use Rattle.frame_rows.specs.Field.{counted_length}
 use Rattle.frame_rows.specs.Source.{dscp_in}
 use Rattle.frame_rows.specs.Alike.{is_alike, row_reads_all}
 use Rattle.frame_rows.specs.Row.{ask_at, named_by}
+use Rattle.frame_rows.specs.Sight.{Side}
+use Rattle.frame_classes.specs.Splitting.{begins_tag}
 
 -- a test of the row at a place, if one stands there
 abbrev pub test_at : (Row → Bool) → Bool → List Row → ℕ → Bool
@@ -47,3 +49,19 @@ IsTried least length = (length ≡ counted_length) ⊎ (least ≤ length)
 pub record IsUnnamed (rows : List Row) (left : List ℕ) (field : Field) (packet : Packet) (dscp : Option ℕ) (vid : ℕ) : Type 0 where
   pub unnamed : is_named rows left field vid ≡ false
   pub same : dscp_in packet vid ≡ dscp
+
+-- ---- types that nothing asks for
+
+-- a filter may ask for a type as that of a packet
+abbrev pub is_known_type : ℕ → Bool
+is_known_type type = type == 0x0800 || (type == 0x86DD || (type == 0x0806 || (type == 0x8863 || (type == 0x8864 || type == 0x888E))))
+
+-- no row that is left names a type, it begins no tag for any side, and no filter asks for it
+abbrev pub is_spare : List Side → List Row → List ℕ → Field → ℕ → Bool
+is_spare sides rows left field type = not (is_named rows left field type) && (not (begins_tag sides type) && not (is_known_type type))
+
+-- such a type is looked at, or one that rows take alike
+pub record HasSpare (sides : List Side) (rows : List Row) (left : List ℕ) (field : Field) (values : Values) (choices : List ℕ) : Type 0 where
+  pub spare : ℕ
+  pub is : is_spare sides rows left field spare ≡ true
+  pub there : Any (λ c. (c ≡ spare) ⊎ (are_alike rows left values field c spare ≡ true)) choices

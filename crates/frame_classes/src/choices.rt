@@ -5,6 +5,7 @@ ghost use Rattle.std.specs.Option.{option_and_then, option_copied};
 ghost use Rattle.arrayvec.specs.ArrayVec.{array_vec_len};
 ghost use Rattle.frame_rows.specs.declared.row.Row.{Row};
 ghost use Rattle.frame_rows.specs.Row.{ask_at, named_by};
+ghost use Rattle.frame_classes.specs.Choices.{is_known_type};
 
 use crate::left::Left;
 use crate::settled::are_rows_settled;
@@ -19,14 +20,26 @@ pub(crate) const MAX_CHOICES: usize = 600;
 /// Values of a field.
 pub(crate) type Choices = ArrayVec<u16, MAX_CHOICES>;
 
-/// Types, as one sends them first: of tags, of packets, and four of which one at least is no input TPID (IEEE 802, the local
-/// experimental Ethertypes, the one that an organisation extends, and the one of the configuration test).
-const TYPES: [u16; 12] = [
-    0x8100, 0x0800, 0x88a8, 0x86dd, 0x0806, 0x8863, 0x8864, 0x888e, 0x88b5, 0x88b6, 0x88b7, 0x9000,
+/// Types, as one sends them first: of tags and of packets, each that a filter may ask for (IEEE 802).
+const TYPES: [u16; 8] = [
+    0x8100, 0x0800, 0x88a8, 0x86dd, 0x0806, 0x8863, 0x8864, 0x888e,
 ];
+
+/// The first type that is tried as one that nothing asks for: a local experimental Ethertype (IEEE 802).
+const SPARE: u32 = 0x88b5;
 
 /// Lengths, each the greatest of those that nothing tells apart. The first stands for all that are greater, too.
 const LENGTHS: [u16; 7] = [LONG, 23, 21, 19, 17, 15, 13];
+
+/// Whether a filter may ask for a type as that of a packet.
+fn is_known_type(ethertype: u16) -> bool
+    ensures { result ≡ is_known_type ethertype }
+{
+    ethertype == 0x0800
+        || (ethertype == 0x86dd
+            || (ethertype == 0x0806
+                || (ethertype == 0x8863 || (ethertype == 0x8864 || ethertype == 0x888e))))
+}
 
 /// Puts one value alone.
 fn put_only(choices: &mut Choices, value: u16)
@@ -53,7 +66,7 @@ impl<'r> Case<'r> {
     ghost use Rattle.frame_rows.specs.Words.{limit_of};
     ghost use Rattle.frame_rows.specs.Source.{dscp_in, has_dscp};
     ghost use Rattle.frame_rows.specs.Alike.{is_alike, row_reads_all};
-    ghost use Rattle.frame_classes.specs.Choices.{IsTried, IsUnnamed, are_alike, is_asked, is_named, is_read, is_value, test_at};
+    ghost use Rattle.frame_classes.specs.Choices.{HasSpare, IsTried, IsUnnamed, are_alike, is_asked, is_named, is_read, is_spare, is_value, test_at};
     ghost use Rattle.frame_classes.specs.Beside.{AreBeside};
     ghost use Rattle.frame_classes.specs.Left.{AreLeftOf};
     ghost use Rattle.frame_classes.specs.Settled.{are_settled, is_settled};
@@ -214,6 +227,7 @@ impl<'r> Case<'r> {
         requires behind { 0 < place_of field }
         requires early { place_of field < 4 }
         requires long { end_of field ≤ value_at Length self.now.values.now }
+        requires few { length self.now.left.now ≤ 402 }
         ensures { (least : ℕ) → AreCovering (map side_by self.now.sides.now.sides.now) self.now.left.now
             least field self.now.values.now choices.new.items }
     {
@@ -221,7 +235,65 @@ impl<'r> Case<'r> {
         for ethertype in &TYPES {
             self.put_type(choices, field, *ethertype);
         }
+        self.put_spare_type(choices, field);
         self.put_inputs(choices, field);
+        self.put_named_types(choices, field);
+    }
+
+    /// Whether nothing asks for a type: no row that is left names it, it begins no tag, and no filter asks for it.
+    fn is_spare(&self, field: Field, ethertype: u16) -> bool
+        ensures { result ≡ is_spare (map side_by self.now.sides.now.sides.now) self.now.rows.now self.now.left.now field
+            ethertype }
+    {
+        !self.is_named(field, ethertype)
+            && (!self.begins_tag(ethertype) && !is_known_type(ethertype))
+    }
+
+    /// Puts the first type that nothing asks for behind the others, if it is like none of them.
+    fn put_spare_type(&self, choices: &mut Choices, field: Field)
+        requires room { array_vec_len choices.old < 600 }
+        ensures kept { (c : ℕ) → Contains choices.old.items c → Contains choices.new.items c }
+        ensures fit { All (λ c. c < 2 ^ 16) choices.old.items → All (λ c. c < 2 ^ 16) choices.new.items }
+        ensures spare { (v : ℕ) → v < 2 ^ 16
+            → is_spare (map side_by self.now.sides.now.sides.now) self.now.rows.now self.now.left.now field v ≡ true
+            → HasSpare (map side_by self.now.sides.now.sides.now) self.now.rows.now self.now.left.now field
+            self.now.values.now choices.new.items }
+        ensures len { array_vec_len choices.new ≤ array_vec_len choices.old + 1 }
+    {
+        for number in 0..0x1_0000u32 {
+            let ethertype = ((SPARE + number) % 0x1_0000) as u16;
+            if self.is_spare(field, ethertype) {
+                self.put(choices, field, ethertype);
+                return;
+            }
+        }
+    }
+
+    /// Puts each type that is named.
+    fn put_named_types(&self, choices: &mut Choices, field: Field)
+        requires { length choices.old.items + length self.now.left.now ≤ 600 }
+        ensures kept { (c : ℕ) → Contains choices.old.items c → Contains choices.new.items c }
+        ensures fit { All (λ c. c < 2 ^ 16) choices.old.items → All (λ c. c < 2 ^ 16) choices.new.items }
+        ensures named { (c : ℕ) → is_named self.now.rows.now self.now.left.now field c ≡ true
+            → Contains choices.new.items c }
+    {
+        for place in self.left.iter() {
+            self.put_named_type_at(choices, place, field);
+        }
+    }
+
+    /// Puts the type that the row at a place names, if there is one.
+    fn put_named_type_at(&self, choices: &mut Choices, place: usize, field: Field)
+        requires { array_vec_len choices.old < 600 }
+        ensures kept { (c : ℕ) → Contains choices.old.items c → Contains choices.new.items c }
+        ensures fit { All (λ c. c < 2 ^ 16) choices.old.items → All (λ c. c < 2 ^ 16) choices.new.items }
+        ensures named { (c : ℕ) → test_at (λ row. is_value c (named_by (ask_at row field))) false self.now.rows.now place
+            ≡ true → Contains choices.new.items c }
+        ensures len { length choices.new.items ≤ length choices.old.items + 1 }
+    {
+        if let Some(ethertype) = self.named_at(place, field) {
+            put_once(choices, ethertype);
+        }
     }
 
     /// Puts the input TPID of each side.
@@ -229,6 +301,7 @@ impl<'r> Case<'r> {
         requires beside { AreBeside self.now.sides.now.sides.now self.now.rows.now
             self.now.sides.now.ends }
         requires room { length choices.old.items ≤ 500 }
+        ensures len { length choices.new.items ≤ length choices.old.items + 3 }
         ensures kept { (c : ℕ) → Contains choices.old.items c → Contains choices.new.items c }
         ensures fit { All (λ c. c < 2 ^ 16) choices.old.items → All (λ c. c < 2 ^ 16) choices.new.items }
         ensures stands { All (λ side. Any (λ c. (c ≡ side.settings.input_tpid)

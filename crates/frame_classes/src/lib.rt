@@ -6,6 +6,7 @@
 //!
 //! **What configurations see otherwise.** [`differences`] and [`torn`] compare two and three configurations of a port, for every
 //! frame: of each pair, or three, of classes that some frame has which they see otherwise they show one such frame.
+//! [`differences_by_rows`] and [`torn_by_rows`] do so for rows that no managed entities need to mean.
 //!
 //! **Splitting.** One splitting serves one, two and three configurations side by side. Fields are gone through one by one. A case is
 //! the rows of all sides that are left, which are those that ask nothing else of the fields before, and a value for each of these
@@ -21,11 +22,13 @@
 //! values is written, and has them.
 //!
 //! **One use.** Where only the frames of one entry are looked for, or of none, rows that no such frame can have are left out before: those that ask for
-//! another value of some field than every row of that use does.
+//! another value of some field than every row of that use does. Where the configuration between sees frames as one of the others does, by each row of that
+//! use and each of the other that may still be the first, they aren't split any more.
 //!
 //! **What it costs.** A case costs its rows, which are bits of a few words. Nothing grows but the list that is given.
 #![tactic(auto)]
 
+mod alike;
 mod choices;
 mod example;
 mod found;
@@ -41,4 +44,4 @@ mod told;
 
 pub use example::{ClassExample, Difference, Tear};
 pub use frame_rows::{Ending, FrameClass, Use};
-pub use listing::{classes, differences, torn, torn_by};
+pub use listing::{classes, differences, differences_by_rows, torn, torn_by, torn_by_rows};

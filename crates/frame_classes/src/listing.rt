@@ -3,7 +3,7 @@
 ghost use Rattle.std.specs.Prelude.{◌≡◌, ◌<◌, ◌≤◌, All, IfOk, length, map};
 ghost use Rattle.frame_classes.specs.Beside.{SideFits, SideMarks};
 ghost use Rattle.frame_classes.specs.Classes.{AreClasses};
-ghost use Rattle.frame_classes.specs.Differences.{AreDifferences, AreTorn, AreTornBy};
+ghost use Rattle.frame_classes.specs.Differences.{AreApartBy, AreDifferences, AreTorn, AreTornBy, AreTornByRows};
 ghost use Rattle.frame_classes.specs.Listed.{count_told, of_one, of_three, of_two, tell};
 ghost use Rattle.frame_classes.specs.Splitting.{AreExamplesOf, AreTold};
 ghost use Rattle.frame_classes.specs.Told.{side_by};
@@ -51,7 +51,32 @@ pub fn differences(
 {
     let rows = Rows::of(alloc, one, port)?;
     let next = Rows::of(alloc, other, port)?;
-    let sides = [rows, next];
+    differences_by_rows(alloc, rows, next, port, least)
+}
+
+/// What two lists of rows see otherwise, of frames of at least `least` bytes: each pair of a class by the one and a class by the other
+/// that some frame has which they see otherwise, once and in order, with such a frame. A frame has the class of the first row that asks
+/// nothing else of it, and none where no row admits it. So rows may be compared that no managed entities mean. The port counts for
+/// the number in a frame alone. Every list of bytes counts as a frame. Err only where memory is refused.
+///
+/// Condition: the rows ask and write what rows of a port may, and say which DSCP their treatments ask for; each list has at most 134.
+pub fn differences_by_rows(
+    alloc: Global,
+    one: Rows,
+    other: Rows,
+    port: u16,
+    least: usize,
+) -> Result<Vec<Difference>, AllocError>
+    requires one_fits { SideFits (side_by one) }
+    requires one_marks { SideMarks (side_by one) }
+    requires one_few { length one.rows.items ≤ 134 }
+    requires other_fits { SideFits (side_by other) }
+    requires other_marks { SideMarks (side_by other) }
+    requires other_few { length other.rows.items ≤ 134 }
+    ensures { IfOk result (λ list. AreApartBy (side_by one) (side_by other) least
+        (map (λ (d : _). ((d.before, d.after), d.frame.items)) list.items)) }
+{
+    let sides = [one, other];
     let found = found_of(alloc, &sides, least, None)?;
     differences_of(alloc, port, &found, least)
 }
@@ -97,10 +122,40 @@ pub fn torn_by(
     let first = Rows::of(alloc, before, port)?;
     let between = Rows::of(alloc, here, port)?;
     let last = Rows::of(alloc, after, port)?;
-    let earlier = met(alloc, &between.rows, used, &first)?;
-    let here = met(alloc, &between.rows, used, &between)?;
-    let later = met(alloc, &between.rows, used, &last)?;
-    let sides = [earlier, here, later];
+    torn_by_rows(alloc, &first, &between, &last, port, least, used)
+}
+
+/// What a list of rows between two others sees otherwise than both, of the frames of at least `least` bytes for which it uses an entry, or
+/// nothing: exactly these, once and in order, each with such a frame. Of drops the reasons don't count. So rows may be compared that no
+/// managed entities mean. The port counts for the number in a frame alone. Every list of bytes counts as a frame. Err only where memory
+/// is refused.
+///
+/// Condition: the rows ask and write what rows of a port may, and say which DSCP their treatments ask for; each list has at most 134.
+pub fn torn_by_rows(
+    alloc: Global,
+    before: &Rows,
+    here: &Rows,
+    after: &Rows,
+    port: u16,
+    least: usize,
+    used: Use,
+) -> Result<Vec<Tear>, AllocError>
+    requires before_fits { SideFits (side_by before.now) }
+    requires before_marks { SideMarks (side_by before.now) }
+    requires before_few { length before.now.rows.items ≤ 134 }
+    requires here_fits { SideFits (side_by here.now) }
+    requires here_marks { SideMarks (side_by here.now) }
+    requires here_few { length here.now.rows.items ≤ 134 }
+    requires after_fits { SideFits (side_by after.now) }
+    requires after_marks { SideMarks (side_by after.now) }
+    requires after_few { length after.now.rows.items ≤ 134 }
+    ensures { IfOk result (λ list. AreTornByRows (side_by before.now) (side_by here.now) (side_by after.now) least used
+        (map (λ (t : _). ((t.before, t.here, t.after), t.frame.items)) list.items)) }
+{
+    let earlier = met(alloc, &here.rows, used, before)?;
+    let between = met(alloc, &here.rows, used, here)?;
+    let later = met(alloc, &here.rows, used, after)?;
+    let sides = [earlier, between, later];
     let found = found_of(alloc, &sides, least, Some(used))?;
     tears_of(alloc, port, &found, least)
 }

@@ -1,6 +1,5 @@
-//! Where one value of a priority, or of a drop eligible indicator, stands for all; and where rows see all frames alike.
+//! Where one value of a priority, or of a drop eligible indicator, stands for all; and where tags change alike.
 ghost use Rattle.std.specs.Prelude.{◌≡◌, true};
-ghost use Rattle.frame_classes.specs.Silent.{AreSeenAlike};
 ghost use Rattle.frame_classes.specs.Settled.{are_added_alike, are_rows_settled, asks_nothing, copy_alike, is_any, is_dropped, is_eligible_alike, is_part_alike, is_priority_alike};
 
 use frame_rows::{Ask, Ends, Field, Row};
@@ -15,18 +14,8 @@ pub(crate) fn are_rows_settled(field: Field, one: &Row, other: &Row) -> bool
         && ((is_dropped(&one.ends) || is_dropped(&other.ends)) || copy_alike(field, one, other))
 }
 
-/// Whether two rows ask nothing of a field and those behind it, and frames end and leave by both alike, whatever the table uses.
-pub(crate) fn are_seen_alike(field: Field, one: &Row, other: &Row) -> bool
-    ensures { result ≡ true → AreSeenAlike field one.now other.now }
-{
-    one.tags == other.tags
-        && (one.ends == other.ends
-            && (are_retagged_alike(&one.retag, &other.retag)
-                && (asks_nothing(one, field) && asks_nothing(other, field))))
-}
-
 /// Whether tags change alike.
-fn are_retagged_alike(one: &Retag, other: &Retag) -> bool
+pub(crate) fn are_retagged_alike(one: &Retag, other: &Retag) -> bool
     ensures { result ≡ true → one.now ≡ other.now }
 {
     one.remove == other.remove

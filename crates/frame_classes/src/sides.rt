@@ -6,8 +6,9 @@ ghost use Rattle.frame_rows.specs.Sight.{rows_apart, same_tag, same_tags, tags_a
 ghost use Rattle.frame_classes.specs.Silent.{AreFirstAlike};
 ghost use Rattle.frame_classes.specs.Told.{rows_of_all, side_by};
 
+use crate::alike::are_seen_alike;
 use crate::left::Left;
-use crate::settled::are_seen_alike;
+use crate::settled::asks_nothing;
 use crate::told::{Told, is_same_use};
 use frame_rows::{Ending, Field, FrameClass, Row, Rows, Use, Values};
 use std::alloc::{AllocError, Global};
@@ -25,6 +26,16 @@ pub(crate) struct Sides<'r> {
     pub(crate) rows: &'r [Row],
     /// How many rows there are up to the end of each side.
     pub(crate) ends: [usize; 3],
+}
+
+/// Two sides that are compared, by rows that are left before a field.
+#[derive(Drop)]
+struct Beside<'r> {
+    field: Field,
+    side: &'r Rows,
+    next: &'r Rows,
+    /// The number of the second one.
+    other: usize,
 }
 
 /// The rows of all sides, one side behind the other.
@@ -62,9 +73,9 @@ impl<'r> Sides<'r> {
     ghost use Rattle.frame_rows.specs.Field.{fields};
     ghost use Rattle.frame_rows.specs.Sight.{seen_apart};
     ghost use Rattle.frame_classes.specs.Beside.{AreBeside, SideFits, SideMarks};
-    ghost use Rattle.frame_classes.specs.Left.{AreLeftOf, first_left, is_of};
-    ghost use Rattle.frame_classes.specs.Silent.{IsSilent, is_used_at};
-    ghost use Rattle.std.specs.Prelude.{false, filter};
+    ghost use Rattle.frame_classes.specs.Left.{AreLeftOf, first_left, is_of, rows_at};
+    ghost use Rattle.frame_classes.specs.Silent.{AreAlikeUntil, AreAllAlike, IsQuiet, IsSilent, is_used_at};
+    ghost use Rattle.std.specs.Prelude.{None, false, filter, if◌then◌else◌};
     ghost use Rattle.frame_classes.specs.Choices.{test_at};
     ghost use Rattle.frame_classes.specs.Told.{class_at, classes_at, is_shown, same_use};
 
@@ -189,6 +200,86 @@ impl<'r> Sides<'r> {
         }
     }
 
+    /// Whether the side before the one between, or the one after it, sees frames as that one does: by each row at these places of the one, and each of
+    /// the other that may be the first of a frame for which these rows are left.
+    pub(crate) fn is_quiet(&self, left: &Left, sought: &Left, field: Field) -> bool
+        requires beside { AreBeside self.now.sides.now self.now.rows.now self.now.ends }
+        requires three { length self.now.sides.now ≡ 3 }
+        ensures { result ≡ true → IsQuiet (map side_by self.now.sides.now) self.now.rows.now left.now sought.now field }
+    {
+        self.are_all_alike(left, sought, 0, field) || self.are_all_alike(left, sought, 2, field)
+    }
+
+    /// Whether the side between sees frames as another one does.
+    fn are_all_alike(&self, left: &Left, sought: &Left, other: usize, field: Field) -> bool
+        requires beside { AreBeside self.now.sides.now self.now.rows.now self.now.ends }
+        requires other { other < 3 }
+        ensures { result ≡ true → IfSome (slice_get self.now.sides.now 1) (λ (s : _).
+            IfSome (slice_get self.now.sides.now other) (λ (t : _).
+            AreAllAlike (map side_by self.now.sides.now) self.now.rows.now left.now sought.now field other (side_by s) (side_by t))) }
+    {
+        let (Some(side), Some(next)) = (self.sides.get(1), self.sides.get(other)) else {
+            return false;
+        };
+        let beside = Beside {
+            field,
+            side,
+            next,
+            other,
+        };
+        self.are_pairs_alike(left, sought, &beside)
+    }
+
+    /// Whether a side sees frames as another one does by its row at each of these places.
+    fn are_pairs_alike(&self, left: &Left, sought: &Left, beside: &Beside<'_>) -> bool
+        requires beside { AreBeside self.now.sides.now self.now.rows.now self.now.ends }
+        requires other { beside.now.other < 3 }
+        ensures { result ≡ true → AreAllAlike (map side_by self.now.sides.now) self.now.rows.now left.now sought.now
+            beside.now.field beside.now.other (side_by beside.now.side.now) (side_by beside.now.next.now) }
+    {
+        for place in sought.iter() {
+            if let Some(row) = self.rows.get(place) {
+                if !self.is_alike_until(left, row, beside) {
+                    return false;
+                }
+            }
+        }
+        true
+    }
+
+    /// Whether a side sees frames by a row as another one does by each row that is left, up to the first that asks nothing more.
+    fn is_alike_until(&self, left: &Left, row: &Row, beside: &Beside<'_>) -> bool
+        requires beside { AreBeside self.now.sides.now self.now.rows.now self.now.ends }
+        requires other { beside.now.other < 3 }
+        ensures { result ≡ true → AreAlikeUntil beside.now.field (side_by beside.now.side.now) (side_by beside.now.next.now) row.now
+            (rows_at self.now.rows.now (filter (is_of (map side_by self.now.sides.now) beside.now.other) left.now)) }
+    {
+        for place in left.iter() {
+            if let Some(other) = self.row_of(place, beside.other) {
+                if !are_seen_alike(beside.side, row, beside.next, other) {
+                    return false;
+                }
+                if asks_nothing(other, beside.field) {
+                    return true;
+                }
+            }
+        }
+        true
+    }
+
+    /// The row at a place, if one of a side stands there.
+    fn row_of(&self, place: usize, side: usize) -> Option<&'r Row>
+        requires beside { AreBeside self.now.sides.now self.now.rows.now self.now.ends }
+        requires three { side < 3 }
+        ensures { option_copied result
+            ≡ (if is_of (map side_by self.now.sides.now) side place then slice_get self.now.rows.now place else None) }
+    {
+        match self.is_of(place, side) {
+            true => self.rows.get(place),
+            false => None,
+        }
+    }
+
     /// The class of frames with these values by a side, where these rows are left.
     fn class(&self, left: &Left, side: usize, values: &Values) -> Option<FrameClass>
         requires beside { AreBeside self.now.sides.now self.now.rows.now self.now.ends }
@@ -272,8 +363,8 @@ fn are_first_alike(
 {
     match (row, beside) {
         (Some(row), Some(beside)) => {
-            are_seen_alike(field, row, beside)
-                && (side.settings == next.settings && side.endings == next.endings)
+            (asks_nothing(row, field) && asks_nothing(beside, field))
+                && are_seen_alike(side, row, next, beside)
         }
         _ => false,
     }

@@ -26,7 +26,7 @@ impl<'r> Splitting<'r> {
     ghost use Rattle.frame_classes.specs.Choices.{test_at};
     ghost use Rattle.frame_classes.specs.Beside.{AreBeside};
     ghost use Rattle.frame_classes.specs.Left.{AreLeftOf};
-    ghost use Rattle.frame_classes.specs.Silent.{AreSought};
+    ghost use Rattle.frame_classes.specs.Silent.{AreSought, IsQuiet};
     ghost use Rattle.std.specs.List.{list_any};
     ghost use Rattle.std.specs.Option.{option_map_or};
     ghost use Rattle.frame_classes.specs.Told.{classes_at, side_by, told_by};
@@ -88,6 +88,9 @@ impl<'r> Splitting<'r> {
             return Ok(());
         }
         let sought = self.sought(left);
+        if self.is_quiet(left, &sought, *field) {
+            return Ok(());
+        }
         let case = Case {
             rows: self.sides.rows,
             left,
@@ -141,6 +144,21 @@ impl<'r> Splitting<'r> {
         match self.wanted {
             Some(used) if self.sides.count() > 2 => Some(self.sides.used_of(left, used)),
             _ => None,
+        }
+    }
+
+    /// Whether nothing is told of the frames that are looked for and for which these rows are left, whatever their values of a field and those behind
+    /// it are.
+    fn is_quiet(&self, left: &Left, sought: &Option<Left>, field: Field) -> bool
+        requires beside { AreBeside self.now.sides.now.sides.now self.now.sides.now.rows.now
+            self.now.sides.now.ends }
+        requires three { IfSome sought.now (λ (places : _). length self.now.sides.now.sides.now ≡ 3) }
+        ensures { result ≡ true → (places : _) × ((sought.now ≡ Some places)
+            × IsQuiet (map side_by self.now.sides.now.sides.now) self.now.sides.now.rows.now left.now places field) }
+    {
+        match sought {
+            Some(places) => self.sides.is_quiet(left, places, field),
+            None => false,
         }
     }
 

@@ -15,6 +15,6 @@ pub mod Cases
 pub mod Meant
 pub mod Seen
 pub mod Written
-mod TagLists
+pub mod TagLists
 pub mod SeenApart
 pub mod Fitting

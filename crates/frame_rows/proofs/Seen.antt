@@ -57,7 +57,7 @@ sight_by_gem (Err reason) frame = refl
 
 -- ---- the bytes that leave
 
-written_is : (settings : TableSettings) (row : Row) (bytes : List ℕ) (frame : Reading) (input : ℕ) → IsRead input bytes frame
+pub written_is : (settings : TableSettings) (row : Row) (bytes : List ℕ) (frame : Reading) (input : ℕ) → IsRead input bytes frame
     → row.tags ≡ length frame.tags
     → written settings row (values_of bytes)
     ≡ additions_from row.retag settings frame.tags (dscp_of frame.rest) ++ left_of row.retag.remove frame.tags
@@ -70,7 +70,7 @@ written_is settings row bytes frame input is count =
     is.slots_are
     ∙ ap (λ (dscp : Option ℕ). additions_from row.retag settings frame.tags dscp ++ left_of row.retag.remove frame.tags) is.describes.dscp_is
 
-sent_is : (settings : TableSettings) (row : Row) (bytes : List ℕ) (frame : Reading) (out : List TagFields) → row.tags ≡ length frame.tags
+pub sent_is : (settings : TableSettings) (row : Row) (bytes : List ℕ) (frame : Reading) (out : List TagFields) → row.tags ≡ length frame.tags
     → with_tags bytes (length frame.tags) frame.tags ≡ frame → written settings row (values_of bytes) ≡ out
     → sent_by settings row bytes ≡ frame_bytes (record frame { tags = out })
 sent_is settings row bytes frame out count whole is =
@@ -90,7 +90,7 @@ leaves_so e port settings row bytes frame out ending count whole is ends =
 
 -- ---- a port without a table
 
-nothing_removed : (tags : List TagFields) → left_of 0 tags ≡ tags
+pub nothing_removed : (tags : List TagFields) → left_of 0 tags ≡ tags
 nothing_removed tags = let none : min 0 (length tags) ≡ 0 = omega arith in rw none refl
 
 kept_seen : (e : Entities) (port : ℕ) (bytes : List ℕ) (frame : Reading) → IsRead customer_tpid bytes frame

@@ -128,7 +128,7 @@ sent_with settings row count bytes most two long fits =
     behind = drop row.tags (slots count (values_of bytes))
 
 -- they differ where the tags do
-sent_tells : (one other : Side) (row row' : Row) (bytes : List ℕ) → IsFitting row → IsFitting row' → one.settings.output_tpid < 2 ^ 16
+pub sent_tells : (one other : Side) (row row' : Row) (bytes : List ℕ) → IsFitting row → IsFitting row' → one.settings.output_tpid < 2 ^ 16
     → other.settings.output_tpid < 2 ^ 16 → 14 + 4 * row.tags ≤ length bytes → 14 + 4 * row'.tags ≤ length bytes → All (λ b. b < 2 ^ 8) bytes
     → Tells (tags_apart one other (values_of bytes) row row') (sent_by one.settings row bytes ≡ sent_by other.settings row' bytes)
 sent_tells one other row row' bytes fit fit' output output' long long' fits =
@@ -276,13 +276,13 @@ long_by (ends.ByPriority source) tags (NoTagType input filter) length endings va
 long_by (ends.ByPriority source) tags (Ethertype filter) length endings values gem fits passes is = absurd (true≢false (sym fits))
 
 -- the first row of a frame
-record FirstRow (side : Side) (bytes : List ℕ) : Type 0 where
+pub record FirstRow (side : Side) (bytes : List ℕ) : Type 0 where
   pub row : Row
   pub is_first : first_row side.rows (values_of bytes) ≡ Some row
   pub fit : IsFitting row
   pub long : (gem : ℕ) → ending_of side.endings row.ends (values_of bytes) ≡ Gem gem → 14 + 4 * row.tags ≤ length bytes
 
-row_is : (side : Side) (bytes : List ℕ) (row : Row) → All (λ row. IsTrue (row_fits side.settings.input_tpid row)) side.rows
+pub row_is : (side : Side) (bytes : List ℕ) (row : Row) → All (λ row. IsTrue (row_fits side.settings.input_tpid row)) side.rows
     → first_row side.rows (values_of bytes) ≡ Some row → FirstRow side bytes
 unfolding values_of
 row_is side bytes row all is =
@@ -300,7 +300,7 @@ row_is side bytes row all is =
           omega arith;
     }
 
-first_there : (e : Entities) (port : ℕ) (side : Side) (bytes : List ℕ) → Mean e port side.endings side.rows
+pub first_there : (e : Entities) (port : ℕ) (side : Side) (bytes : List ℕ) → Mean e port side.endings side.rows
     → All (λ row. IsTrue (row_fits side.settings.input_tpid row)) side.rows → All (λ b. b < 2 ^ 8) bytes → FirstRow side bytes
 first_there e port side bytes mean all fits = by_first (first_row side.rows (values_of bytes)) refl (mean.class bytes fits)
   where
@@ -313,7 +313,7 @@ first_there e port side bytes mean all fits = by_first (first_row side.rows (val
     by_first (Some row) is class = row_is side bytes row all is
 
 -- what is seen of a frame, by its first row
-seen_by : (e : Entities) (port : ℕ) (side : Side) (bytes : List ℕ) (first : FirstRow side bytes) → AreSeen e port side → All (λ b. b < 2 ^ 8) bytes
+pub seen_by : (e : Entities) (port : ℕ) (side : Side) (bytes : List ℕ) (first : FirstRow side bytes) → AreSeen e port side → All (λ b. b < 2 ^ 8) bytes
     → sight_of e port bytes ≡ sight_by_ending (ending_of side.endings first.row.ends (values_of bytes)) (sent_by side.settings first.row bytes)
 seen_by e port side bytes first seen fits = seen.sight bytes fits ∙ ap (λ (row : Option Row). sight_by_row side row bytes) first.is_first
 

@@ -1,6 +1,7 @@
 -- What rows of a port ask and read, whatever its table.
 use Rattle.std.specs.Prelude.{ℕ, ◌+◌, ◌*◌, Bool, true, false, Option, Some, None, ◌&&◌, ◌||◌, ◌==◌, nat_le, nat_lt}
 use Rattle.std.specs.List.{list_all}
+use Rattle.tag_view.specs.Tag.{is_tag_type}
 use Rattle.vlan_rule.specs.declared.treatment.Treatment.TheVariants as treatment
 use Rattle.vlan_rule.specs.Meaning.{treatment_fits}
 use Rattle.frame_rows.specs.declared.ask.Ask.{Ask}
@@ -25,10 +26,10 @@ asks_number (TagType input filter) = false
 asks_number (NoTagType input filter) = false
 asks_number (Ethertype filter) = false
 
--- a type is asked for, by this input TPID, or none
+-- a type is asked for, by its number or by this input TPID, or none
 abbrev pub asks_type : ℕ → Ask → Bool
 asks_type input Any = true
-asks_type input (Exactly value) = false
+asks_type input (Exactly value) = true
 asks_type input (Between least most) = false
 asks_type input (TagType type filter) = type == input
 asks_type input (NoTagType type filter) = type == input
@@ -73,10 +74,10 @@ abbrev pub ends_fit : Ends → Bool
 ends_fit (ends.Dropped reason) = true
 ends_fit (ends.ByPriority source) = source_fits source
 
--- a tag is asked for, by this input TPID
+-- a tag is asked for, by its TPID or by this input TPID
 abbrev pub asks_tag : ℕ → Ask → Bool
 asks_tag input Any = false
-asks_tag input (Exactly value) = false
+asks_tag input (Exactly value) = is_tag_type input value
 asks_tag input (Between least most) = false
 asks_tag input (TagType type filter) = type == input
 asks_tag input (NoTagType type filter) = false

@@ -26,6 +26,6 @@ loop-place-preserved c =
       fit = λ h. c.put_named_at.ensures.fit (c.loop-place.invariant.fit h);
       named = λ v small h.
           named_further c.args.self.now.rows.now c.loop-place.place-iterator c.next.new.self c.in-Some.place c.args.field
-          c.loop-place.choices.items c.put_named_at.new.choices.items steps c.put_named_at.ensures.kept c.put_named_at.ensures.named v small
+          c.loop-place.choices.items c.put_named_at.new.choices.items steps c.put_named_at.ensures.kept v (c.put_named_at.ensures.named v small)
           (c.loop-place.invariant.named v small h);
     }

@@ -14,6 +14,7 @@ use Rattle.frame_classes.proofs.Going.{AreGoing, agree_next, all_gone, going_on}
 use Rattle.frame_classes.proofs.Keeping.{none_more}
 use Rattle.frame_classes.proofs.Kept.{Keeps, choices_of}
 use Rattle.frame_classes.proofs.Levels.{is_at, left_level, of_level}
+use Rattle.frame_classes.proofs.Quiet.{all_three, is_there, quiet_found}
 use Rattle.frame_classes.proofs.Silent.{silent_found}
 use Rattle.frame_classes.proofs.Sought.{not_led, not_sought}
 use Rattle.frame_classes.proofs.splitting.Splitting.+find.Goals as goal
@@ -143,6 +144,20 @@ returns-then-is_silent-clause-every t c =
     (omega (arith, length-map c.args.self.now.sides.now.sides.now side_by, c.requires.beside.three)) at.place
     (subst (λ (n : ℕ). AreLeftOf sides (take n fields) c.args.values c.args.left.now) (sym at.place) c.requires.left)
     (c.is_silent.ensures c.if-is_silent.true)
+
+pub is_quiet-requires-clause-three : goal.is_quiet-requires-clause-three
+is_quiet-requires-clause-three t c = all_three c.args.self.now.sides.now.sides.now c.args.self.now.wanted c.args.left.now c.sought-sought.result c.sought-sought.ensures
+
+pub returns-then-is_quiet-clause-every : goal.returns-then-is_quiet-clause-every
+returns-then-is_quiet-clause-every t c =
+    let sides = map side_by c.args.self.now.sides.now.sides.now in
+    let field = c.in-Some.field.now in
+    let at = is_at c.args.level field c.in-Some.ensures.lookup.3.0 (c.in-Some.ensures.lookup.3.1 Length) in
+    let quiet = c.is_quiet.ensures c.if-is_quiet.true in
+    quiet_found sides c.args.self.now.sides.now.rows.now c.args.self.now.wanted c.args.self.now.least field c.args.level c.args.values c.args.left.now quiet.0
+    c.args.found.now.samples.items c.requires.beside.together at.place
+    (subst (λ (n : ℕ). AreLeftOf sides (take n fields) c.args.values c.args.left.now) (sym at.place) c.requires.left)
+    (is_there sides c.args.self.now.wanted c.args.left.now c.sought-sought.result quiet.0 quiet.1.0 c.sought-sought.ensures) quiet.1.1
 
 pub returns-then-is_known-clause-every : goal.returns-then-is_known-clause-every
 returns-then-is_known-clause-every t c =
