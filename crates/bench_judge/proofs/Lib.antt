@@ -4,6 +4,7 @@ pub mod Afters
 pub mod Answering
 pub mod Choices
 pub mod Counted
+pub mod Courses
 pub mod Cuts
 pub mod Deviating
 pub mod Doubted

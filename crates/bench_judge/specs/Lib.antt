@@ -15,4 +15,5 @@ pub mod Counted
 pub mod Evidence
 pub mod Judged
 pub mod Deviations
+pub mod Course
 pub mod Laws

@@ -51,6 +51,7 @@ fn find_all<'a, W: Watch>(
         let Judged {
             judgement,
             known: next,
+            walk: _,
         } = judge_events(alloc, &events, terms, &known, watch)?;
         known = next;
         match judgement {

@@ -1,5 +1,6 @@
 //! The judgement of a history.
 ghost use Rattle.std.specs.Prelude.{◌≡◌, ◌+◌, IfErr, IfOk, take};
+ghost use Rattle.bench_judge.specs.Course.{IsKeptBeside};
 ghost use Rattle.bench_judge.specs.Cut.{HasChoice};
 ghost use Rattle.bench_judge.specs.Judged.{IsFound, IsJudgement, IsWhyUnjudged};
 ghost use Rattle.bench_judge.specs.Known.{IsKnown};
@@ -32,6 +33,8 @@ use std::alloc::{AllocError, Global};
 pub(crate) struct Judged<'a> {
     pub(crate) judgement: Judgement<'a>,
     pub(crate) known: Known,
+    /// What is known of them where all are explained.
+    pub(crate) walk: Option<Walk>,
 }
 
 /// What is found of events, of which something is known.
@@ -48,6 +51,8 @@ pub(crate) fn judge_events<'a, W: Watch>(
     ensures known { IfOk result (λ judged. IsKnown (terms_of terms.now) events.now judged.known) }
     ensures until { IfOk result (λ judged. (deviation : TheDeviation)
         → judged.judgement ≡ TheDeviates deviation → deviation.line ≡ judged.known.until + 1) }
+    ensures kept { IfOk result (λ judged.
+        IsKeptBeside (terms_of terms.now) events.now judged.judgement judged.known judged.walk) }
 {
     watch.reached(Stage::Read {
         lines: events.len(),
@@ -73,6 +78,7 @@ pub(crate) fn judge_events<'a, W: Watch>(
                 until: end,
                 versions,
             },
+            walk: None,
         });
     }
     let doubtful = doubtful(alloc, events, walk.frames.len())?;
@@ -89,6 +95,7 @@ pub(crate) fn judge_events<'a, W: Watch>(
             until: end,
             versions,
         },
+        walk: Some(walk),
     })
 }
 
@@ -111,6 +118,8 @@ fn deviates<'a, W: Watch>(
     ensures known { IfOk result (λ judged. IsKnown (terms_of terms.now) events.now judged.known) }
     ensures until { IfOk result (λ judged. (deviation : TheDeviation)
         → judged.judgement ≡ TheDeviates deviation → deviation.line ≡ judged.known.until + 1) }
+    ensures kept { IfOk result (λ judged.
+        IsKeptBeside (terms_of terms.now) events.now judged.judgement judged.known judged.walk) }
 {
     let place = turn(alloc, events, walk, terms, known, hint, watch)?;
     let (frame, versions) = wrong_frame(alloc, events, walk, terms, known, place)?;
@@ -123,6 +132,7 @@ fn deviates<'a, W: Watch>(
             until: place,
             versions,
         },
+        walk: None,
     })
 }
 
@@ -143,6 +153,7 @@ fn judge_upon<'a, W: Watch>(
             Judged {
                 judgement,
                 known: _,
+                walk: _,
             },
         ) => Ok(judgement),
         Err(AllocError) => Err(JudgeFault::NoMemory),

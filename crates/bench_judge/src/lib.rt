@@ -3,11 +3,11 @@
 //! A history (bench_history) is what one observer saw at an optical network unit: messages, replies, frames that were sent into its
 //! ports and how they ended. [`judge`] says that a right unit may have behaved so, or names the first line that no right unit explains,
 //! and what the versions that are left to its frame would have done. [`judge_all`] names every such line: it takes back the claim of each
-//! deviation and judges what is left.
+//! deviation and judges what is left. [`follow`] judges too, and gives the frames that were judged, with their least versions.
 //!
 //! **The definitions** stand in `specs/`: what a history is judged upon (Terms), when one of several frames may have left (Doubt), which
 //! events may stand by themselves (Admitted), which histories are explained (Explained), what counts as evidence (Evidence), what is said
-//! of a history (Judged), and what is taken back behind a deviation (Deviations). A *version* is a number of accepted requests: the
+//! of a history (Judged), which frames it judged by which versions (Course), and what is taken back behind a deviation (Deviations). A *version* is a number of accepted requests: the
 //! entities after them decide what becomes of a frame. What was asked, which replies are right, and from which version to which a frame may
 //! leave is defined by bench_answers.
 //!
@@ -23,6 +23,7 @@
 mod admitting;
 mod bounds;
 mod counts;
+mod course;
 mod cut;
 mod deviation;
 mod deviations;
@@ -30,6 +31,7 @@ mod doubt;
 mod evidence;
 mod fault;
 mod fitting;
+mod following;
 mod frame;
 mod halving;
 mod judgement;
@@ -47,8 +49,10 @@ mod terms;
 mod walk;
 mod watch;
 
+pub use course::{Course, JudgedFrame};
 pub use deviations::{judge_all, judge_all_pieces};
 pub use fault::JudgeFault;
+pub use following::{Followed, follow, follow_pieces};
 pub use judgement::{
     Answer, Candidate, Counts, Deviation, Deviations, End, Evidence, Explanation, Findings,
     Judgement, Leaving, Run, Step, Wrong, WrongFrame, WrongOneOf, WrongReply,

@@ -141,6 +141,10 @@ start = optional (codes "start") NonEmptyString
 abbrev pub most : Rule
 most = numbered (codes "most")
 
+-- whether the coverage is listed
+abbrev pub coverage : Rule
+coverage = flag (codes "coverage")
+
 -- a file with a history, which may be left out
 abbrev pub history : Rule
 history = record (new_rule (codes "history")) {
@@ -256,6 +260,21 @@ of_change = with_rule (over_trace (codes "hitless")) (valued (codes "from") begi
 abbrev pub hitless : App
 hitless = with_rule (with_rule (with_rule of_change any_port) least) json
 
+-- a file with expectations, which may be left out
+abbrev pub expectations : Rule
+expectations = record (new_rule (codes "expectations")) {
+  action = Some Set;
+  value_names = 1;
+  parser = Some NonEmptyString;
+}
+
+-- what names versions
+abbrev pub by_versions : App
+by_versions = with_rule (over_trace (codes "expect")) (optional (codes "from") beginning)
+
+abbrev pub expect : App
+expect = with_rule (with_rule (with_rule by_versions least) json) expectations
+
 -- what says how a history is judged
 abbrev pub by_settings : App
 by_settings =
@@ -265,8 +284,12 @@ by_settings =
 abbrev pub by_wishes : App
 by_wishes = with_rule (with_rule (with_rule (with_rule by_settings repeats) start) all) most
 
+-- and of every frame
+abbrev pub by_frames : App
+by_frames = with_rule (with_rule by_wishes coverage) least
+
 abbrev pub judge : App
-judge = with_rule (with_rule by_wishes json) history
+judge = with_rule (with_rule by_frames json) history
 
 -- the identifier of the first message
 abbrev pub identifier : Rule
@@ -325,7 +348,7 @@ with_pictures app = with_subcommand (with_subcommand app lint.top) graph.top
 
 -- what says what becomes of every frame
 abbrev pub with_frames : App → App
-with_frames app = with_subcommand (with_subcommand (with_subcommand app cover.top) diff.top) hitless.top
+with_frames app = with_subcommand (with_subcommand (with_subcommand (with_subcommand app cover.top) diff.top) hitless.top) expect.top
 
 abbrev pub onuctl : App
 onuctl = with_frames (with_pictures (with_captures (with_looking (with_doing alone))))

@@ -24,6 +24,7 @@ const OVER_FILES: &[(&str, &str)] = &[
     ("cover", TRACE),
     ("diff", TRACE),
     ("hitless", TRACE),
+    ("expect", TRACE),
 ];
 
 /// What becomes of a word.
@@ -151,11 +152,15 @@ fn lend<'w>(lent: &mut Vec<&'w str>, words: &'w [String]) -> Result<(), AllocErr
     Ok(())
 }
 
-/// The words in the order of the grammar: of `explain` the trace that an option names stands in front of the frame.
+/// The commands behind whose trace another word may stand without an option.
+const BEHIND_TRACE: &[&str] = &["explain", "expect"];
+
+/// The words in the order of the grammar: of `explain` the trace that an option names stands in front of the frame, of `expect` in front of the
+/// file.
 fn ordered<'w>(alloc: Global, words: &'w [String]) -> Result<Vec<&'w str>, AllocError> {
     let (front, given) = words.split_at(words.len().min(IN_FRONT));
     let named = match front.get(1) {
-        Some(command) if is_word(command.as_str(), "explain") => {
+        Some(command) if BEHIND_TRACE.contains(&command.as_str()) => {
             given.iter().position(|word| names_trace(word.as_str()))
         }
         _ => None,

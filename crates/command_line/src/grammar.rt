@@ -8,6 +8,7 @@ mod cover;
 mod decode;
 mod diff;
 mod encode;
+mod expect;
 mod explain;
 mod forward;
 mod graph;
@@ -62,7 +63,8 @@ pub fn onuctl<'a>(alloc: Global) -> Result<Command<'a>, AllocError>
     let drawing = with_sub(linting, graph::graph(alloc));
     let covering = with_sub(drawing, cover::cover(alloc));
     let comparing = with_sub(covering, diff::diff(alloc));
-    with_sub(comparing, hitless::hitless(alloc))
+    let watching = with_sub(comparing, hitless::hitless(alloc));
+    with_sub(watching, expect::expect(alloc))
 }
 
 /// The command of this name alone, or the program where there is none.
@@ -83,6 +85,7 @@ pub fn named<'a>(alloc: Global, name: &str) -> Result<Command<'a>, AllocError> {
         "cover" => cover::cover(alloc),
         "diff" => diff::diff(alloc),
         "hitless" => hitless::hitless(alloc),
+        "expect" => expect::expect(alloc),
         _ => onuctl(alloc),
     }
 }

@@ -7,10 +7,10 @@ mod parsing;
 mod version;
 
 pub use command_words::{
-    CoverWords, DecodeWords, DiffWords, EncodeWords, ExplainWords, ForwardWords, FrameWords,
-    GraphWords, HitlessWords, JudgeWords, LintWords, MibWords, NumberedFile, RecordWords,
-    ReplayWords, RulesWords, RunWords, TraceWords, TracesWords, Words, read_numbered, read_tpid,
-    report_words,
+    CoverWords, DecodeWords, DiffWords, EncodeWords, ExpectWords, ExplainWords, ForwardWords,
+    FrameWords, GraphWords, HitlessWords, JudgeWords, LintWords, MibWords, NumberedFile,
+    RecordWords, ReplayWords, RulesWords, RunWords, TraceWords, TracesWords, Words, read_numbered,
+    read_tpid, report_words,
 };
 pub use forms::usual_words;
 pub use parsing::read_words;

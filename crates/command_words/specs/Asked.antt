@@ -21,11 +21,12 @@ use Rattle.command_words.specs.declared.words.LintWords.{LintWords}
 use Rattle.command_words.specs.declared.words.CoverWords.{CoverWords}
 use Rattle.command_words.specs.declared.words.DiffWords.{DiffWords}
 use Rattle.command_words.specs.declared.words.HitlessWords.{HitlessWords}
+use Rattle.command_words.specs.declared.expecting.ExpectWords.{ExpectWords}
 use Rattle.command_words.specs.declared.words.GraphWords.{GraphWords}
 use Rattle.command_words.specs.declared.words.DecodeWords.{DecodeWords}
 use Rattle.command_words.specs.declared.words.EncodeWords.{EncodeWords}
 use Rattle.command_words.specs.declared.words.Words.{Words}
-use Rattle.command_words.specs.declared.words.Words.TheVariants.{Replay, Run, Decode, Mib, Rules, Explain, Judge, Forward, Record, Encode, Lint, Graph, Cover, Diff, Hitless}
+use Rattle.command_words.specs.declared.words.Words.TheVariants.{Replay, Run, Decode, Mib, Rules, Explain, Judge, Forward, Record, Encode, Lint, Graph, Cover, Diff, Hitless, Expect}
 
 -- the value of an option is a number in decimal digits
 pub record IsNumber (name : Text) (rows : List Row) (n : ℕ) : Type 0 where
@@ -134,6 +135,19 @@ abbrev pub IsListed : List Row → Option ℕ → Type 0
 IsListed rows (Some n) = (asks_for_all rows ≡ true) × IsNumberOr most_listed (codes "most") rows n
 IsListed rows None = (asks_for_all rows ≡ false) × (first_of (codes "most") rows ≡ None)
 
+-- whether the coverage is asked for, and whether frames are judged each by itself
+abbrev pub asks_for_coverage : List Row → Bool
+asks_for_coverage rows = is_true (first_of (codes "coverage") rows)
+
+abbrev pub asks_for_each : List Row → Bool
+asks_for_each rows = is_true (first_of (codes "unordered") rows)
+
+-- how many bytes a frame has at least whose class is listed as tried or not: where the coverage is asked for so many as `least` says; else
+-- none, and `least` isn't given. The coverage isn't asked for where frames are judged each by itself
+abbrev pub IsCoverage : List Row → Option ℕ → Type 0
+IsCoverage rows (Some n) = (asks_for_coverage rows ≡ true) × (asks_for_each rows ≡ false) × IsNumberOr 0 (codes "least") rows n
+IsCoverage rows None = (asks_for_coverage rows ≡ false) × (first_of (codes "least") rows ≡ None)
+
 -- those behind `judge`
 pub record IsJudge (rows : List Row) (words : JudgeWords) : Type 0 where
   pub file : first_of (codes "history") rows ≡ option_map (λ (name : _). name.now) words.file
@@ -144,6 +158,7 @@ pub record IsJudge (rows : List Row) (words : JudgeWords) : Type 0 where
   pub repeats : IsFlag (codes "repeats") rows words.repeats
   pub start : first_of (codes "start") rows ≡ option_map (λ (name : _). name.now) words.start
   pub listed : IsListed rows words.listed
+  pub coverage : IsCoverage rows words.coverage
   pub allow_unfinished : IsFlag (codes "allow-unfinished") rows words.allow_unfinished
   pub json : IsFlag (codes "json") rows words.json
 
@@ -240,6 +255,20 @@ pub record IsHitless (rows : List Row) (words : HitlessWords) : Type 0 where
   pub least : IsOptionalNumber (codes "least") rows words.least
   pub json : IsFlag (codes "json") rows words.json
 
+-- a line that may be left out is not behind another
+abbrev pub AreInOrder : Option ℕ → Option ℕ → Type 0
+AreInOrder until None = Unit {0}
+AreInOrder until (Some from) = IsNotBehind until from
+
+-- those behind `expect`
+pub record IsExpect (rows : List Row) (words : ExpectWords) : Type 0 where
+  pub trace : IsTrace rows words.trace
+  pub from : IsOptionalNumber (codes "from") rows words.from
+  pub order : AreInOrder words.trace.until words.from
+  pub file : first_of (codes "expectations") rows ≡ option_map (λ (name : _). name.now) words.file
+  pub least : IsOptionalNumber (codes "least") rows words.least
+  pub json : IsFlag (codes "json") rows words.json
+
 -- those behind `encode`
 pub record IsEncode (rows : List Row) (words : EncodeWords) : Type 0 where
   pub file : first_of (codes "text") rows ≡ option_map (λ (name : _). name.now) words.file
@@ -263,6 +292,7 @@ IsAskedBy (Some (name, rows)) (Graph words) = (name ≡ codes "graph") × IsGrap
 IsAskedBy (Some (name, rows)) (Cover words) = (name ≡ codes "cover") × IsCover rows words
 IsAskedBy (Some (name, rows)) (Diff words) = (name ≡ codes "diff") × IsDiff rows words
 IsAskedBy (Some (name, rows)) (Hitless words) = (name ≡ codes "hitless") × IsHitless rows words
+IsAskedBy (Some (name, rows)) (Expect words) = (name ≡ codes "expect") × IsExpect rows words
 
 -- all but what names files or options several times
 abbrev pub HasNoList : Words → Type 0
@@ -281,6 +311,7 @@ HasNoList (Graph words) = Unit {0}
 HasNoList (Cover words) = Unit {0}
 HasNoList (Diff words) = Unit {0}
 HasNoList (Hitless words) = Unit {0}
+HasNoList (Expect words) = Unit {0}
 
 -- what shows where the frames of a port go
 abbrev pub IsLook : Words → Type 0
@@ -299,3 +330,4 @@ IsLook (Graph words) = Unit {0}
 IsLook (Cover words) = Unit {0}
 IsLook (Diff words) = Unit {0}
 IsLook (Hitless words) = Unit {0}
+IsLook (Expect words) = Unit {0}

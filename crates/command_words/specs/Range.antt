@@ -3,7 +3,7 @@ use Rattle.std.specs.Prelude.{◌≤◌, ℕ, Option, IfSome}
 use Rattle.run_settings.specs.Settings.{CanRun}
 use Rattle.run_settings.specs.declared.settings.RunSettings.{RunSettings}
 use Rattle.command_words.specs.declared.words.Words.{Words}
-use Rattle.command_words.specs.declared.words.Words.TheVariants.{Replay, Run, Decode, Mib, Rules, Explain, Judge, Forward, Record, Encode, Lint, Graph, Cover, Diff, Hitless}
+use Rattle.command_words.specs.declared.words.Words.TheVariants.{Replay, Run, Decode, Mib, Rules, Explain, Judge, Forward, Record, Encode, Lint, Graph, Cover, Diff, Hitless, Expect}
 use Rattle.command_words.specs.declared.words.FrameWords.{FrameWords}
 use Rattle.command_words.specs.declared.words.FrameWords.TheVariants.{Bytes, Captured}
 
@@ -33,7 +33,7 @@ IsInRange (Decode words) = Unit {0}
 IsInRange (Mib words) = IsLine words.traces.until
 IsInRange (Rules words) = (words.port ≤ 65535) × IsLine words.traces.until
 IsInRange (Explain words) = (words.port ≤ 65535) × IsFrameInRange words.frame × IsLine words.trace.until
-IsInRange (Judge words) = IsLine words.listed
+IsInRange (Judge words) = IsLine words.listed × IsShort words.coverage
 IsInRange (Forward words) = (words.port ≤ 65535) × IsLine words.trace.until
 IsInRange (Record words) = IsLine words.wait × IsLine words.lost
 IsInRange (Encode words) = IsShort words.identifier
@@ -42,3 +42,4 @@ IsInRange (Graph words) = IsShort words.port × IsLine words.trace.until
 IsInRange (Cover words) = IsShort words.port × IsShort words.least × IsLine words.trace.until
 IsInRange (Diff words) = IsLine words.from × IsShort words.port × IsShort words.least × IsLine words.trace.until
 IsInRange (Hitless words) = (words.from ≤ 4294967295) × IsShort words.port × IsShort words.least × IsLine words.trace.until
+IsInRange (Expect words) = IsLine words.from × IsShort words.least × IsLine words.trace.until

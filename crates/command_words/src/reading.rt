@@ -1,7 +1,7 @@
 //! What the words ask for.
 ghost use Rattle.std.specs.Prelude.{◌≡◌, ◌≤◌, ℕ, Option, codes, IfErr, IfNone, IfOk, IfSome, Bool, false, true};
-ghost use Rattle.clap.specs.Words.{found_of, rows_of, subcommand_rows_of};
-ghost use Rattle.command_words.specs.Asked.{AreSides, AreTexts, IsAskedBy, IsCover, IsDecode, IsDiff, IsEncode, IsExplain, IsForward, IsFrame, IsGraph, IsHitless, IsJudge, IsLate, IsLint, IsListed, IsLook, IsMib, IsNotBehind, HasNoList, IsOptionalNumber, IsRecord, IsReplay, IsRules, IsRun, IsTrace, IsTraces, asks_for_all, asks_for_late};
+ghost use Rattle.clap.specs.Words.{first_of, found_of, rows_of, subcommand_rows_of};
+ghost use Rattle.command_words.specs.Asked.{AreSides, AreTexts, IsAskedBy, IsCover, IsCoverage, IsDecode, IsDiff, IsEncode, IsExplain, IsForward, IsFrame, IsGraph, IsHitless, IsJudge, IsLate, IsLint, IsListed, IsLook, IsMib, IsNotBehind, HasNoList, IsOptionalNumber, IsRecord, IsReplay, IsRules, IsRun, IsTrace, IsTraces, asks_for_all, asks_for_late, is_true};
 ghost use Rattle.command_words.specs.declared.words.Words.{Words};
 ghost use Rattle.command_words.specs.declared.words.RecordWords.{RecordWords};
 ghost use Rattle.command_words.specs.declared.words.RunWords.{RunWords};
@@ -21,6 +21,7 @@ ghost use Rattle.command_words.specs.declared.words.TraceWords.{TraceWords};
 ghost use Rattle.command_words.specs.declared.words.TracesWords.{TracesWords};
 ghost use Rattle.command_words.specs.Range.{AreInRange, IsFrameInRange, IsShort, IsInRange, IsLine};
 
+use crate::expecting::read_expect;
 use crate::words::{
     CoverWords, DecodeWords, DiffWords, EncodeWords, ExplainWords, ForwardWords, FrameWords,
     GraphWords, HitlessWords, JudgeWords, LintWords, MibWords, RecordWords, ReplayWords,
@@ -64,7 +65,7 @@ fn read_run<'a>(given: &ArgMatches<'a>) -> Option<RunWords<'a>>
 }
 
 /// The number of an option that may be left out; None where it is given, and no number of 32 bits.
-fn read_optional(given: &ArgMatches<'_>, name: &str) -> Option<Option<u32>>
+pub(crate) fn read_optional(given: &ArgMatches<'_>, name: &str) -> Option<Option<u32>>
     ensures asked { IfSome result (IsOptionalNumber name.now (rows_of (found_of given.now))) }
     ensures range { IfSome result IsLine }
     ensures none { IfNone result ((n : Option ℕ)
@@ -77,7 +78,7 @@ fn read_optional(given: &ArgMatches<'_>, name: &str) -> Option<Option<u32>>
 }
 
 /// The number of an option that may be left out; None where it is given, and no number of 16 bits.
-fn read_short(given: &ArgMatches<'_>, name: &str) -> Option<Option<u16>>
+pub(crate) fn read_short(given: &ArgMatches<'_>, name: &str) -> Option<Option<u16>>
     ensures asked { IfSome result (IsOptionalNumber name.now (rows_of (found_of given.now))) }
     ensures range { IfSome result IsShort }
     ensures none { IfNone result ((n : Option ℕ)
@@ -109,7 +110,7 @@ fn read_frame<'a>(given: &ArgMatches<'a>) -> Option<FrameWords<'a>>
 }
 
 /// Which messages are to be applied; None where the file is missing, or the line's number has over 32 bits.
-fn read_trace<'a>(given: &ArgMatches<'a>) -> Option<TraceWords<'a>>
+pub(crate) fn read_trace<'a>(given: &ArgMatches<'a>) -> Option<TraceWords<'a>>
     ensures asked { IfSome result (IsTrace (rows_of (found_of given.now))) }
     ensures range { IfSome result (λ words. IsLine words.until) }
     ensures none { IfNone result ((words : TraceWords)
@@ -174,7 +175,7 @@ fn read_cover<'a>(given: &ArgMatches<'a>) -> Option<CoverWords<'a>>
 }
 
 /// Whether a line isn't behind another, which is the last one where there is none.
-fn is_not_behind(until: Option<u32>, from: u32) -> bool
+pub(crate) fn is_not_behind(until: Option<u32>, from: u32) -> bool
     ensures yes { result ≡ true → IsNotBehind until from }
     ensures no { result ≡ false → IsNotBehind until from → ⊥ }
 {
@@ -297,14 +298,48 @@ fn read_listed(given: &ArgMatches<'_>) -> Option<Option<u32>>
     }
 }
 
-/// What the words behind `judge` ask for; None where `--most` is given without `--all`, or its number has over 32 bits.
+/// Whether an option without a value is given.
+fn is_asked(given: &ArgMatches<'_>, name: &str) -> bool
+    ensures { result ≡ is_true (first_of name.now (rows_of (found_of given.now))) }
+{
+    match given.get_str(name) {
+        Some(text) => text == "true",
+        None => false,
+    }
+}
+
+/// How many bytes a frame has at least whose class is listed as tried or not, 0 where `--least` doesn't say it, and Some(None) where none is
+/// listed; None where `--least` is given without `--coverage`, or its number has over 16 bits, or `--coverage` with `--unordered`.
+fn read_coverage(given: &ArgMatches<'_>) -> Option<Option<u16>>
+    ensures asked { IfSome result (IsCoverage (rows_of (found_of given.now))) }
+    ensures range { IfSome result IsShort }
+    ensures none { IfNone result ((coverage : Option ℕ)
+        → IsCoverage (rows_of (found_of given.now)) coverage → IsShort coverage → ⊥) }
+{
+    let least = read_short(given, "least")?;
+    if is_asked(given, "coverage") {
+        if is_asked(given, "unordered") {
+            return None;
+        }
+        return Some(Some(least.unwrap_or(0)));
+    }
+    match least {
+        Some(_) => None,
+        None => Some(None),
+    }
+}
+
+/// What the words behind `judge` ask for; None where `--most` is given without `--all`, or its number has over 32 bits, and where
+/// [`read_coverage`] gives None.
 fn read_judge<'a>(given: &ArgMatches<'a>) -> Option<JudgeWords<'a>>
     ensures asked { IfSome result (IsJudge (rows_of (found_of given.now))) }
-    ensures range { IfSome result (λ words. IsLine words.listed) }
+    ensures range { IfSome result (λ words. IsLine words.listed × IsShort words.coverage) }
     ensures none { IfNone result ((words : JudgeWords)
-        → IsJudge (rows_of (found_of given.now)) words → IsLine words.listed → ⊥) }
+        → IsJudge (rows_of (found_of given.now)) words
+        → IsLine words.listed → IsShort words.coverage → ⊥) }
 {
     let listed = read_listed(given)?;
+    let coverage = read_coverage(given)?;
     Some(JudgeWords {
         file: given.get_str("history"),
         modelled: given.get_flag("modelled"),
@@ -314,6 +349,7 @@ fn read_judge<'a>(given: &ArgMatches<'a>) -> Option<JudgeWords<'a>>
         repeats: given.get_flag("repeats"),
         start: given.get_str("start"),
         listed,
+        coverage,
         allow_unfinished: given.get_flag("allow-unfinished"),
         json: given.get_flag("json"),
     })
@@ -522,6 +558,9 @@ fn read_look<'a>(matches: &ArgMatches<'a>) -> Option<Words<'a>>
     if let Some(given) = matches.subcommand_matches("hitless") {
         return Some(Words::Hitless(read_hitless(given)?));
     }
+    if let Some(given) = matches.subcommand_matches("expect") {
+        return Some(Words::Expect(read_expect(given)?));
+    }
     let given = matches.subcommand_matches("graph")?;
     Some(Words::Graph(read_graph(given)?))
 }
@@ -616,16 +655,29 @@ fn sides_complaint(given: &ArgMatches<'_>) -> &'static str {
     }
 }
 
+/// What is said of the words of `judge` of which one asks for another that isn't there, or for none that is.
+fn judge_complaint(given: &ArgMatches<'_>) -> &'static str {
+    if given.get_str("most").is_some() && !is_asked(given, "all") {
+        return "give --all too, beside --most";
+    }
+    if given.get_str("least").is_some() && !is_asked(given, "coverage") {
+        return "give --coverage too, beside --least";
+    }
+    "the argument '--coverage' cannot be used with '--unordered'"
+}
+
 /// What is said where clap takes words that ask for nothing, of all but `explain`.
 fn others_complaint(matches: &ArgMatches<'_>) -> &'static str {
     if let Some(given) = matches.subcommand_matches("diff") {
         return sides_complaint(given);
     }
-    if matches.subcommand_matches("hitless").is_some() {
+    if matches.subcommand_matches("hitless").is_some()
+        || matches.subcommand_matches("expect").is_some()
+    {
         return BEHIND;
     }
-    if matches.subcommand_matches("judge").is_some() {
-        return "give --all too, beside --most";
+    if let Some(given) = matches.subcommand_matches("judge") {
+        return judge_complaint(given);
     }
     if matches.subcommand_matches("record").is_some() {
         return "give --lost too, beside --late";

@@ -1,4 +1,5 @@
 //! What the words of a command line ask for.
+use crate::expecting::ExpectWords;
 use run_settings::RunSettings;
 
 /// What the words of the command line ask for. The names of files lie in the words.
@@ -34,6 +35,8 @@ pub enum Words<'a> {
     Diff(DiffWords<'a>),
     /// Which frames a change treats in between as neither its beginning nor its end does.
     Hitless(HitlessWords<'a>),
+    /// Whether frames end as is expected.
+    Expect(ExpectWords<'a>),
 }
 
 /// How `replay` is to answer.
@@ -220,6 +223,8 @@ pub struct JudgeWords<'a> {
     pub start: Option<&'a str>,
     /// How many deviations are listed at most, or None for the first alone.
     pub listed: Option<u32>,
+    /// How many bytes a frame has at least whose class is listed as tried or not, or None where none is listed.
+    pub coverage: Option<u16>,
     /// Whether a history without an end line is explained too.
     pub allow_unfinished: bool,
     /// Whether it is shown as JSON.

@@ -1,9 +1,8 @@
 //! The two configurations that words name.
 use command_words::{DiffWords, TraceWords};
 use commands_files::{Linted, apply_kept, apply_named, refuse_twice, report_short, without_memory};
-use mib_state::Mib;
-use script_trace::{Accepted, Applied};
-use std::alloc::{AllocError, Global};
+use script_trace::{Applied, apply_script};
+use std::alloc::Global;
 use std::io::Write;
 use std::rt::Files;
 use text_writing::Status;
@@ -13,34 +12,6 @@ use text_writing::Status;
 pub(crate) struct Sides {
     pub(crate) before: Applied,
     pub(crate) after: Applied,
-}
-
-/// The requests that stand up to a line, of those that were accepted in this order.
-pub(crate) fn accepted_until(accepted: &[Accepted], line: u32) -> &[Accepted] {
-    let last = u64::from(line);
-    let behind = accepted.iter().position(|each| each.line > last);
-    let count = behind.unwrap_or(accepted.len());
-    accepted.split_at(count.min(accepted.len())).0
-}
-
-/// The managed entities that requests lead to, which were accepted in this order.
-pub(crate) fn entities_of(alloc: Global, accepted: &[Accepted]) -> Result<Mib, AllocError> {
-    let mut mib = Mib::new(alloc)?;
-    for each in accepted {
-        let _ = mib.carry_out(&each.request);
-    }
-    Ok(mib)
-}
-
-/// What a trace left at a line, of which it left this at its end.
-fn left_at(alloc: Global, applied: &Applied, line: Option<u32>) -> Result<Applied, AllocError> {
-    let accepted = accepted_until(&applied.accepted, line.unwrap_or(u32::MAX));
-    Ok(Applied {
-        mib: entities_of(alloc, accepted)?,
-        accepted: accepted.to_vec(alloc)?,
-        faulty: Vec::new(alloc),
-        refused: Vec::new(alloc),
-    })
 }
 
 /// What a trace left at two moments, or the status where it can't be had.
@@ -53,12 +24,14 @@ fn of_moments<R: Files + Alloc<A = Global>, E: Write>(
     if let Some(from) = words.from {
         report_short(&script, words.trace.file, "--from", from, err);
     }
-    match left_at(rt.alloc(), &applied, words.from) {
+    let line = words.from.or(words.trace.until).map(u64::from);
+    match apply_script(rt.alloc(), &script, line) {
         Ok(before) => Ok(Sides {
             before,
             after: applied,
         }),
-        Err(AllocError) => Err(without_memory(err)),
+        // None of these lines is bad: they were carried out for the other side too.
+        Err(_) => Err(without_memory(err)),
     }
 }
 

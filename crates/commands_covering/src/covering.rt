@@ -2,13 +2,13 @@
 use crate::sending::{send_to_file, send_to_output};
 use command_words::CoverWords;
 use commands_files::{apply_trace, report_text, without_memory};
-use explain_findings::named_ports;
 use frame_classes::{ClassExample, classes};
 use mib_state::Mib;
 use std::alloc::{AllocError, Global};
 use std::io::{BufWriter, Write};
 use std::rt::Files;
 use text_classes::{ClassList, Form};
+use text_every_frame::{ports_of, write_classes};
 use text_writing::{Status, TextFault};
 
 /// What is said of two options that don't go together, in the form of the other words that are refused.
@@ -39,16 +39,6 @@ fn form_of<E: Write>(words: &CoverWords<'_>, err: &mut E) -> Result<Form, Status
     }
 }
 
-/// The ports whose classes are listed: the one that the words name, or those that managed entities name.
-fn ports_of(alloc: Global, words: &CoverWords<'_>, mib: &Mib) -> Result<Vec<u16>, AllocError> {
-    let Some(port) = words.port else {
-        return named_ports(alloc, mib);
-    };
-    let mut ports = Vec::new(alloc);
-    ports.push(port)?;
-    Ok(ports)
-}
-
 /// The classes of a port that are listed.
 fn classes_at(
     alloc: Global,
@@ -56,26 +46,6 @@ fn classes_at(
     port: u16,
 ) -> Result<Vec<ClassExample>, AllocError> {
     classes(alloc, job.mib, port, job.words.least.map_or(0, usize::from))
-}
-
-/// Writes the classes of ports. Those of one port at a time are held.
-fn write_ports<W: Write>(
-    alloc: Global,
-    job: &Job<'_, '_>,
-    ports: &[u16],
-    writer: &mut W,
-) -> Result<(), TextFault> {
-    let Ok(mut gathered) = BufWriter::new(alloc, writer) else {
-        return Err(TextFault::NoMemory);
-    };
-    let mut list = ClassList::new(alloc, job.form);
-    list.begin(&mut gathered)?;
-    for port in ports {
-        let examples = classes_at(alloc, job, *port)?;
-        list.port(*port, &examples, &mut gathered)?;
-    }
-    list.end(&mut gathered)?;
-    gathered.flush().map_err(|_| TextFault::Write)
 }
 
 /// Writes these classes of a port.
@@ -93,6 +63,21 @@ fn write_port<W: Write>(
     list.begin(&mut gathered)?;
     list.port(port, examples, &mut gathered)?;
     list.end(&mut gathered)?;
+    gathered.flush().map_err(|_| TextFault::Write)
+}
+
+/// Writes the classes of these ports.
+fn write_ports<W: Write>(
+    alloc: Global,
+    job: &Job<'_, '_>,
+    ports: &[u16],
+    writer: &mut W,
+) -> Result<(), TextFault> {
+    let Ok(mut gathered) = BufWriter::new(alloc, writer) else {
+        return Err(TextFault::NoMemory);
+    };
+    let least = job.words.least.unwrap_or(0);
+    write_classes(alloc, job.mib, ports, least, job.form, &mut gathered)?;
     gathered.flush().map_err(|_| TextFault::Write)
 }
 
@@ -180,7 +165,7 @@ fn cover_asked<R: Files + Alloc<A = Global>, O: Write, E: Write>(
     let form = form_of(words, err)?;
     let applied = apply_trace(rt, &words.trace, err)?;
     let mib = &applied.mib;
-    let Ok(ports) = ports_of(rt.alloc(), words, mib) else {
+    let Ok(ports) = ports_of(rt.alloc(), mib, words.port) else {
         return Err(without_memory(err));
     };
     let job = Job { words, mib, form };

@@ -1,13 +1,15 @@
 //! What is found of a history, as the words ask for it.
+use bench_coverage::{Stretch, coverage};
 use bench_judge::{
-    Deviations, Findings, JudgeFault, JudgeSettings, Judgement, Watch, judge_all, judge_all_pieces,
-    judge_pieces, judge_watched,
+    Deviations, Findings, Followed, JudgeFault, JudgeSettings, Judgement, Watch, follow,
+    follow_pieces, judge_all, judge_all_pieces, judge_pieces, judge_watched,
 };
 use command_words::JudgeWords;
 use commands_files::History;
 use omci_msg::Request;
 use std::alloc::{AllocError, Global};
 use std::io::Write;
+use text_coverage::{write_covered, write_covered_json};
 use text_deviations::{Observed, accepted_before};
 use text_encode::without_mark;
 use text_judgements::{
@@ -22,11 +24,12 @@ pub(crate) struct Begun {
     pub(crate) history: History,
 }
 
-/// What is found: that a history is explained, or its first deviation; or all of them.
+/// What is found: that a history is explained, or its first deviation; or all of them; or that it is explained, with its coverage.
 #[derive(Drop)]
 pub(crate) enum Found<'h> {
     First(Judgement<'h>),
     All(Deviations<'h>),
+    Covered(Judgement<'h>, Vec<Stretch>),
 }
 
 /// What a history is judged by.
@@ -77,8 +80,22 @@ fn find_all<'h, W: Watch>(
     })
 }
 
-/// What is found of a history, as the words ask for it.
-pub(crate) fn find<'h, W: Watch>(
+/// What is found of a history up to its first deviation, and where it is explained the course of its frames.
+fn follow_begun<'h, W: Watch>(
+    alloc: Global,
+    settings: &JudgeSettings,
+    begun: &'h Begun,
+    watch: &mut W,
+) -> Result<Followed<'h>, JudgeFault> {
+    let start = begun.start.as_slice();
+    match &begun.history {
+        History::Whole(text) => follow(alloc, start, without_mark(text), settings, watch),
+        History::InPieces(pieces) => follow_pieces(alloc, start, pieces, settings, watch),
+    }
+}
+
+/// What is found of a history, of which all deviations are listed where the words ask for them.
+fn find_uncovered<'h, W: Watch>(
     alloc: Global,
     words: &JudgeWords,
     begun: &'h Begun,
@@ -91,17 +108,55 @@ pub(crate) fn find<'h, W: Watch>(
     }
 }
 
+/// What is found of a history, with the coverage of an explained one, in frames of so many bytes at least. Of another one it is judged once
+/// more where all deviations are listed.
+fn find_covered<'h, W: Watch>(
+    alloc: Global,
+    words: &JudgeWords,
+    begun: &'h Begun,
+    least: u16,
+    watch: &mut W,
+) -> Result<Found<'h>, JudgeFault> {
+    let Followed { judgement, course } = follow_begun(alloc, &settings_of(words), begun, watch)?;
+    let Some(course) = course else {
+        return match words.listed {
+            Some(_) => find_uncovered(alloc, words, begun, watch),
+            None => Ok(Found::First(judgement)),
+        };
+    };
+    match coverage(alloc, course, usize::from(least)) {
+        Ok(stretches) => Ok(Found::Covered(judgement, stretches)),
+        Err(AllocError) => Err(JudgeFault::NoMemory),
+    }
+}
+
+/// What is found of a history, as the words ask for it.
+pub(crate) fn find<'h, W: Watch>(
+    alloc: Global,
+    words: &JudgeWords,
+    begun: &'h Begun,
+    watch: &mut W,
+) -> Result<Found<'h>, JudgeFault> {
+    match words.coverage {
+        Some(least) => find_covered(alloc, words, begun, least, watch),
+        None => find_uncovered(alloc, words, begun, watch),
+    }
+}
+
 /// The status of what is found of a history, which may be unfinished where that is allowed.
 pub(crate) fn status_of(found: &Found<'_>, allow_unfinished: bool) -> Status {
     match found {
-        Found::First(Judgement::Explained(explanation)) => {
+        Found::First(Judgement::Explained(explanation))
+        | Found::Covered(Judgement::Explained(explanation), _) => {
             if explanation.passes(allow_unfinished) {
                 Status::Done
             } else {
                 Status::Undecided
             }
         }
-        Found::First(Judgement::Deviates(_)) | Found::All(_) => Status::Found,
+        Found::First(Judgement::Deviates(_))
+        | Found::Covered(Judgement::Deviates(_), _)
+        | Found::All(_) => Status::Found,
     }
 }
 
@@ -139,6 +194,9 @@ fn write_json<O: Write>(
     match found {
         Found::First(judgement) => write_judgement_json(alloc, judgement, told, out),
         Found::All(deviations) => write_deviations_json(alloc, deviations, told, out),
+        Found::Covered(judgement, stretches) => {
+            write_covered_json(alloc, judgement, stretches, told, out)
+        }
     }
 }
 
@@ -164,5 +222,8 @@ pub(crate) fn write_found<O: Write>(
     match found {
         Found::First(judgement) => write_judgement(alloc, judgement, &told, &observed, out),
         Found::All(deviations) => write_deviations(alloc, deviations, &told, &observed, out),
+        Found::Covered(judgement, stretches) => {
+            write_covered(alloc, judgement, stretches, &told, &observed, out)
+        }
     }
 }

@@ -5,6 +5,7 @@ use command_line::{Words, read_words, report_words, usual_words};
 use commands_captures::forward;
 use commands_comparing::{diff, hitless};
 use commands_covering::cover;
+use commands_expecting::expect;
 use commands_files::Unread;
 use commands_judging::judge_history;
 use commands_looking::{draw_graph, explain_frame, lint, show_mib, show_rules};
@@ -72,6 +73,7 @@ fn obey<
         Words::Cover(words) => cover(rt, words, out, err),
         Words::Diff(words) => diff(rt, words, out, err),
         Words::Hitless(words) => hitless(rt, words, out, err),
+        Words::Expect(words) => expect(rt, words, input, out, err),
     }
 }
 

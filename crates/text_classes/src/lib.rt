@@ -11,5 +11,5 @@ mod words;
 
 pub use form::Form;
 pub use list::ClassList;
-pub use object::put_use;
+pub use object::{put_example, put_use};
 pub use words::{ClassWords, UseWords};

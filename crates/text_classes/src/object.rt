@@ -5,8 +5,7 @@ use json::Writer;
 use std::alloc::{AllocError, Global};
 use text_entities::{HexWords, put_number, put_text, put_words};
 
-/// Puts the members of a class of a port: `port`; `use`, the word of what is used, with `entry` where it is one; `gem`, or `reason` and its
-/// `words`; and `frame`, its bytes.
+/// Puts the members of a class of a port: `port`, and those that [`put_example`] puts.
 pub(crate) fn put_class(
     alloc: Global,
     object: &mut Writer,
@@ -14,6 +13,16 @@ pub(crate) fn put_class(
     example: &ClassExample,
 ) -> Result<(), AllocError> {
     put_number(object, "port", u64::from(port))?;
+    put_example(alloc, object, example)
+}
+
+/// Puts the members of a class: `use`, the word of what is used, with `entry` where it is one; `gem`, or `reason` and its `words`; and
+/// `frame`, its bytes.
+pub fn put_example(
+    alloc: Global,
+    object: &mut Writer,
+    example: &ClassExample,
+) -> Result<(), AllocError> {
     put_use(object, example.class.used)?;
     put_ending(alloc, object, example.class.ending)?;
     put_words(alloc, object, "frame", &HexWords(&example.frame))

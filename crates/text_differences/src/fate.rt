@@ -11,7 +11,7 @@ use text_explanations::{FrameDigits, PortEntries, Traced, VerdictWords};
 
 /// What becomes of a frame by one configuration: what is used for it, and the verdict.
 #[derive(Drop)]
-pub(crate) struct Fate<'f> {
+pub struct Fate<'f> {
     used: Use,
     /// The line of the trace that set the entry that is used, where it is shown.
     line: Option<u64>,
@@ -28,7 +28,7 @@ fn line_of(traced: &Traced<'_>, port: u16, used: Use) -> Option<u64> {
 
 impl<'f> Fate<'f> {
     /// That of a frame that comes in at a port, of the class that it has there.
-    pub(crate) fn of(mib: &Mib, port: u16, class: &FrameClass, frame: &'f [u8]) -> Fate<'f> {
+    pub fn of(mib: &Mib, port: u16, class: &FrameClass, frame: &'f [u8]) -> Fate<'f> {
         Fate {
             used: class.used,
             line: None,
@@ -63,7 +63,7 @@ impl fmt::Display for Fate<'_> {
 
 /// Puts what becomes of a frame under a key, as an object: `use`, with `entry` where it is one; and `gem`, with `frame`, the bytes that
 /// leave; or `reason` and its `words`.
-pub(crate) fn put_fate(
+pub fn put_fate(
     alloc: Global,
     object: &mut Writer,
     key: &str,

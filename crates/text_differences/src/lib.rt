@@ -11,4 +11,5 @@ mod tears;
 mod writing;
 
 pub use differences::{Compared, DifferenceList};
+pub use fate::{Fate, put_fate};
 pub use tears::{Moment, ShownTear, TearList};

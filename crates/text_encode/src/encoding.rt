@@ -3,7 +3,6 @@ use crate::fault::EncodeFault;
 use crate::frame::put_frame;
 use crate::hexadecimal::{put_frame_bytes, put_message};
 use crate::identifiers::Identifiers;
-use crate::mark::without_mark;
 use crate::message::read_asked;
 use crate::output::Output;
 use crate::statement::Statement;
@@ -11,7 +10,7 @@ use omci_msg::{Request, write_request};
 use script_lines::first_line;
 use std::alloc::{AllocError, Global};
 use std::io::{ErrorKind, Read, Write};
-use text_words::{Word, Words};
+use text_words::{Word, Words, without_mark};
 use text_writing::write_whole;
 
 /// The remark in a line without words, from its `#` on; nothing where there is none.

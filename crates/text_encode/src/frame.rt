@@ -3,7 +3,7 @@ use crate::output::Output;
 use arrayvec::ArrayVec;
 use itoa::Buffer;
 use std::alloc::AllocError;
-use text_words::{Mistake, Why, Word, Words, number_at_most, put_digits, read_number};
+use text_words::{Mistake, Why, Word, Words, number_at_most, put_digits, read_number, read_tpid};
 
 /// The words of a frame.
 const WORDS: &[&str] = &["dst", "src", "tag", "type", "dscp", "length", "payload"];
@@ -82,22 +82,6 @@ fn read_address(word: Word<'_>) -> Result<[u8; 6], Mistake<'_>> {
     }
     address[5] = byte_of(rest).ok_or(bad)?;
     Ok(address)
-}
-
-/// The TPID of four digits, with `0x` in front or without.
-fn read_tpid(word: Word<'_>) -> Result<u16, Mistake<'_>> {
-    let digits = word.text.strip_prefix(b"0x").unwrap_or(word.text);
-    let mut number = 0u32;
-    for digit in digits.iter().take(5) {
-        number = number << 4 | char::from(*digit).to_digit(16).unwrap_or(0x1_0000);
-    }
-    match u16::try_from(number) {
-        Ok(tpid) if digits.len() == 4 => Ok(tpid),
-        _ => Err(word.mistake(Why::Unexpected {
-            found: word.text,
-            expected: "a TPID, four hexadecimal digits as in 8100",
-        })),
-    }
 }
 
 /// The four bytes of a tag `TPID:PRIORITY:DEI:VID`.

@@ -19,7 +19,6 @@ mod frame_words;
 mod header;
 mod hexadecimal;
 mod identifiers;
-mod mark;
 mod message;
 mod output;
 mod request_words;
@@ -29,6 +28,6 @@ mod value;
 
 pub use encoding::encode;
 pub use fault::EncodeFault;
-pub use mark::without_mark;
 pub use source::decode_source;
 pub use statement::is_in_words;
+pub use text_words::without_mark;

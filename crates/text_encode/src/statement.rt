@@ -1,7 +1,6 @@
 //! What a line says, by its first word.
-use crate::mark::without_mark;
 use script_lines::first_line;
-use text_words::{Mistake, Word, Words};
+use text_words::{Mistake, Word, Words, without_mark};
 
 /// What a line says, by its first word.
 #[derive(Clone, Copy)]

@@ -37,7 +37,9 @@ pub fn write_judgement_json<W: Write>(
     writer: &mut W,
 ) -> Result<(), TextFault> {
     match judgement {
-        Judgement::Explained(explanation) => write_explanation(alloc, explanation, told, writer),
+        Judgement::Explained(explanation) => {
+            write_explanation_json(alloc, explanation, told, "}", writer)
+        }
         Judgement::Deviates(deviation) => {
             let front = front_of(alloc, told)?;
             let front = format!(in alloc; "{front}\"explained\":false,")?;
@@ -84,11 +86,13 @@ fn front_of(alloc: Global, told: &Told) -> Result<String, AllocError> {
     }
 }
 
-/// Writes what a history shows that a right unit explains.
-fn write_explanation<W: Write>(
+/// Writes what a history shows that a right unit explains, as [`write_judgement_json`] does. Last stands `behind`: the object's end, or a
+/// comma where members follow.
+pub fn write_explanation_json<W: Write>(
     alloc: Global,
     explanation: &Explanation,
     told: &Told,
+    behind: &str,
     writer: &mut W,
 ) -> Result<(), TextFault> {
     let mut text = JsonText::new(alloc);
@@ -104,7 +108,7 @@ fn write_explanation<W: Write>(
     for step in &explanation.steps {
         write_step(&mut text, step, writer)?;
     }
-    text.end(writer, "}")
+    text.end(writer, behind)
 }
 
 /// Writes the object of a frame whose least version is greater than those before it.

@@ -11,6 +11,6 @@ mod judgement_json;
 mod judgement_text;
 mod told;
 
-pub use judgement_json::{write_deviations_json, write_judgement_json};
+pub use judgement_json::{write_deviations_json, write_explanation_json, write_judgement_json};
 pub use judgement_text::{write_deviations, write_judgement};
 pub use told::Told;

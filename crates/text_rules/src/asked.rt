@@ -3,7 +3,7 @@ use std::alloc::AllocError;
 use text_words::{Mistake, Mistakes, Why, Word};
 
 /// What goes against a rule at a column.
-pub(crate) fn rule_at<'a>(column: usize, words: &'static str) -> Mistake<'a> {
+pub fn rule_at<'a>(column: usize, words: &'static str) -> Mistake<'a> {
     Mistake {
         column,
         why: Why::Rule { words },
@@ -11,10 +11,7 @@ pub(crate) fn rule_at<'a>(column: usize, words: &'static str) -> Mistake<'a> {
 }
 
 /// That a word doesn't stand there, whose column is given if it does.
-pub(crate) fn check_alone<'a>(
-    column: Option<usize>,
-    words: &'static str,
-) -> Result<(), Mistake<'a>> {
+pub fn check_alone<'a>(column: Option<usize>, words: &'static str) -> Result<(), Mistake<'a>> {
     match column {
         Some(column) => Err(rule_at(column, words)),
         None => Ok(()),
@@ -22,12 +19,12 @@ pub(crate) fn check_alone<'a>(
 }
 
 /// What words ask, of which some stand in the parentheses of `outer(..)` or `inner(..)`.
-pub(crate) trait Asked {
+pub trait Asked {
     /// What the words in parentheses ask of a tag.
     type Tag: Copy;
 
     /// Takes a word that is no group.
-    fn take_word<'a>(&mut self, word: Word<'a>) -> Result<(), Mistake<'a>>;
+    fn take_own<'a>(&mut self, word: Word<'a>) -> Result<(), Mistake<'a>>;
 
     /// What the words in parentheses ask.
     fn read_tag(inside: Word<'_>, mistakes: &mut Mistakes) -> Result<Self::Tag, AllocError>;
@@ -36,8 +33,8 @@ pub(crate) trait Asked {
     fn put_tag<'a>(&mut self, name: Word<'a>, tag: Self::Tag) -> Result<(), Mistake<'a>>;
 }
 
-/// Takes a word.
-pub(crate) fn take<A: Asked>(
+/// Takes a word of a filter or a treatment, or `outer(..)` or `inner(..)`, and the mistakes in it.
+pub fn take_word<A: Asked>(
     asked: &mut A,
     word: Word<'_>,
     mistakes: &mut Mistakes,
@@ -45,7 +42,7 @@ pub(crate) fn take<A: Asked>(
     match word.split_group() {
         Some((name, inside)) => take_group(asked, name, inside, mistakes),
         None => {
-            let taken = asked.take_word(word);
+            let taken = asked.take_own(word);
             mistakes.take(taken)?;
             Ok(())
         }

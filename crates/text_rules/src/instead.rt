@@ -25,8 +25,24 @@ pub(crate) const TYPES: &str =
     "any, ipv4 (0x0800), pppoe (0x8863 or 0x8864), arp (0x0806), ipv6 (0x86dd) or eapol (0x888e)";
 
 /// In place of what is said of no tag.
-pub(crate) const ADDED: &str =
+pub const ADDED: &str =
     "what a tag has that is added stands in parentheses: inner(vid=200) or outer(vid=200)";
+
+/// In place of tags with which a dropped frame leaves.
+pub const DROPPED: &str =
+    "a frame that is dropped leaves with no tags, so nothing stands beside drop";
+
+/// In place of a priority by the DSCP that is asked for.
+pub(crate) const DSCP_EXPECTED: &str =
+    "pcp is the priority that a tag has; of the DSCP asks dscp=46, outside the parentheses";
+
+/// In place of several VIDs that are asked for.
+pub(crate) const ONE_VID_EXPECTED: &str =
+    "an expectation asks for one VID or any, so several VIDs have a line each";
+
+/// In place of the table's input TPID.
+pub(crate) const TPID_EXPECTED: &str =
+    "an expectation names the TPID that a tag has, as in tpid=8100 or tpid=88a8, or says any";
 
 /// What can be said in place of a word that a filter hasn't.
 pub(crate) fn instead_of(name: Word<'_>) -> Option<&'static str> {

@@ -1,5 +1,5 @@
 //! A rule in words.
-use crate::asked::{check_alone, rule_at, take};
+use crate::asked::{check_alone, rule_at, take_word};
 use crate::filter::FilterAsked;
 use crate::treatment::TreatmentAsked;
 use std::alloc::AllocError;
@@ -34,13 +34,13 @@ impl RuleAsked {
     /// Takes a word.
     pub fn take(&mut self, word: Word<'_>, mistakes: &mut Mistakes) -> Result<(), AllocError> {
         if self.arrow.is_some() {
-            return take(&mut self.treatment, word, mistakes);
+            return take_word(&mut self.treatment, word, mistakes);
         }
         if word.is("->") {
             self.arrow = Some(word.column);
             return Ok(());
         }
-        take(&mut self.filter, word, mistakes)
+        take_word(&mut self.filter, word, mistakes)
     }
 
     /// The rule in all, or what is wrong with it. The line ends in front of the column `end`.

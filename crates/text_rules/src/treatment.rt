@@ -1,10 +1,11 @@
 //! The treatment of an entry in words.
 use crate::added::{AddedAsked, Side};
 use crate::asked::{Asked, check_alone, rule_at};
-use crate::filter::{GROUPS, TAG_WORDS, read_count};
-use crate::instead::ADDED;
+use crate::filter::read_count;
+use crate::instead::{ADDED, DROPPED};
+use crate::tag::{GROUPS, TAG_WORDS};
 use std::alloc::AllocError;
-use text_words::{Mistake, Mistakes, Word, Words};
+use text_words::{Mistake, Mistakes, Word};
 use vlan_rule::{AddedTag, Retag, Treatment};
 
 /// The words of a treatment.
@@ -41,10 +42,7 @@ impl TreatmentAsked {
                 inner: self.inner,
             }));
         }
-        check_alone(
-            self.changes,
-            "a frame that is dropped leaves with no tags, so nothing stands beside drop",
-        )?;
+        check_alone(self.changes, DROPPED)?;
         Ok(Treatment::Discard)
     }
 }
@@ -52,7 +50,7 @@ impl TreatmentAsked {
 impl Asked for TreatmentAsked {
     type Tag = AddedAsked;
 
-    fn take_word<'a>(&mut self, word: Word<'a>) -> Result<(), Mistake<'a>> {
+    fn take_own<'a>(&mut self, word: Word<'a>) -> Result<(), Mistake<'a>> {
         if word.is("drop") {
             return word.put_into(&mut self.drops, word.column);
         }
@@ -69,20 +67,17 @@ impl Asked for TreatmentAsked {
     }
 
     fn read_tag(inside: Word<'_>, mistakes: &mut Mistakes) -> Result<AddedAsked, AllocError> {
-        let mut asked = AddedAsked::NOTHING;
-        for word in Words::within(inside) {
-            let taken = asked.take(word);
-            mistakes.take(taken)?;
-        }
+        let mut asked = AddedAsked::OF_ENTRY;
+        asked.take_within(inside, mistakes)?;
         Ok(asked)
     }
 
     fn put_tag<'a>(&mut self, name: Word<'a>, tag: AddedAsked) -> Result<(), Mistake<'a>> {
         self.changes = Some(name.column);
         if name.one_of(GROUPS)? == 0 {
-            name.put_into(&mut self.outer, tag.tag(Side::Outer)?)
+            name.put_into(&mut self.outer, tag.tag(Side::Outer)?.tag)
         } else {
-            name.put_into(&mut self.inner, tag.tag(Side::Inner)?)
+            name.put_into(&mut self.inner, tag.tag(Side::Inner)?.tag)
         }
     }
 }

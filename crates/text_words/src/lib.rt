@@ -8,6 +8,7 @@
 
 mod choices;
 mod digits;
+mod mark;
 mod mistake;
 mod mistakes;
 mod near;
@@ -18,9 +19,10 @@ mod words;
 
 pub use choices::Choices;
 pub use digits::put_digits;
+pub use mark::without_mark;
 pub use mistake::{Mistake, Why};
 pub use mistakes::Mistakes;
-pub use number::{number_at_most, read_number};
+pub use number::{number_at_most, read_number, read_tpid};
 pub use shown::Shown;
 pub use word::Word;
 pub use words::Words;

@@ -55,3 +55,19 @@ pub fn number_at_most<'a>(
         })),
     }
 }
+
+/// The TPID of four digits, with `0x` in front or without.
+pub fn read_tpid(word: Word<'_>) -> Result<u16, Mistake<'_>> {
+    let digits = word.text.strip_prefix(b"0x").unwrap_or(word.text);
+    let mut number = 0u32;
+    for digit in digits.iter().take(5) {
+        number = number << 4 | char::from(*digit).to_digit(16).unwrap_or(0x1_0000);
+    }
+    match u16::try_from(number) {
+        Ok(tpid) if digits.len() == 4 => Ok(tpid),
+        _ => Err(word.mistake(Why::Unexpected {
+            found: word.text,
+            expected: "a TPID, four hexadecimal digits as in 8100",
+        })),
+    }
+}

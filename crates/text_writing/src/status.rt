@@ -9,7 +9,7 @@ pub enum Status {
     Failed,
     /// A line, a text or a capture is bad, or `--strict` met a message that wasn't carried out.
     Bad,
-    /// `judge` found a deviation, or `lint` something as severe as is asked. All is written.
+    /// `judge`, `lint`, `diff`, `hitless` or `expect` found what they look for: a deviation, say. All is written.
     Found,
     /// `judge` found no deviation, but the history may be cut, or nothing of it was judged. All is written.
     Undecided,
@@ -65,7 +65,7 @@ impl Status {
     pub fn words(self) -> &'static str {
         match self {
             Status::Done => {
-                "all is written; judge explained the whole history, lint found nothing as severe as --fail-on, diff no difference, and hitless no torn moment"
+                "all is written; judge explained the whole history, lint found nothing as severe as --fail-on, diff no difference, hitless no torn moment, and expect nothing that doesn't hold"
             }
             Status::Failed => {
                 "the words are wrong, a read or a write failed, or there is no memory or no room"
@@ -74,7 +74,7 @@ impl Status {
                 "a line, a text or a capture is bad, or --strict met a message that wasn't carried out"
             }
             Status::Found => {
-                "judge found a deviation, lint something as severe as --fail-on, diff a difference, or hitless a torn moment; all is written"
+                "judge found a deviation, lint something as severe as --fail-on, diff a difference, hitless a torn moment, or expect what doesn't hold; all is written"
             }
             Status::Undecided => {
                 "judge found no deviation, but the history may be cut, or nothing of it was judged; all is written"

@@ -1,9 +1,9 @@
 //! The words of `judge`.
 ghost use Rattle.std.specs.Prelude.{◌≡◌, false};
 ghost use Rattle.clap.specs.Words.{rule_of};
-ghost use Rattle.command_line.specs.Grammar.{IsCommand, all, allow_strays, allow_unfinished, by_settings, history, judge, modelled, most, padded, repeats, start, unordered};
+ghost use Rattle.command_line.specs.Grammar.{IsCommand, all, allow_strays, allow_unfinished, by_settings, coverage, history, judge, least, modelled, most, padded, repeats, start, unordered};
 
-use crate::grammar::common::{json, numbered, optional, with_arg};
+use crate::grammar::common::{flag, json, least, numbered, optional, with_arg};
 use clap::builder::ValueParser;
 use clap::{Arg, ArgAction, Command};
 use std::alloc::{AllocError, Global};
@@ -112,6 +112,29 @@ fn most<'a>(alloc: Global) -> Arg<'a>
     )
 }
 
+/// Whether the coverage of an explained history is listed.
+fn coverage<'a>(alloc: Global) -> Arg<'a>
+    ensures rule { rule_of result ≡ coverage }
+    ensures local { result.global ≡ false }
+{
+    flag(
+        alloc,
+        "coverage",
+        "Behind an explained history list which classes of frames were tried and which not, with a frame to send for each; has no value [example: --coverage]",
+    )
+}
+
+/// How many bytes a frame has at least whose class is listed.
+fn least_covered<'a>(alloc: Global) -> Arg<'a>
+    ensures rule { rule_of result ≡ least }
+    ensures local { result.global ≡ false }
+{
+    least(
+        alloc,
+        "List with --coverage what frames of at least so many bytes can have, 0 to 9989; of any length without it [example: 60]",
+    )
+}
+
 /// The script that is carried out before the history.
 fn start<'a>(alloc: Global) -> Arg<'a>
     ensures rule { rule_of result ≡ start }
@@ -161,6 +184,8 @@ pub(super) fn judge<'a>(alloc: Global) -> Result<Command<'a>, AllocError>
     let of_start = with_arg(of_repeats, start(alloc));
     let of_all = with_arg(of_start, all(alloc));
     let of_most = with_arg(of_all, most(alloc));
-    let shown = with_arg(of_most, json(alloc));
+    let of_coverage = with_arg(of_most, coverage(alloc));
+    let of_bytes = with_arg(of_coverage, least_covered(alloc));
+    let shown = with_arg(of_bytes, json(alloc));
     with_arg(shown, history(alloc))
 }

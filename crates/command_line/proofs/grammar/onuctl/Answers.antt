@@ -18,4 +18,5 @@ returns c =
     let drawing = c.with_sub-drawing.ensures _ _ linting c.graph.ensures in
     let covering = c.with_sub-covering.ensures _ _ drawing c.cover.ensures in
     let comparing = c.with_sub-comparing.ensures _ _ covering c.diff.ensures in
-    c.with_sub.ensures _ _ comparing c.hitless.ensures
+    let watching = c.with_sub-watching.ensures _ _ comparing c.hitless.ensures in
+    c.with_sub.ensures _ _ watching c.expect.ensures

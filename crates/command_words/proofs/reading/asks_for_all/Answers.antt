@@ -1,8 +1,8 @@
-use Rattle.std.proofs.Common.{◌≡◌, ◌∙◌, Option, Some, None, codes, sym, ap}
+use Rattle.std.proofs.Common.{◌∙◌, Option, codes, sym, ap}
 use Rattle.std.specs.Prelude.{option_map}
-use Rattle.clap.specs.Words.{Text, first_of, found_of, rows_of}
+use Rattle.clap.specs.Words.{found_of}
 use Rattle.clap.proofs.WalkLemmas.{first_value-rows}
-use Rattle.command_words.specs.Asked.{asks_for_all, is_true}
+use Rattle.command_words.specs.Asked.{is_true}
 use Rattle.command_words.proofs.reading.asks_for_all.Goals as goal
 
 pub returns-in-Some : goal.returns-in-Some

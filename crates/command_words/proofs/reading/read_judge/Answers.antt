@@ -30,6 +30,7 @@ returns-clause-asked c =
       };
       start = sym (first_value-rows found (codes "start")) ∙ sym c.get_str-2.ensures;
       listed = c.in_ok-listed.ensures.asked;
+      coverage = c.in_ok-coverage.ensures.asked;
       allow_unfinished = record {
         with = λ e. c.get_flag-6.ensures.value (one_text-rows found (codes "allow-unfinished") ∙ e);
         without = λ e. c.get_flag-6.ensures.other (one_text-rows found (codes "allow-unfinished") ∙ e);

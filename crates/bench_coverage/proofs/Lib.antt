@@ -1,0 +1,9 @@
+pub mod Heads
+pub mod Stretched
+pub mod Afters
+pub mod Ready
+pub mod Used
+pub mod Placed
+pub mod Noted
+pub mod Steps
+pub mod Going

@@ -1,0 +1,7 @@
+pub mod Numbers
+pub mod Uses
+pub mod Stretches
+pub mod Marks
+pub mod Coverage
+pub mod Passage
+pub mod Noting

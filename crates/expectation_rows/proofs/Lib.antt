@@ -1,0 +1,11 @@
+mod OnlyMap
+mod Offered
+mod Tags
+mod Meant
+mod Admitted
+mod Fitting
+mod Wanting
+mod Unwritten
+mod Meeting
+mod Counted
+mod Deciding

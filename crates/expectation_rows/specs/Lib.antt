@@ -1,0 +1,4 @@
+pub mod Wanted
+pub mod Only
+pub mod Rows
+pub mod Decision

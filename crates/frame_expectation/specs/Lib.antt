@@ -1,0 +1,4 @@
+pub mod Filter
+pub mod Wanted
+pub mod Expectation
+pub mod Check
