@@ -1,21 +1,26 @@
 /**
  * @file onu.h
  * @brief An optical network unit (ONU) in your process: it answers OMCI messages and forwards Ethernet frames upstream as ITU-T G.988
- *        says, and judges what another unit was seen to do. Scripts are answered, made of words, decoded and looked into.
+ *        says, and judges what another unit was seen to do. Scripts are answered, made of words, decoded and looked into, and what they
+ *        do and change is found for every frame, and compared with what is expected.
  *
  * Link `libonu.a` or `libonu.so`, which `./build-library` makes. The calls keep nothing but what stands in an ::onu, call no function of
  * yours, open no file, start no thread and write to no stream. They take memory by `malloc` and `realloc` and give it back by `free`.
  *
  * @par Answers
  * Every call but onu_version() answers by a number: 0 or more where it did what was asked, and less where it didn't. -1 to -4 are the
- * faults of a message; the others are named here. A call that answers one of these leaves the unit as it was. onu_judge() and
- * onu_judge_all() tell what they found by 0, 1 or 2, and onu_encode() and onu_decode() a bad input by 0 or 1, with words on it in the room.
+ * faults of a message; the others are named here. A call that answers one of these leaves the unit as it was. onu_judge(),
+ * onu_judge_all() and onu_judge_coverage() tell what they found by 0, 1 or 2, onu_differences() and onu_hitless() whether they found
+ * something by 0 or 1, and onu_encode() and onu_decode() a bad input by 0 or 1, with words on it in the room. onu_expect() tells by 0 or 1
+ * whether what is expected holds, and a bad input by 2, with words on it in the room.
  *
  * @par What is proved
  * What each call leaves in a cell; the replies of onu_message() and the verdicts of onu_forward(); the answers of onu_replay(), with
- * its number, size and line; the number of onu_judge() and of onu_judge_all(), and the line that they name; the bad line that onu_mib(),
- * onu_lint() and onu_rules() name; and that no byte behind a text changes. Tested only are what the texts of the other calls say, whether
- * onu_encode() and onu_decode() answer 0 or 1, the answers to null pointers, and onu_version(). docs/PROOFS.md has the whole.
+ * its number, size and line; the number of onu_judge(), of onu_judge_all() and of onu_judge_coverage(), and the line that they name; the
+ * number of onu_differences(): 0 only where every frame is treated alike, and 1 only where some frame isn't; the bad line that onu_mib(),
+ * onu_lint(), onu_rules(), onu_cover(), onu_differences(), onu_hitless() and onu_expect() name; and that no byte behind a text changes.
+ * Tested only are what the texts of the other calls say, whether onu_encode(), onu_decode() and onu_hitless() answer 0 or 1, and
+ * onu_expect() 0, 1 or 2, the answers to null pointers, and onu_version(). docs/PROOFS.md has the whole.
  *
  * @par Threads
  * A cell is used by one thread at a time: two calls with one cell must not run at once, and what orders them must be a lock, a join or the
@@ -55,6 +60,13 @@ extern "C" {
 #define ONU_FLAGS (-22)
 /** A line of the script before a history is bad; `*line` is its number. */
 #define ONU_BAD_START (-23)
+/** A line of the trace after a change is bad; `*line` is its number. */
+#define ONU_BAD_AFTER (-24)
+/** A change is to begin behind the line where it ends, or expectations are to hold behind a line that isn't read. Nothing was read or written. */
+#define ONU_BACKWARD (-25)
+
+/** The line behind which a trace is at its end, however long it is. */
+#define ONU_AT_END UINT64_MAX
 
 /** A flag of onu_judge(): contents of replies are compared only where their requests are on classes that the model has, and there no values of
  * read-only attributes and no table. */
@@ -216,6 +228,27 @@ int32_t onu_judge_all(const uint8_t *start, size_t start_size, const uint8_t *hi
                       size_t *written, uint64_t *line);
 
 /**
+ * @brief Judges a history behind a script, and lists of an explained one which classes of frames were tried, and which not, as
+ *        `onuctl judge --start START --coverage --least LEAST --json` does (docs/FORMATS.md). The number and the line are proved; the text is
+ *        tested.
+ *
+ * @param[in]  start       as of onu_judge_all().
+ * @param[in]  start_size  how many bytes it has.
+ * @param[in]  history     as of onu_judge_all().
+ * @param[in]  n           how many bytes it has.
+ * @param[in]  flags       as of onu_judge(), but for #ONU_UNORDERED, which is refused: no frame has a least version then.
+ * @param[in]  most        how many deviations of a history are listed at most that isn't explained, as of onu_judge_all().
+ * @param[in]  least       how many bytes the listed frames have at least; 0 for every frame.
+ * @param[out] room        room for the text: JSON in UTF-8, no zero byte at its end. It may be null where `size` is 0.
+ * @param[in]  size        how many bytes the room has.
+ * @param[out] written     how many bytes the text has, also with #ONU_SMALL; 0 where there is none.
+ * @param[out] line        as of onu_judge_all().
+ * @return as onu_judge_all().
+ */
+int32_t onu_judge_coverage(const uint8_t *start, size_t start_size, const uint8_t *history, size_t n, uint32_t flags, uint64_t most, uint16_t least,
+                           uint8_t *room, size_t size, size_t *written, uint64_t *line);
+
+/**
  * @brief Makes a script of a text in words, as `onuctl encode` does (docs/FORMATS.md). Each line of the text is one of the script. The texts
  *        and whether 0 or 1 is returned are tested, not proved.
  *
@@ -273,6 +306,101 @@ int32_t onu_lint(const uint8_t *trace, size_t n, uint8_t *room, size_t size, siz
  * @param[in] port  the port.
  */
 int32_t onu_rules(const uint8_t *trace, size_t n, uint16_t port, uint8_t *room, size_t size, size_t *written, uint64_t *line);
+
+/**
+ * @brief Lists each class of the frames that come in after a trace, with a frame that has it, as `onuctl cover --json` does (docs/FORMATS.md):
+ *        what the port's table uses for them, and how they end. The number and the line are proved; the text is tested.
+ *
+ * Every frame counts, whatever its bytes and its length. The trace is carried out as by onu_mib().
+ *
+ * @param[in]  trace    the trace. It may be null where `n` is 0.
+ * @param[in]  n        how many bytes it has.
+ * @param[in]  port     the port at which the frames come in; or null, for each port that a managed entity names.
+ * @param[in]  least    how many bytes a frame has at least; 0 for every frame.
+ * @param[out] room     room for the text: JSON in UTF-8, no zero byte at its end. It may be null where `size` is 0.
+ * @param[in]  size     how many bytes the room has.
+ * @param[out] written  how many bytes the text has, also with #ONU_SMALL; 0 where there is none.
+ * @param[out] line     the number, from 1, of the first bad line; 0 where no line is bad.
+ * @return 0, and the text is in the room; #ONU_BAD_LINE, #ONU_SMALL, #ONU_NO_MEMORY (`*line` is 0) or #ONU_NULL.
+ */
+int32_t onu_cover(const uint8_t *trace, size_t n, const uint16_t *port, uint16_t least, uint8_t *room, size_t size, size_t *written, uint64_t *line);
+
+/**
+ * @brief Finds which frames two configurations treat differently, of every frame, each with what becomes of it, as `onuctl diff --json` does
+ *        (docs/FORMATS.md). The number and the line are proved; the text is tested.
+ *
+ * A frame is treated alike where it is dropped for the same reason, or leaves by the same GEM port with the same bytes. The traces are carried
+ * out as by onu_mib(), and no line behind the last one is read.
+ *
+ * With `after` the configurations are those of two traces: `before` behind line `from`, and `after` behind line `until`. With a null pointer as
+ * `after` they are those of `before` behind both lines. An empty trace after a change is no null pointer, but one to no bytes.
+ *
+ * @param[in]  before   the trace before. It may be null where `n` is 0.
+ * @param[in]  n        how many bytes it has.
+ * @param[in]  from     the last line, from 1, that is read for the configuration before; 0 for none, or #ONU_AT_END.
+ * @param[in]  after    the trace after; or null, and then `m` is 0.
+ * @param[in]  m        how many bytes it has.
+ * @param[in]  until    the last line that is read for the configuration after; 0 for none, or #ONU_AT_END.
+ * @param[in]  port     the port at which the frames come in; or null, for every port.
+ * @param[in]  least    how many bytes a frame has at least; 0 for every frame.
+ * @param[out] room     room for the text: JSON in UTF-8, no zero byte at its end. It may be null where `size` is 0.
+ * @param[in]  size     how many bytes the room has.
+ * @param[out] written  how many bytes the text has, also with #ONU_SMALL; 0 where there is none.
+ * @param[out] line     the number, from 1, of the first bad line, of `before` or else of `after`; 0 where no line is bad.
+ * @return 0, every frame is treated alike; 1, some frame isn't, and those in the text are such frames; and the text is in the room; or
+ *         #ONU_BAD_LINE, of `before`; #ONU_BAD_AFTER, of `after`; #ONU_SMALL, #ONU_NO_MEMORY (`*line` is 0); or #ONU_BACKWARD, `after` is null
+ *         and `from` behind `until`, or #ONU_NULL, and neither `*written` nor `*line` is written.
+ */
+int32_t onu_differences(const uint8_t *before, size_t n, uint64_t from, const uint8_t *after, size_t m, uint64_t until, const uint16_t *port,
+                        uint16_t least, uint8_t *room, size_t size, size_t *written, uint64_t *line);
+
+/**
+ * @brief Finds for which frames a moment of a change is torn, of every frame, each with what becomes of it before, then and after, as
+ *        `onuctl hitless --json` does (docs/FORMATS.md). The line is proved; the text and whether 0 or 1 is returned are tested.
+ *
+ * The change is that from line `from` of the trace to line `until`. A moment between is torn for a frame that leaves there as neither before nor
+ * after, or is dropped there alone.
+ *
+ * @param[in]  trace    the trace. It may be null where `n` is 0.
+ * @param[in]  n        how many bytes it has.
+ * @param[in]  from     the line, from 1, behind which the change begins; 0 for the first.
+ * @param[in]  until    the last line that is read, where the change ends, or #ONU_AT_END.
+ * @param[in]  port     the port at which the frames come in; or null, for each port that a managed entity names at some moment.
+ * @param[in]  least    how many bytes a frame has at least; 0 for every frame.
+ * @param[out] room     room for the text: JSON in UTF-8, no zero byte at its end. It may be null where `size` is 0.
+ * @param[in]  size     how many bytes the room has.
+ * @param[out] written  how many bytes the text has, also with #ONU_SMALL; 0 where there is none.
+ * @param[out] line     the number, from 1, of the first bad line; 0 where no line is bad.
+ * @return 0, no moment is torn; 1, some moment is; and the text is in the room; or #ONU_BAD_LINE, #ONU_SMALL, #ONU_NO_MEMORY (`*line` is 0); or
+ *         #ONU_BACKWARD, `from` is behind `until`, or #ONU_NULL, and neither `*written` nor `*line` is written.
+ */
+int32_t onu_hitless(const uint8_t *trace, size_t n, uint64_t from, uint64_t until, const uint16_t *port, uint16_t least, uint8_t *room, size_t size,
+                    size_t *written, uint64_t *line);
+
+/**
+ * @brief Checks, of every frame, whether expectations hold after a trace, as `onuctl expect --json` does (docs/FORMATS.md): each is said to hold, or
+ *        a frame that fails it is shown, or it is void. The line is proved; the text and whether 0, 1 or 2 is returned are tested.
+ *
+ * The trace is carried out as by onu_mib(), and no line behind `until` is read. With a line as `from` each expectation has to hold behind it, and
+ * by each version from there on.
+ *
+ * @param[in]  trace         the trace. It may be null where `n` is 0.
+ * @param[in]  n             how many bytes it has.
+ * @param[in]  expectations  the expectations, in words, a line each. It may be null where `m` is 0.
+ * @param[in]  m             how many bytes they have.
+ * @param[in]  from          the line, from 1, behind which they have to hold; 0 for the opening state; or #ONU_AT_END, for the last version alone.
+ * @param[in]  until         the last line that is read, or #ONU_AT_END.
+ * @param[in]  least         how many bytes a frame has at least; 0 for every frame.
+ * @param[out] room          room for the text: JSON in UTF-8, or the mistakes, with no zero byte at its end. It may be null where `size` is 0.
+ * @param[in]  size          how many bytes the room has.
+ * @param[out] written       how many bytes the text has, also with #ONU_SMALL; 0 where there is none.
+ * @param[out] line          the number, from 1, of the first bad line of the trace; 0 where no line is bad.
+ * @return 0, each expectation holds; 1, some expectation fails or is void; and the text is in the room; 2, the expectations have mistakes, and
+ *         these are in the room, each a line `line N, column N: WORDS`; or #ONU_BAD_LINE, #ONU_SMALL, #ONU_NO_MEMORY (`*line` is 0); or
+ *         #ONU_BACKWARD, `from` is a line behind `until`, or #ONU_NULL, and neither `*written` nor `*line` is written.
+ */
+int32_t onu_expect(const uint8_t *trace, size_t n, const uint8_t *expectations, size_t m, uint64_t from, uint64_t until, uint16_t least,
+                   uint8_t *room, size_t size, size_t *written, uint64_t *line);
 
 /**
  * @brief The program's version, and what it was proved with.

@@ -4,18 +4,22 @@
 //! call does.
 #![tactic(auto)]
 
-ghost use Rattle.std.specs.Prelude.{◌≡◌, [], None};
+ghost use Rattle.std.specs.Prelude.{◌≡◌, [], None, true};
 ghost use Rattle.onu_calls.specs.Forwarding.{StandsIn, verdict_in, verdict_number, verdict_room};
 ghost use Rattle.onu_calls.specs.Messaging.{answer_in, answer_number, answer_room, left_in};
 ghost use Rattle.onu_cell.specs.Opening.{Opens, closing_number};
-ghost use Rattle.onu_scripts.specs.Looking.{LooksInto};
+ghost use Rattle.onu_scripts.specs.Comparing.{DifferencesInto, MomentsInto, TearsInto};
+ghost use Rattle.onu_scripts.specs.Expecting.{ExpectsInto, line_in};
+ghost use Rattle.onu_scripts.specs.Looking.{LooksInto, port_in};
 ghost use Rattle.onu_scripts.specs.Making.{MakesInto};
-ghost use Rattle.onu_texts.specs.Judging.{JudgesBehind, JudgesInto};
+ghost use Rattle.onu_cell.specs.Numbers.{bad_flags};
+ghost use Rattle.onu_texts.specs.Judging.{JudgesBehind, JudgesInto, has_flag};
 ghost use Rattle.onu_texts.specs.Replaying.{ReplaysInto};
 ghost use Rattle.onu_texts.specs.Room.{ExplainsInto};
 
 use onu_calls::CVerdict;
 use onu_cell::Cell;
+use onu_scripts::{Expectations, Moments, Sides, frames_of, from_line};
 use onu_texts::Asked;
 use std::alloc::Global;
 
@@ -137,6 +141,34 @@ pub extern "C" fn onu_proved_judge_all(
         history,
         flags,
         most,
+        coverage: None,
+    };
+    onu_texts::judge_all_into(alloc, &asked, room, written, line)
+}
+
+/// Judges a history behind a script, as JSON in a room, with its coverage in frames of at least so many bytes where it is explained.
+#[unsafe(no_mangle)]
+pub extern "C" fn onu_proved_judge_coverage(
+    alloc: Global,
+    script: &[u8],
+    history: &[u8],
+    flags: u32,
+    most: u64,
+    least: u16,
+    room: &mut [u8],
+    written: &mut usize,
+    line: &mut u64,
+) -> i32
+    ensures judges { JudgesBehind script.now flags history.now room.old room.new result written.old
+        written.new line.old line.new }
+    ensures ordered { has_flag flags 1 ≡ true → result ≡ bad_flags }
+{
+    let asked = Asked {
+        start: script,
+        history,
+        flags,
+        most,
+        coverage: Some(least),
     };
     onu_texts::judge_all_into(alloc, &asked, room, written, line)
 }
@@ -209,4 +241,123 @@ pub extern "C" fn onu_proved_rules(
     ensures { LooksInto trace.now room.old room.new result written.new line.new }
 {
     onu_scripts::rules_into(alloc, trace, port, room, written, line)
+}
+
+/// Lists the classes of the frames that come in at a port after a trace, or at each port that is named, as JSON in a room.
+#[unsafe(no_mangle)]
+pub extern "C" fn onu_proved_cover(
+    alloc: Global,
+    trace: &[u8],
+    port: u32,
+    least: u16,
+    room: &mut [u8],
+    written: &mut usize,
+    line: &mut u64,
+) -> i32
+    ensures { LooksInto trace.now room.old room.new result written.new line.new }
+{
+    onu_scripts::cover_into(alloc, trace, frames_of(port, least), room, written, line)
+}
+
+/// Finds which frames are treated differently by what a trace leads to behind a line, and another behind another, as JSON in a room.
+#[unsafe(no_mangle)]
+pub extern "C" fn onu_proved_differences(
+    alloc: Global,
+    before: &[u8],
+    from: u64,
+    after: &[u8],
+    until: u64,
+    port: u32,
+    least: u16,
+    room: &mut [u8],
+    written: &mut usize,
+    line: &mut u64,
+) -> i32
+    ensures { DifferencesInto before.now from after.now until (port_in port) least room.old
+        room.new result written.new line.new }
+{
+    let sides = Sides {
+        before,
+        from,
+        after,
+        until,
+        frames: frames_of(port, least),
+    };
+    onu_scripts::differences_into(alloc, &sides, room, written, line)
+}
+
+/// Finds which frames are treated differently by what a trace leads to behind two of its lines, as JSON in a room.
+#[unsafe(no_mangle)]
+pub extern "C" fn onu_proved_moments(
+    alloc: Global,
+    trace: &[u8],
+    from: u64,
+    until: u64,
+    port: u32,
+    least: u16,
+    room: &mut [u8],
+    written: &mut usize,
+    line: &mut u64,
+) -> i32
+    ensures { MomentsInto trace.now from until (port_in port) least room.old room.new result
+        written.old written.new line.old line.new }
+{
+    let change = Moments {
+        trace,
+        from,
+        until,
+        frames: frames_of(port, least),
+    };
+    onu_scripts::moments_into(alloc, &change, room, written, line)
+}
+
+/// Finds for which frames a moment of a change is torn, as JSON in a room.
+#[unsafe(no_mangle)]
+pub extern "C" fn onu_proved_hitless(
+    alloc: Global,
+    trace: &[u8],
+    from: u64,
+    until: u64,
+    port: u32,
+    least: u16,
+    room: &mut [u8],
+    written: &mut usize,
+    line: &mut u64,
+) -> i32
+    ensures { TearsInto trace.now from until room.old room.new result written.old written.new
+        line.old line.new }
+{
+    let change = Moments {
+        trace,
+        from,
+        until,
+        frames: frames_of(port, least),
+    };
+    onu_scripts::hitless_into(alloc, &change, room, written, line)
+}
+
+/// Checks, of every frame, what is expected after a trace, as JSON in a room, or all mistakes of the expectations.
+#[unsafe(no_mangle)]
+pub extern "C" fn onu_proved_expect(
+    alloc: Global,
+    trace: &[u8],
+    words: &[u8],
+    from: u64,
+    until: u64,
+    least: u16,
+    room: &mut [u8],
+    written: &mut usize,
+    line: &mut u64,
+) -> i32
+    ensures { ExpectsInto trace.now (line_in from) until room.old room.new result written.old
+        written.new line.old line.new }
+{
+    let wanted = Expectations {
+        trace,
+        words,
+        from: from_line(from),
+        until,
+        least,
+    };
+    onu_scripts::expect_into(alloc, &wanted, room, written, line)
 }

@@ -29,3 +29,11 @@ bad_flags = negsuc 21
 -- a line of the script before a history is bad: -23
 abbrev pub bad_start : ℤ
 bad_start = negsuc 22
+
+-- a line of the trace after a change is bad: -24
+abbrev pub bad_after : ℤ
+bad_after = negsuc 23
+
+-- a change is to begin behind the line where it ends: -25
+abbrev pub backward : ℤ
+backward = negsuc 24

@@ -14,5 +14,7 @@ mod numbers;
 mod opening;
 
 pub use cell::Cell;
-pub use numbers::{BAD_LINE, BAD_START, CLOSED, FLAGS, NO_MEMORY, OPEN, SMALL};
+pub use numbers::{
+    BACKWARD, BAD_AFTER, BAD_LINE, BAD_START, CLOSED, FLAGS, NO_MEMORY, OPEN, SMALL,
+};
 pub use opening::{close, open};

@@ -20,3 +20,9 @@ pub const FLAGS: i32 = -22;
 
 /// A line of the script before a history is bad; its number was said.
 pub const BAD_START: i32 = -23;
+
+/// A line of the trace after a change is bad; its number was said.
+pub const BAD_AFTER: i32 = -24;
+
+/// A change is to begin behind the line where it ends.
+pub const BACKWARD: i32 = -25;

@@ -1,2 +1,4 @@
+pub mod Comparing
+pub mod Expecting
 pub mod Looking
 pub mod Making

@@ -1,8 +1,12 @@
 -- What is shown of what the messages of a trace leave, in a room.
-use Rattle.std.specs.Prelude.{◌≡◌, ◌<◌, ◌⊎◌, ℕ, ℤ, pos, List, Option, Some, None, length}
+use Rattle.std.specs.Prelude.{◌≡◌, ◌<◌, ◌⊎◌, ℕ, ℤ, pos, nat_lt, if◌then◌else◌, List, Option, Some, None, length}
 use Rattle.script_trace.specs.Script.{first_bad}
 use Rattle.onu_cell.specs.Numbers.{bad_line, no_memory, small}
 use Rattle.onu_texts.specs.Room.{IsWrittenUpTo, Refuses}
+
+-- the port that a number stands for, or none where it has more than 16 bits
+abbrev pub port_in : ℕ → Option ℕ
+port_in number = if nat_lt number 65536 then Some number else None
 
 -- the number of what is shown: it stands in the room; or the room is too small, a request for memory was refused, or a line is bad
 abbrev pub IsLookNumber : ℤ → Type 0

@@ -1,5 +1,5 @@
 -- What is made of words or of a script, in a room.
-use Rattle.std.specs.Prelude.{◌≡◌, ◌<◌, ◌⊎◌, ℕ, ℤ, pos, List, length}
+use Rattle.std.specs.Prelude.{◌≡◌, ◌<◌, ◌⊎◌, ℕ, ℤ, pos, Bool, if◌then◌else◌, List, length}
 use Rattle.onu_cell.specs.Numbers.{no_memory, small}
 use Rattle.onu_texts.specs.Room.{IsWrittenUpTo, Refuses}
 
@@ -7,6 +7,10 @@ use Rattle.onu_texts.specs.Room.{IsWrittenUpTo, Refuses}
 -- request for memory was refused
 abbrev pub IsMakeNumber : ℤ → Type 0
 IsMakeNumber number = (number ≡ pos 0) ⊎ (number ≡ pos 1) ⊎ (number ≡ small) ⊎ (number ≡ no_memory)
+
+-- the number of a text that is put into the room, by what it says
+abbrev pub made_number : Bool → ℤ
+made_number is_one = if is_one then pos 1 else pos 0
 
 -- how many bytes are said to be made, by the number
 abbrev pub SaysMade : ℤ → List ℕ → ℕ → Type 0

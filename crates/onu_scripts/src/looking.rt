@@ -1,12 +1,15 @@
 //! What the messages of a trace leave.
-ghost use Rattle.onu_scripts.specs.Looking.{LooksInto};
+ghost use Rattle.std.specs.Prelude.{◌≡◌};
+ghost use Rattle.onu_scripts.specs.Looking.{LooksInto, port_in};
 
 use explain_findings::findings;
 use onu_cell::{BAD_LINE, NO_MEMORY, SMALL};
 use onu_texts::put;
 use script_trace::{Applied, ScriptFault, apply_script};
 use std::alloc::Global;
+use text_classes::Form;
 use text_entities::write_mib_json;
+use text_every_frame::{Frames, ports_of, write_classes};
 use text_explanations::{Traced, write_rules_json};
 use text_findings::{trace_findings, with_kinds, write_findings_json};
 use text_writing::TextFault;
@@ -20,6 +23,8 @@ enum Look {
     Findings,
     /// The table in force at this port.
     Rules(u16),
+    /// The classes of these frames.
+    Classes(Frames),
 }
 
 /// Writes what is wrong with the managed entities, and with the messages that led to them.
@@ -33,6 +38,18 @@ fn write_lint(
     let found = with_kinds(alloc, mib, &findings(alloc, mib)?)?;
     let of_trace = trace_findings(alloc, trace, None)?;
     write_findings_json(alloc, mib, &found, &of_trace, text)
+}
+
+/// Writes the classes of frames, each with one.
+fn write_cover(
+    alloc: Global,
+    frames: Frames,
+    applied: &Applied,
+    text: &mut Vec<u8>,
+) -> Result<(), TextFault> {
+    let mib = &applied.mib;
+    let ports = ports_of(alloc, mib, frames.port)?;
+    write_classes(alloc, mib, &ports, frames.least, Form::Json, text)
 }
 
 /// Writes what is shown after a trace, as JSON.
@@ -51,6 +68,7 @@ fn write_look(
         Look::Mib => write_mib_json(alloc, &applied.mib, text),
         Look::Findings => write_lint(alloc, trace, applied, text),
         Look::Rules(port) => write_rules_json(alloc, &traced, port, text),
+        Look::Classes(frames) => write_cover(alloc, frames, applied, text),
     }
 }
 
@@ -122,4 +140,30 @@ pub fn rules_into(
     ensures { LooksInto trace.now room.old room.new result written.new line.new }
 {
     look_into(alloc, trace, Look::Rules(port), room, written, line)
+}
+
+/// The frames that numbers of C stand for: those of a port; or, where that is no number of 16 bits, of each port that managed entities
+/// name. They have at least so many bytes.
+pub fn frames_of(port: u32, least: u16) -> Frames
+    ensures port { result.port ≡ port_in port }
+    ensures least { result.least ≡ least }
+{
+    Frames {
+        port: u16::try_from(port).ok(),
+        least,
+    }
+}
+
+/// Does as [`mib_into`] does with the classes of frames, each with a frame that has it.
+pub fn cover_into(
+    alloc: Global,
+    trace: &[u8],
+    frames: Frames,
+    room: &mut [u8],
+    written: &mut usize,
+    line: &mut u64,
+) -> i32
+    ensures { LooksInto trace.now room.old room.new result written.new line.new }
+{
+    look_into(alloc, trace, Look::Classes(frames), room, written, line)
 }

@@ -18,7 +18,7 @@ use Rattle.bench_judge.specs.declared.judgement.Step.{Step}
 use Rattle.bench_judge.specs.declared.settings.JudgeSettings.{JudgeSettings}
 use Rattle.onu_texts.specs.Judging.{DeviatesAt, IsExplainedHistory, IsFoundIn, Says, first_line, number_of, said_of, upon}
 use Rattle.onu_texts.specs.declared.judging.Found.{Found}
-use Rattle.onu_texts.specs.declared.judging.Found.TheVariants.{First, Listed}
+use Rattle.onu_texts.specs.declared.judging.Found.TheVariants.{First, Listed, Covered}
 
 -- ---- explained
 
@@ -95,6 +95,8 @@ pub says_of : (u : Bool) (settings : JudgeSettings) (start : List Request) (hist
     → Says u settings start history (said_of u found).0 (said_of u found).1
 says_of u settings start history (First (Explained e)) is = says_explained u (passes u e) settings start history e refl is
 says_of u settings start history (First (Deviates d)) is = inr (inr (refl, deviates settings start history d is))
+says_of u settings start history (Covered (Explained e) stretches) is = says_explained u (passes u e) settings start history e refl is
+says_of u settings start history (Covered (Deviates d) stretches) is = inr (inr (refl, deviates settings start history d is))
 says_of u settings start history (Listed d) (most, some, found) =
     inr (inr (refl, listed settings start history found.events most d.list.items d.more found.read some found.found.unexplained found.found.deviations found.found.cut))
 

@@ -14,11 +14,12 @@ use Rattle.bench_judge.specs.Terms.{Terms, ground_in}
 use Rattle.bench_judge.specs.declared.judgement.Deviation.{Deviation}
 use Rattle.bench_judge.specs.declared.judgement.Evidence.TheVariants.{Judged, NoFrame, Nothing}
 use Rattle.bench_judge.specs.declared.judgement.Findings.TheVariants as findings
+use Rattle.bench_judge.specs.declared.judgement.Judgement.{Judgement}
 use Rattle.bench_judge.specs.declared.judgement.Judgement.TheVariants.{Explained, Deviates}
 use Rattle.bench_judge.specs.declared.settings.JudgeSettings.{JudgeSettings}
 use Rattle.onu_texts.specs.Room.{IsWrittenUpTo, Refuses}
 use Rattle.onu_texts.specs.declared.judging.Found.{Found}
-use Rattle.onu_texts.specs.declared.judging.Found.TheVariants.{First, Listed}
+use Rattle.onu_texts.specs.declared.judging.Found.TheVariants.{First, Listed, Covered}
 use Rattle.onu_texts.specs.declared.judging.Said.{Said}
 
 -- whether a binary digit of flags is 1, by its place from the lowest
@@ -77,6 +78,7 @@ pub record DeviatesAt (start : List Request) (history : List ℕ) (line : ℕ) (
 -- a finding of a history: its judgement; or deviations, of which at least one was to be listed
 abbrev pub IsFoundIn : JudgeSettings → List Request → List ℕ → Found → Type 0
 IsFoundIn settings start history (First judgement) = IsJudgement settings start history judgement
+IsFoundIn settings start history (Covered judgement stretches) = IsJudgement settings start history judgement
 IsFoundIn settings start history (Listed deviations) = (most : ℕ) × (0 < most) × AreFindings settings start most history (findings.Deviates deviations)
 
 -- the line of the first of some deviations
@@ -88,10 +90,15 @@ first_line (deviation ∷ rest) = deviation.line
 abbrev pub number_of : Bool → ℤ
 number_of passed = if passed then pos 1 else pos 2
 
--- the number of a finding, and the line that it names
+-- the number of a judgement, and the line that it names
+abbrev pub said_of_judgement : Bool → Judgement → ℤ × ℕ
+said_of_judgement unfinished (Explained explanation) = (number_of (passes unfinished explanation), 0)
+said_of_judgement unfinished (Deviates deviation) = (pos 0, deviation.line)
+
+-- the same of a finding
 abbrev pub said_of : Bool → Found → ℤ × ℕ
-said_of unfinished (First (Explained explanation)) = (number_of (passes unfinished explanation), 0)
-said_of unfinished (First (Deviates deviation)) = (pos 0, deviation.line)
+said_of unfinished (First judgement) = said_of_judgement unfinished judgement
+said_of unfinished (Covered judgement stretches) = said_of_judgement unfinished judgement
 said_of unfinished (Listed deviations) = (pos 0, first_line deviations.list.items)
 
 -- what the number and the line of a finding say of a history: it passes, or is explained so far, or deviates at that line

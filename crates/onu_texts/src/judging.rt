@@ -1,23 +1,30 @@
 //! The judgement of a history.
-ghost use Rattle.std.specs.Prelude.{◌≡◌, ◌<◌, [], IfErr, IfOk};
+ghost use Rattle.std.specs.Prelude.{◌≡◌, ◌<◌, ◌&&◌, ◌||◌, [], IfErr, IfOk, is_none, is_some, true};
 ghost use Rattle.bench_judge.specs.Judged.{IsWhyUnjudged};
-ghost use Rattle.onu_texts.specs.Judging.{IsFoundIn, IsSaidOf, JudgesBehind, JudgesInto, has_flag, may_be_unfinished, said_of, settings_in};
+ghost use Rattle.onu_texts.specs.Judging.{IsFoundIn, IsSaidOf, JudgesBehind, JudgesInto, has_flag, may_be_unfinished, said_of, said_of_judgement, settings_in};
+ghost use Rattle.onu_cell.specs.Numbers.{bad_flags};
 
 use crate::room::put;
+use bench_coverage::{Stretch, coverage};
 use bench_judge::{
-    Deviations, Findings, JudgeFault, JudgeSettings, Judgement, Nobody, judge, judge_all,
+    Deviations, Findings, Followed, JudgeFault, JudgeSettings, Judgement, Nobody, follow, judge,
+    judge_all,
 };
 use bench_start::read_start;
 use omci_msg::Request;
 use onu_cell::{BAD_LINE, BAD_START, FLAGS, NO_MEMORY, SMALL};
 use script_trace::ScriptFault;
-use std::alloc::Global;
+use std::alloc::{AllocError, Global};
+use text_coverage::write_covered_json;
 use text_deviations::accepted_before;
 use text_judgements::{Told, write_deviations_json, write_judgement_json};
 use text_writing::TextFault;
 
 /// The flags that have a meaning are less.
 const FLAGS_END: u32 = 64;
+
+/// The place of the flag that each frame is judged by itself.
+const UNORDERED: u32 = 1;
 
 /// The place of the flag that a history may be unfinished.
 const UNFINISHED: u32 = 4;
@@ -32,6 +39,8 @@ pub struct Asked<'a> {
     pub flags: u32,
     /// How many deviations are listed at most; 0 for the first alone.
     pub most: u64,
+    /// How many bytes a frame has at least whose class is listed as tried or not, behind an explained history; None where none is listed.
+    pub coverage: Option<u16>,
 }
 
 /// Whether the flag at a place is set, counted from the lowest.
@@ -60,11 +69,21 @@ fn settings_in(flags: u32) -> Option<JudgeSettings>
     })
 }
 
-/// What was found: that a history is explained, or its first deviation; or the first deviations of those that it has.
+/// Whether flags have no meaning, or none beside a coverage: that goes by least versions, which frames don't have that are judged each by itself.
+fn is_refused(asked: &Asked<'_>) -> bool
+    ensures { result ≡ is_none (settings_in asked.now.flags) || (is_some asked.now.coverage && has_flag asked.now.flags 1) }
+{
+    settings_in(asked.flags).is_none()
+        || asked.coverage.is_some() && has_flag(asked.flags, UNORDERED)
+}
+
+/// What was found: that a history is explained, or its first deviation; or the first deviations of those that it has; or that it is explained,
+/// with its coverage.
 #[derive(Drop)]
 enum Found<'h> {
     First(Judgement<'h>),
     Listed(Deviations<'h>),
+    Covered(Judgement<'h>, Vec<Stretch>),
 }
 
 /// What is found of a history, where these requests were carried out before its first line.
@@ -93,14 +112,72 @@ fn find<'h>(
     }
 }
 
+/// What is found of a history, with the coverage of an explained one, in frames of so many bytes at least. Another one is judged once more where
+/// its deviations are listed.
+fn find_covered<'h>(
+    alloc: Global,
+    start: &[Request],
+    asked: &Asked<'h>,
+    settings: &JudgeSettings,
+    least: u16,
+) -> Result<Found<'h>, JudgeFault>
+    ensures found { IfOk result (IsFoundIn settings.now start.now asked.now.history.now) }
+    ensures fault { IfErr result (IsWhyUnjudged asked.now.history.now) }
+{
+    let Followed { judgement, course } = follow(
+        alloc,
+        start,
+        asked.history,
+        settings,
+        &mut Nobody,
+    )?;
+    let Some(course) = course else {
+        if asked.most > 0 {
+            return find(alloc, start, asked.history, settings, asked.most);
+        }
+        return Ok(Found::First(judgement));
+    };
+    match coverage(alloc, course, usize::from(least)) {
+        Ok(stretches) => Ok(Found::Covered(judgement, stretches)),
+        Err(AllocError) => Err(JudgeFault::NoMemory),
+    }
+}
+
+/// What is found of a history, as it is asked for.
+fn find_asked<'h>(
+    alloc: Global,
+    start: &[Request],
+    asked: &Asked<'h>,
+    settings: &JudgeSettings,
+) -> Result<Found<'h>, JudgeFault>
+    ensures found { IfOk result (IsFoundIn settings.now start.now asked.now.history.now) }
+    ensures fault { IfErr result (IsWhyUnjudged asked.now.history.now) }
+{
+    match asked.coverage {
+        Some(least) => find_covered(alloc, start, asked, settings, least),
+        None => find(alloc, start, asked.history, settings, asked.most),
+    }
+}
+
+/// The number of a judgement, and the line of the deviation, or 0.
+fn said_of_judgement(judgement: &Judgement<'_>, unfinished: bool) -> (i32, u64)
+    ensures { result ≡ said_of_judgement unfinished judgement.now }
+{
+    match judgement {
+        Judgement::Explained(explanation) if explanation.passes(unfinished) => (1, 0),
+        Judgement::Explained(_) => (2, 0),
+        Judgement::Deviates(deviation) => (0, deviation.line as u64),
+    }
+}
+
 /// The number of a finding, and the line of the first deviation, or 0.
 fn said_of(found: &Found<'_>, unfinished: bool) -> (i32, u64)
     ensures { result ≡ said_of unfinished found.now }
 {
     match found {
-        Found::First(Judgement::Explained(explanation)) if explanation.passes(unfinished) => (1, 0),
-        Found::First(Judgement::Explained(_)) => (2, 0),
-        Found::First(Judgement::Deviates(deviation)) => (0, deviation.line as u64),
+        Found::First(judgement) | Found::Covered(judgement, _) => said_of_judgement(
+            judgement, unfinished,
+        ),
         Found::Listed(deviations) => match deviations.list.first() {
             Some(deviation) => (0, deviation.line as u64),
             None => (0, 0),
@@ -137,6 +214,9 @@ fn text_of(
     match found {
         Found::First(judgement) => write_judgement_json(alloc, judgement, &told, &mut text)?,
         Found::Listed(deviations) => write_deviations_json(alloc, deviations, &told, &mut text)?,
+        Found::Covered(judgement, stretches) => {
+            write_covered_json(alloc, judgement, stretches, &told, &mut text)?
+        }
     }
     Ok(text)
 }
@@ -152,7 +232,7 @@ fn judge_said(
         start.now asked.now.history.now) }
     ensures fault { IfErr result (IsWhyUnjudged asked.now.history.now) }
 {
-    let found = match find(alloc, start, asked.history, settings, asked.most) {
+    let found = match find_asked(alloc, start, asked, settings) {
         Ok(found) => found,
         Err(fault) => return Err(fault),
     };
@@ -202,7 +282,7 @@ fn judge_upon(
 /// line of the first deviation, or of the first bad line, [`BAD_LINE`], or of the first bad line of the script before it, [`BAD_START`], or 0.
 ///
 /// The flags are 1, modelled classes only; 2, each frame is judged by itself; 4, strays may leave; 8, frames may be padded; 16, the history
-/// may be unfinished; 32, a message may be repeated. Any other is refused, [`FLAGS`], and nothing else is said.
+/// may be unfinished; 32, a message may be repeated. Any other is refused, [`FLAGS`], and nothing else is said. So is 2 beside a coverage.
 pub fn judge_all_into(
     alloc: Global,
     asked: &Asked<'_>,
@@ -210,10 +290,11 @@ pub fn judge_all_into(
     written: &mut usize,
     line: &mut u64,
 ) -> i32
-    ensures { JudgesBehind asked.now.start.now asked.now.flags asked.now.history.now room.old
+    ensures judges { JudgesBehind asked.now.start.now asked.now.flags asked.now.history.now room.old
         room.new result written.old written.new line.old line.new }
+    ensures ordered { is_some asked.now.coverage ≡ true → has_flag asked.now.flags 1 ≡ true → result ≡ bad_flags }
 {
-    if settings_in(asked.flags).is_none() {
+    if is_refused(asked) {
         return FLAGS;
     }
     match read_start(alloc, asked.start) {
@@ -248,6 +329,7 @@ pub fn judge_into(
         history,
         flags,
         most: 0,
+        coverage: None,
     };
     judge_upon(alloc, &asked, &[], room, written, line)
 }

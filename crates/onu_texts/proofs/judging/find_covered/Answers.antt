@@ -1,0 +1,1 @@
+use Rattle.onu_texts.proofs.judging.find_covered.Goals as goal
