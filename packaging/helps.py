@@ -1,4 +1,4 @@
-"""What the helps of the program say, for the manual page and the completions, and that of `python -m onuctl.live`, for a page of its own."""
+"""What the helps of the program say, for the manual page and the completions, and those of the modules `python -m onuctl.NAME`, for pages of their own."""
 import os
 import re
 import subprocess
@@ -116,9 +116,13 @@ class Helps:
         return {"": self.program, **self.commands}
 
 
-def live_help():
-    """The help of `python -m onuctl.live`, of the package in this repository. The library must be built."""
+# The modules of the package in this repository that are called by `python -m`.
+MODULES = ("live", "report", "fleet")
+
+
+def module_help(name):
+    """The help of `python -m onuctl.NAME`. The library must be built."""
     package = os.path.join(os.path.dirname(os.path.dirname(os.path.abspath(__file__))), "python")
-    command = [sys.executable, "-B", "-m", "onuctl.live", "--help"]
+    command = [sys.executable, "-B", "-m", f"onuctl.{name}", "--help"]
     environment = {**os.environ, "PYTHONPATH": package}
     return subprocess.run(command, stdin=subprocess.DEVNULL, stdout=subprocess.PIPE, env=environment, check=True).stdout.decode()

@@ -1,13 +1,13 @@
 #!/usr/bin/env python3
-"""Writes the manual page of the program, onuctl.1: all that its helps say, and the date of the changelog's newest release. With --live it writes
-that of a unit on network interfaces, onuctl-live.1: all that the help of `python -m onuctl.live` says.
-usage: man.py [--live] PROGRAM"""
+"""Writes the manual page of the program, onuctl.1: all that its helps say, and the date of the changelog's newest release. With --live,
+--report or --fleet it writes that of a module of the Python package, onuctl-live.1 and so on: all that the help of `python -m onuctl.live` says.
+usage: man.py [--live | --report | --fleet] PROGRAM"""
 import os
 import re
 import sys
 
 sys.dont_write_bytecode = True
-from helps import Help, Helps, live_help  # noqa: E402
+from helps import MODULES, Help, Helps, module_help  # noqa: E402
 
 CHANGELOG = os.path.join(os.path.dirname(os.path.abspath(__file__)), "../CHANGELOG.md")
 # So many characters stand in a line of an 80-column page.
@@ -34,6 +34,7 @@ BRING = (
     "cp examples/run/up.trace up.script",
     "cp examples/record/bench.history .",
     "cp examples/changes/overwritten.trace new.script",
+    "cp examples/expect/up.expected .",
 )
 # The captures of one clock have a file of a name that other examples use.
 BRING_FOR = {"record": ("cp examples/record/*.pcap .",)}
@@ -177,29 +178,36 @@ def date():
 def page(helps):
     """The manual page."""
     lines = [*head(helps, date()), *commands(helps), *numbers(helps), *tail(helps), *examples(helps)]
-    return "\n".join([*lines, ".SH SEE ALSO", ".BR dot (1),", ".BR onuctl-live (1),", ".BR wireshark (1)"]) + "\n"
+    return "\n".join([*lines, ".SH SEE ALSO", ".BR dot (1),", *(f".BR onuctl-{name} (1)," for name in MODULES), ".BR wireshark (1)"]) + "\n"
 
 
-def live_page(version, text):
-    """The manual page of a unit on network interfaces, by the version of the program and the help."""
+# What else to read beside the page of a module.
+SEE_ALSO = {"live": ("packet (7)", "tcpdump (8)"), "report": ("dot (1)",), "fleet": ("onuctl-report (1)",)}
+
+
+def module_page(name, version, text):
+    """The manual page of a module, by the version of the program and the help."""
     said = Help(text)
-    name, rest = said.usage.split(" [", 1)
+    # Behind the call itself stand its options.
+    call_of, rest = said.usage.split(" [", 1)
     lines = [
-        f'.TH ONUCTL-LIVE 1 "{date()}" "{version.split(",")[0]}" "User Commands"',
-        *(".nh", ".ad l", ".SH NAME", f"onuctl-live \\- {shown(said.about[:1].lower())}{shown(said.about[1:])}", ".SH SYNOPSIS"),
-        *call(shown(name), in_faces(shown(f"[{rest}"))),
+        f'.TH ONUCTL-{name.upper()} 1 "{date()}" "{version.split(",")[0]}" "User Commands"',
+        *(".nh", ".ad l", ".SH NAME", f"onuctl-{name} \\- {shown(said.about[:1].lower())}{shown(said.about[1:])}", ".SH SYNOPSIS"),
+        *call(shown(call_of), in_faces(shown(f"[{rest}"))),
         *(".SH OPTIONS", *words_of(said, ""), ".SH DESCRIPTION", *paragraphs(said.more), ".SH EXAMPLES"),
     ]
     for example in said.examples:
         lines += rows(folded(example, " \\"))
-    return "\n".join([*lines, ".SH SEE ALSO", ".BR onuctl (1),", ".BR packet (7),", ".BR tcpdump (8)"]) + "\n"
+    *others, last = ("onuctl (1)", *SEE_ALSO[name])
+    return "\n".join([*lines, ".SH SEE ALSO", *(f".BR {other}," for other in others), f".BR {last}"]) + "\n"
 
 
 def main(words):
-    if len(words) - (words[:1] == ["--live"]) != 1:
+    module = words[0][2:] if len(words) == 2 and words[0] in [f"--{name}" for name in MODULES] else None
+    if len(words) != (1 if module is None else 2):
         sys.exit(__doc__)
     helps = Helps(words[-1])
-    sys.stdout.write(page(helps) if len(words) == 1 else live_page(helps.version, live_help()))
+    sys.stdout.write(page(helps) if module is None else module_page(module, helps.version, module_help(module)))
     return 0
 
 

@@ -17,6 +17,17 @@ Name: onuctl
 Version: {version}
 Summary: An optical network unit (ITU-T G.988) in your process, and a judge of other units
 Requires-Python: >=3.8
+Provides-Extra: cluster
+Requires-Dist: distributed; extra == "cluster"
+Provides-Extra: progress
+Requires-Dist: tqdm; extra == "progress"
+Provides-Extra: pytest
+Requires-Dist: pytest>=7; extra == "pytest"
+"""
+# The name is the module's, so that `-p onuctl.pytest_plugin` doesn't load it twice.
+ENTRY_POINTS = """\
+[pytest11]
+onuctl.pytest_plugin = onuctl.pytest_plugin
 """
 WHEEL = """\
 Wheel-Version: 1.0
@@ -37,7 +48,14 @@ def read(path):
 
 def sources():
     """The files of the package: their names, and what they hold."""
-    return [(name, read(os.path.join(SOURCES, name))) for name in sorted(os.listdir(SOURCES)) if name.endswith((".py", ".typed"))]
+    names = [name for name in sorted(os.listdir(SOURCES)) if name.endswith((".py", ".typed"))]
+    names += [f"templates/{name}" for name in sorted(os.listdir(os.path.join(SOURCES, "templates")))]
+    return [(name, read(os.path.join(SOURCES, name))) for name in names]
+
+
+def information(version):
+    """The files beside the package by which Python's packages and pytest find it: their names, and what they hold."""
+    return [("METADATA", METADATA.format(version=version).encode()), ("entry_points.txt", ENTRY_POINTS.encode())]
 
 
 def library():
@@ -57,7 +75,7 @@ def build_wheel(wheel_directory, config_settings=None, metadata_directory=None):
     tag = "py3-none-" + re.sub(r"[-.]", "_", sysconfig.get_platform())
     info = f"onuctl-{version}.dist-info"
     files = [(f"onuctl/{name}", data) for name, data in [*sources(), ("libonu.so", library())]]
-    files += [(f"{info}/METADATA", METADATA.format(version=version).encode()), (f"{info}/WHEEL", WHEEL.format(tag=tag).encode())]
+    files += [(f"{info}/{name}", data) for name, data in [*information(version), ("WHEEL", WHEEL.format(tag=tag).encode())]]
     record = "".join(recorded(*file) for file in files) + f"{info}/RECORD,,\n"
     wheel = f"onuctl-{version}-{tag}.whl"
     with zipfile.ZipFile(os.path.join(wheel_directory, wheel), "w", zipfile.ZIP_DEFLATED) as archive:

@@ -24,14 +24,19 @@ def text_of(name: str, given: Union[Bytes, str]) -> bytes:
     raise TypeError("%s must be str, bytes, bytearray or memoryview, not %s" % (name, type(given).__name__))
 
 
+def _number_of(name: str, given: int) -> int:
+    """An argument that is a number."""
+    try:
+        return operator.index(given)
+    except TypeError:
+        raise TypeError("%s must be an int, not %s" % (name, type(given).__name__)) from None
+
+
 def most_of(given: Optional[int]) -> int:
     """How many deviations are listed at most, 0 where the first alone is asked for."""
     if given is None:
         return 0
-    try:
-        most = operator.index(given)
-    except TypeError:
-        raise TypeError("most must be an int, not %s" % type(given).__name__) from None
+    most = _number_of("most", given)
     if most < 1:
         raise ValueError("at least one deviation is listed, not %d" % most)
     return min(most, 0xFFFFFFFFFFFFFFFF)
@@ -39,10 +44,23 @@ def most_of(given: Optional[int]) -> int:
 
 def port_of(given: int) -> int:
     """The number of a port."""
-    try:
-        port = operator.index(given)
-    except TypeError:
-        raise TypeError("port must be an int, not %s" % type(given).__name__) from None
+    port = _number_of("port", given)
     if not 0 <= port <= 0xFFFF:
         raise ValueError("a port is a number from 0 to 65535, not %d" % port)
     return port
+
+
+def least_of(given: int) -> int:
+    """How many bytes frames have at least."""
+    least = _number_of("least", given)
+    if not 0 <= least <= 0xFFFF:
+        raise ValueError("least is a number from 0 to 65535, not %d" % least)
+    return least
+
+
+def line_of(name: str, given: int) -> int:
+    """The number of a line, or 0. Behind the greatest that is passed on no trace has a line."""
+    line = _number_of(name, given)
+    if line < 0:
+        raise ValueError("%s is a number from 0, not %d" % (name, line))
+    return min(line, 0xFFFFFFFFFFFFFFFF)

@@ -11,6 +11,11 @@ SMALL = -19
 NO_MEMORY = -20
 BAD_LINE = -21
 BAD_START = -23
+BAD_AFTER = -24
+BACKWARD = -25
+
+# The line behind which a trace is at its end.
+AT_END = 2**64 - 1
 
 
 class Cell(ctypes.Structure):
@@ -19,8 +24,9 @@ class Cell(ctypes.Structure):
     _fields_ = [("full_", ctypes.c_bool), ("unit_", ctypes.c_void_p)]
 
 
-# The number of a line.
+# The number of a line, and of a port.
 Line = ctypes.c_uint64
+Port = ctypes.c_uint16
 
 # What becomes of a frame, `onu_verdict`: GEM port, reason, how many tags, four tags, and where the rest begins.
 verdict = struct.Struct("@HBB4IN")
@@ -58,6 +64,8 @@ _size = ctypes.POINTER(ctypes.c_size_t)
 _line = ctypes.POINTER(Line)
 _bytes = (ctypes.c_char_p, ctypes.c_size_t)
 _room = (ctypes.c_void_p, ctypes.c_size_t)
+# A port or none, and how many bytes frames have at least.
+_frames = (ctypes.POINTER(Port), ctypes.c_uint16)
 
 open_cell = _call(_locked, "onu_open", _cell)
 close_cell = _call(_locked, "onu_close", _cell)
@@ -66,11 +74,16 @@ forward = _call(_locked, "onu_forward", _cell, ctypes.c_uint16, *_bytes, ctypes.
 explain = _call(_locked, "onu_explain", _cell, ctypes.c_uint16, *_bytes, *_room, _size)
 replay = _call(_free, "onu_replay", *_bytes, *_room, _size, _line)
 judge_all = _call(_free, "onu_judge_all", *_bytes, *_bytes, ctypes.c_uint32, ctypes.c_uint64, *_room, _size, _line)
+judge_coverage = _call(_free, "onu_judge_coverage", *_bytes, *_bytes, ctypes.c_uint32, ctypes.c_uint64, ctypes.c_uint16, *_room, _size, _line)
 encode = _call(_free, "onu_encode", *_bytes, ctypes.c_uint16, *_room, _size)
 decode = _call(_free, "onu_decode", *_bytes, *_room, _size)
 mib = _call(_free, "onu_mib", *_bytes, *_room, _size, _line)
 lint = _call(_free, "onu_lint", *_bytes, *_room, _size, _line)
 rules = _call(_free, "onu_rules", *_bytes, ctypes.c_uint16, *_room, _size, _line)
+cover = _call(_free, "onu_cover", *_bytes, *_frames, *_room, _size, _line)
+differences = _call(_free, "onu_differences", *_bytes, Line, *_bytes, Line, *_frames, *_room, _size, _line)
+hitless = _call(_free, "onu_hitless", *_bytes, Line, Line, *_frames, *_room, _size, _line)
+expect = _call(_free, "onu_expect", *_bytes, *_bytes, Line, Line, ctypes.c_uint16, *_room, _size, _line)
 
 _free.onu_version.argtypes = ()
 _free.onu_version.restype = ctypes.c_char_p

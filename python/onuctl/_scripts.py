@@ -39,15 +39,19 @@ class Mistakes(BadLine):
 _MISTAKE = re.compile(r"^line (\d+), column (\d+): (.*)$", re.MULTILINE)
 
 
+def mistakes_of(told: bytes) -> Mistakes:
+    """The mistakes that a call tells, a line each. They are UTF-8, but for what is shown of a text, which may hold any bytes."""
+    return Mistakes([Mistake(int(line), int(column), reason) for line, column, reason in _MISTAKE.findall(told.decode(errors="replace"))])
+
+
 def _made(call: Callable[..., int], size: int, what: str) -> str:
     """What a call makes of a text. It is UTF-8, but for remarks, which may hold any bytes."""
     number, made = in_room(call, size)
     if number == NO_MEMORY:
         raise MemoryError("no memory for %s" % what)
-    text = made.decode(errors="replace")
     if number == 1:
-        raise Mistakes([Mistake(int(line), int(column), reason) for line, column, reason in _MISTAKE.findall(text)])
-    return text
+        raise mistakes_of(made)
+    return made.decode(errors="replace")
 
 
 def encode(words: Union[Bytes, str], *, identifier: int = 1) -> str:

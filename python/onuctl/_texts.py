@@ -4,7 +4,7 @@ import json
 from typing import Any, Dict, List, NamedTuple, Optional, Union
 
 from . import _library
-from ._given import Bytes, most_of, text_of
+from ._given import Bytes, least_of, most_of, text_of
 from ._library import BAD_LINE, BAD_START, NO_MEMORY, Line, in_room
 
 
@@ -45,6 +45,12 @@ class Finding(NamedTuple):
         listed: List[Dict[str, Any]] = self.details.get("deviations", [self.details])
         return listed
 
+    @property
+    def coverage(self) -> Optional[List[Dict[str, Any]]]:
+        """Which classes of frames were tried, where that was asked for and the history is explained: an object for each stretch of versions at a
+        port, with ``classes``, how many frames can have there, ``seen``, and of each that no frame has an object in ``unseen`` with a ``frame``."""
+        return self.details.get("coverage")
+
     def __str__(self) -> str:
         if self.explained:
             return "explained"
@@ -77,11 +83,14 @@ def judge(
     allow_unfinished: bool = False,
     repeats: bool = False,
     most: Optional[int] = None,
+    coverage: bool = False,
+    least: int = 0,
 ) -> Finding:
     """Judges a history (docs/FORMATS.md, "Histories"): whether a right unit may have behaved so.
 
     ``start`` is a script that the unit carried out before the history began. ``most`` lists that many deviations at most, from 1, in
-    :attr:`Finding.deviations`; each takes as long as a judgement. Without it the first alone is looked for.
+    :attr:`Finding.deviations`; each takes as long as a judgement. Without it the first alone is looked for. ``coverage`` lists in
+    :attr:`Finding.coverage` which classes of frames of at least ``least`` bytes an explained history tried and which not; not with ``unordered``.
 
     ``modelled`` compares the contents of replies only where their requests are on classes that the model has, and there no values of
     read-only attributes and no table; ``unordered`` judges each frame by itself; ``allow_strays`` lets frames leave that were never sent, or
@@ -89,13 +98,20 @@ def judge(
     history without an end line be explained; and ``repeats`` lets a unit answer a message with the bytes of the one before it from memory, or
     not at all. Raises :class:`BadLine`, and :class:`BadStart` for a line of ``start``.
     """
-    given, limit = text_of("history", history), most_of(most)
+    given, limit, shortest = text_of("history", history), most_of(most), least_of(least)
+    if coverage and unordered:
+        raise ValueError("coverage goes by the least versions of frames, and with unordered they have none")
+    if shortest and not coverage:
+        raise ValueError("least is said of coverage")
     script = b"" if start is None else text_of("start", start)
     settings = (modelled, unordered, allow_strays, padded, allow_unfinished, repeats)
     flags = sum(1 << bit for bit, is_set in enumerate(settings) if is_set)
     line = Line()
     texts = (script, len(script), given, len(given))
-    number, text = in_room(lambda *room: _library.judge_all(*texts, flags, limit, *room, line), 4096)
+    if coverage:
+        number, text = in_room(lambda *room: _library.judge_coverage(*texts, flags, limit, shortest, *room, line), 4096)
+    else:
+        number, text = in_room(lambda *room: _library.judge_all(*texts, flags, limit, *room, line), 4096)
     if number == NO_MEMORY:
         raise MemoryError("no memory for a judgement")
     if number == BAD_START:
