@@ -103,6 +103,14 @@ static const char *const set_up[] = {
 #define TO_100 "0005480a00ab0701 0400 f8000000f8000000 000f000000000324"
 #define TO_200 "0006480a00ab0701 0400 f800000080320000 400f000000080644"
 
+/* The entry for no tag, deleted, and set again to VID 200; frames of one tag are dropped; and the table's input TPID becomes 0x9100. */
+#define DELETED "0006480a00ab0701 0400 f8000000f8000000 ffffffffffffffff"
+#define TO_200_AGAIN "0007480a00ab0701 0400 f8000000f8000000 000f000000000644"
+#define ONE_TAG_DROPPED "0005480a00ab0701 0400 f8000000e8000000 c00f0000000f0000"
+#define INPUT_9100 "0006480a00ab0701 2000 9100"
+/* The mapper's pointer for priority 5 becomes one to nothing. */
+#define POINTER_5 "0006480a00820601 0200 0599"
+
 /* The digits of a message and of its trailer, as a line of a script or of a history spells them. */
 static void put_line(char *text, const char *front, const char *digits) {
     char line[128];
@@ -180,8 +188,42 @@ static int32_t rules_at_257(const uint8_t *text, size_t n, uint8_t *room, size_t
     return onu_rules(text, n, 257, room, size, written, line);
 }
 
+static int32_t cover_named(const uint8_t *text, size_t n, uint8_t *room, size_t size, size_t *written, uint64_t *line) {
+    return onu_cover(text, n, NULL, 0, room, size, written, line);
+}
+
+static int32_t differences_from_0(const uint8_t *text, size_t n, uint8_t *room, size_t size, size_t *written, uint64_t *line) {
+    return onu_differences(text, n, 0, NULL, 0, ONU_AT_END, NULL, 0, room, size, written, line);
+}
+
+static int32_t differences_of_same(const uint8_t *text, size_t n, uint8_t *room, size_t size, size_t *written, uint64_t *line) {
+    return onu_differences(text, n, ONU_AT_END, text, n, ONU_AT_END, NULL, 0, room, size, written, line);
+}
+
+static int32_t hitless_from_0(const uint8_t *text, size_t n, uint8_t *room, size_t size, size_t *written, uint64_t *line) {
+    return onu_hitless(text, n, 0, ONU_AT_END, NULL, 0, room, size, written, line);
+}
+
+/* What is expected of the frames that come in at port 257: that each leaves, by the last version; and something with mistakes. */
+#define LEAVE "257 any -> leave\n"
+#define MISTAKEN "257 tags=1 vid=5000 -> leave\n\n257 any -> laeve\n"
+
+static int32_t expect_leaving(const uint8_t *text, size_t n, uint8_t *room, size_t size, size_t *written, uint64_t *line) {
+    return onu_expect(text, n, (const uint8_t *)LEAVE, strlen(LEAVE), ONU_AT_END, ONU_AT_END, 0, room, size, written, line);
+}
+
+static int32_t expect_from_0(const uint8_t *text, size_t n, uint8_t *room, size_t size, size_t *written, uint64_t *line) {
+    return onu_expect(text, n, (const uint8_t *)LEAVE, strlen(LEAVE), 0, ONU_AT_END, 0, room, size, written, line);
+}
+
+static int32_t expect_mistaken(const uint8_t *text, size_t n, uint8_t *room, size_t size, size_t *written, uint64_t *line) {
+    return onu_expect(text, n, (const uint8_t *)MISTAKEN, strlen(MISTAKEN), ONU_AT_END, ONU_AT_END, 0, room, size, written, line);
+}
+
 static make_call *const makes[] = {encode_from_1, onu_decode};
-static look_call *const looks[] = {onu_mib, onu_lint, rules_at_257};
+static look_call *const looks[] = {onu_mib,        onu_lint,      rules_at_257,   cover_named, differences_from_0, differences_of_same,
+                                   hitless_from_0, expect_leaving, expect_from_0, expect_mistaken};
+enum { LOOKS = sizeof looks / sizeof looks[0] };
 
 /* ---- tests */
 
@@ -216,17 +258,26 @@ static void null_pointers_are_answered(void) {
     CHECK(onu_judge_all(room, 9, room, 9, 0, 1, NULL, 40, &written, &line) == ONU_NULL);
     CHECK(onu_judge_all(room, 9, room, 9, 0, 1, room + 20, 40, NULL, &line) == ONU_NULL);
     CHECK(onu_judge_all(room, 9, room, 9, 0, 1, room + 20, 40, &written, NULL) == ONU_NULL);
+    CHECK(onu_judge_coverage(NULL, 9, room, 9, 0, 0, 0, room + 20, 40, &written, &line) == ONU_NULL);
+    CHECK(onu_judge_coverage(room, 9, NULL, 9, 0, 0, 0, room + 20, 40, &written, &line) == ONU_NULL);
+    CHECK(onu_judge_coverage(room, 9, room, 9, 0, 0, 0, NULL, 40, &written, &line) == ONU_NULL);
+    CHECK(onu_judge_coverage(room, 9, room, 9, 0, 0, 0, room + 20, 40, NULL, &line) == ONU_NULL);
+    CHECK(onu_judge_coverage(room, 9, room, 9, 0, 0, 0, room + 20, 40, &written, NULL) == ONU_NULL);
     for (int i = 0; i < 2; i++) {
         CHECK(makes[i](NULL, 9, room, 64, &written) == ONU_NULL);
         CHECK(makes[i](room, 9, NULL, 64, &written) == ONU_NULL);
         CHECK(makes[i](room, 9, room + 20, 40, NULL) == ONU_NULL);
     }
-    for (int i = 0; i < 3; i++) {
+    for (int i = 0; i < LOOKS; i++) {
         CHECK(looks[i](NULL, 9, room, 64, &written, &line) == ONU_NULL);
         CHECK(looks[i](room, 9, NULL, 64, &written, &line) == ONU_NULL);
         CHECK(looks[i](room, 9, room + 20, 40, NULL, &line) == ONU_NULL);
         CHECK(looks[i](room, 9, room + 20, 40, &written, NULL) == ONU_NULL);
     }
+    /* A trace after a change that isn't there has no bytes. */
+    CHECK(onu_differences(room, 9, 0, NULL, 9, 0, NULL, 0, room + 20, 40, &written, &line) == ONU_NULL);
+    CHECK(onu_differences(NULL, 9, 0, room, 9, 0, NULL, 0, room + 20, 40, &written, &line) == ONU_NULL);
+    CHECK(onu_expect(room, 9, NULL, 9, 0, 0, 0, room + 20, 40, &written, &line) == ONU_NULL);
     CHECK(written == 7 && line == 7);
     for (size_t i = 0; i < sizeof room; i++)
         CHECK(room[i] == 0);
@@ -248,14 +299,18 @@ static void no_bytes_may_be_null(void) {
     CHECK(onu_judge(NULL, 0, 0, room, sizeof room, &written, &line) == 2 && line == 0);
     written = line = 7;
     CHECK(onu_judge_all(NULL, 0, NULL, 0, 0, 1, NULL, 0, &written, &line) == ONU_SMALL && written > 7 && line == 0);
+    written = line = 7;
+    CHECK(onu_judge_coverage(NULL, 0, NULL, 0, 0, 0, 0, NULL, 0, &written, &line) == ONU_SMALL && written > 7 && line == 0);
     for (int i = 0; i < 2; i++) {
         written = 7;
         CHECK(makes[i](NULL, 0, NULL, 0, &written) == 0 && written == 0);
     }
-    for (int i = 0; i < 3; i++) {
+    for (int i = 0; i < LOOKS; i++) {
         written = line = 7;
         CHECK(looks[i](NULL, 0, NULL, 0, &written, &line) == ONU_SMALL && written > 7 && line == 0);
     }
+    written = line = 7;
+    CHECK(onu_expect(NULL, 0, NULL, 0, 0, 0, 0, NULL, 0, &written, &line) == ONU_SMALL && written > 7 && line == 0);
     CHECK(onu_close(&cell) == 0);
 }
 
@@ -554,6 +609,42 @@ static void a_history_is_judged_behind_a_script(void) {
     CHECK(room[0] == 0xee);
 }
 
+/* How a history is judged behind a script with its coverage, and whether its text has these words. */
+static int32_t covered_behind(const char *start, const char *history, uint32_t flags, uint64_t most, uint16_t least, const char *words, uint64_t *line) {
+    static uint8_t room[8192];
+    size_t written = 0;
+    memset(room, 0, sizeof room);
+    int32_t number = onu_judge_coverage((const uint8_t *)start, strlen(start), (const uint8_t *)history, strlen(history), flags, most, least, room,
+                                        sizeof room - 1, &written, line);
+    CHECK(strlen((const char *)room) == written && strstr((const char *)room, words) != NULL);
+    return number;
+}
+
+static void what_was_tried_is_listed(void) {
+    /* The port's frames leave as they came, whatever their tags, but for those that can't be read: two classes, and one for each predefined entry. */
+    static const char left[] = "w\nf 257 " U "\ng 0 1024 " U "\ne\n";
+    static const char of_all[] = "\"coverage\":[\n{\"port\":257,\"version\":0,\"seen\":1,\"classes\":5,\"unseen\":[{\"use\":\"unread\",\"reason\":1,";
+    static const char of_long[] = "\"coverage\":[\n{\"port\":257,\"version\":0,\"seen\":1,\"classes\":3,\"unseen\":[{\"use\":\"entry\",\"entry\":1,\"gem\":1024,";
+    static char script[4096];
+    uint64_t line = 7;
+    script[0] = 0;
+    for (int i = 0; i < 4; i++)
+        put_line(script, "o", set_up[i]);
+    CHECK(covered_behind(script, left, 0, 0, 0, of_all, &line) == 1 && line == 0);
+    CHECK(covered_behind(script, left, 0, 9, 60, of_long, &line) == 1 && line == 0);
+    /* Where nothing was judged, nothing was tried. */
+    CHECK(covered_behind(script, "", 0, 0, 0, "\"coverage\":[]}", &line) == 2 && line == 0);
+    /* A history that deviates is listed as without coverage. */
+    CHECK(covered_behind(script, "s 7 00\n", 0, 0, 0, "\"explained\":false,\"line\":1,\"stray\":{\"gem\":7,\"frame\":\"00\"}}", &line) == 0 && line == 1);
+    CHECK(covered_behind(script, "s 7 00\n", 0, 9, 0, "\"stray\":{\"gem\":7,\"frame\":\"00\"}}],\"more\":false}", &line) == 0 && line == 1);
+    CHECK(covered_behind(script, "\nx\n", 0, 0, 0, "", &line) == ONU_BAD_LINE && line == 2);
+    CHECK(covered_behind("x\n", left, 0, 0, 0, "", &line) == ONU_BAD_START && line == 1);
+    /* No frame has a least version where each is judged by itself. */
+    line = 7;
+    CHECK(covered_behind(script, left, ONU_UNORDERED, 0, 0, "", &line) == ONU_FLAGS && line == 7);
+    CHECK(covered_behind(script, left, 64, 0, 0, "", &line) == ONU_FLAGS && line == 7);
+}
+
 /* A text that a call makes: in a room of just its size, and in one that is a byte too small. */
 static void is_made(make_call *call, const char *text, int32_t number, const char *made) {
     static uint8_t room[4096];
@@ -600,22 +691,26 @@ static void a_script_is_decoded(void) {
     is_made(onu_decode, "# remark\nf 257 0g\nx\n", 1, "line 2, column 8: found 'g', expected a hexadecimal digit\n");
 }
 
-/* What a call shows after a trace, but for white space: in a room of just its size, and in one that is a byte too small. */
-static void is_shown(look_call *call, const char *trace, const char *shown) {
+/* What a call answers and shows after a trace, but for white space: in a room of just its size, and in one that is a byte too small. */
+static void is_answered(look_call *call, const char *trace, int32_t number, const char *shown) {
     static uint8_t room[8192], other[8192];
     size_t written = 7, needed = 7;
     uint64_t line = 7;
-    CHECK(call((const uint8_t *)trace, strlen(trace), room, sizeof room, &written, &line) == 0 && line == 0);
+    CHECK(call((const uint8_t *)trace, strlen(trace), room, sizeof room, &written, &line) == number && line == 0);
     CHECK(says(room, written, shown));
     memset(other, 0xee, sizeof other);
     line = 7;
-    CHECK(call((const uint8_t *)trace, strlen(trace), other, written, &needed, &line) == 0 && needed == written && line == 0);
+    CHECK(call((const uint8_t *)trace, strlen(trace), other, written, &needed, &line) == number && needed == written && line == 0);
     CHECK(memcmp(other, room, written) == 0 && other[written] == 0xee);
     memset(other, 0xee, sizeof other);
     line = 7;
     CHECK(call((const uint8_t *)trace, strlen(trace), other, written - 1, &needed, &line) == ONU_SMALL && needed == written && line == 0);
     for (size_t i = 0; i <= written; i++)
         CHECK(other[i] == 0xee);
+}
+
+static void is_shown(look_call *call, const char *trace, const char *shown) {
+    is_answered(call, trace, 0, shown);
 }
 
 static void what_a_trace_leaves_is_shown(void) {
@@ -642,11 +737,223 @@ static void what_a_trace_leaves_is_shown(void) {
     CHECK(rules_at_257((uint8_t *)trace, strlen(trace), room, sizeof room - 1, &written, &line) == 0 && line == 0);
     room[written] = 0;
     CHECK(strstr((char *)room, "\"points_to\":\"port\",\"instance\":1793") != NULL);
-    for (int i = 0; i < 3; i++) {
+    for (int i = 0; i < LOOKS; i++) {
         memset(room, 0xee, sizeof room);
         CHECK(looks[i]((const uint8_t *)"#\nx\ny\n", 6, room, sizeof room, &written, &line) == ONU_BAD_LINE && line == 2 && written == 0);
         CHECK(room[0] == 0xee);
     }
+}
+
+/* ---- every frame */
+
+static const uint16_t port_257 = 257, port_258 = 258;
+
+/* A trace that sets the port up, with more messages behind. It stands until the trace behind the next one is made. */
+static const char *trace_of(const char *const *more, int n) {
+    static char traces[2][4096];
+    static int next;
+    char *trace = traces[next ^= 1];
+    trace[0] = 0;
+    for (int i = 0; i < 4; i++)
+        put_line(trace, "o", set_up[i]);
+    for (int i = 0; i < n; i++)
+        put_line(trace, "o", more[i]);
+    return trace;
+}
+
+#define TRACE_OF(...) trace_of((const char *const[]){__VA_ARGS__}, sizeof((const char *const[]){__VA_ARGS__}) / sizeof(char *))
+#define SET_UP trace_of(NULL, 0)
+
+/* The text of what was found. */
+static char found[16384];
+
+/* Whether what was found has so many frames that come in at a port, and these parts in this order. */
+static bool has(int count, const char *const *parts, int n) {
+    const char *at = found;
+    int ports = 0;
+    for (const char *port = found; (port = strstr(port, "\"port\":")) != NULL; port++)
+        ports++;
+    for (int i = 0; i < n && at != NULL; i++) {
+        at = strstr(at, parts[i]);
+        at = at == NULL ? NULL : at + strlen(parts[i]);
+    }
+    return ports == count && at != NULL;
+}
+
+#define HAS(count, ...) has(count, (const char *const[]){__VA_ARGS__}, sizeof((const char *const[]){__VA_ARGS__}) / sizeof(char *))
+
+static int32_t covered(const char *trace, const uint16_t *port, uint16_t least) {
+    size_t written = 0;
+    uint64_t line = 7;
+    int32_t number = onu_cover((const uint8_t *)trace, strlen(trace), port, least, (uint8_t *)found, sizeof found - 1, &written, &line);
+    found[written] = 0;
+    CHECK(line == 0);
+    return number;
+}
+
+static int32_t differing(const char *before, uint64_t from, const char *after, uint64_t until, const uint16_t *port, uint16_t least) {
+    size_t written = 0;
+    uint64_t line = 7;
+    int32_t number = onu_differences((const uint8_t *)before, strlen(before), from, (const uint8_t *)after, after == NULL ? 0 : strlen(after), until,
+                                     port, least, (uint8_t *)found, sizeof found - 1, &written, &line);
+    found[written] = 0;
+    CHECK(line == 0);
+    return number;
+}
+
+static int32_t tearing(const char *trace, uint64_t from, uint64_t until, const uint16_t *port) {
+    size_t written = 0;
+    uint64_t line = 7;
+    int32_t number = onu_hitless((const uint8_t *)trace, strlen(trace), from, until, port, 0, (uint8_t *)found, sizeof found - 1, &written, &line);
+    found[written] = 0;
+    CHECK(line == 0);
+    return number;
+}
+
+static int32_t expecting(const char *trace, const char *expectations, uint64_t from, uint64_t until, uint16_t least) {
+    size_t written = 0;
+    uint64_t line = 7;
+    int32_t number = onu_expect((const uint8_t *)trace, strlen(trace), (const uint8_t *)expectations, strlen(expectations), from, until, least,
+                                (uint8_t *)found, sizeof found - 1, &written, &line);
+    found[written] = 0;
+    CHECK(line == 0);
+    return number;
+}
+
+/* What stands in a class, and on a side of a difference or of a tear. */
+#define UNREAD(reason) "\"use\":\"unread\",\"reason\":" #reason ","
+#define ENTRY(number) "\"use\":\"entry\",\"entry\":" #number ",\"gem\":1024,"
+#define DROPPING(number) "\"use\":\"entry\",\"entry\":" #number ",\"reason\":4,"
+#define NO_MAPPER "\"use\":\"no-table\",\"reason\":5,"
+#define LOST(number) "\"use\":\"entry\",\"entry\":" #number ",\"reason\":7,"
+#define BEFORE(class) "\"before\":{" class
+#define HERE(class) "\"here\":{" class
+#define AFTER(class) "\"after\":{" class
+#define SAME "{\"format\":1,\"differences\":[]}"
+#define HITLESS "{\"format\":1,\"torn\":[]}"
+#define HOLDS(number) "{\"line\":" #number ",\"port\":257,\"outcome\":\"holds\"}"
+#define FAILS(port, number) "{\"line\":" #number ",\"port\":" #port ",\"outcome\":\"fails\","
+#define VOID(number) "{\"line\":" #number ",\"port\":257,\"outcome\":\"void\"}"
+#define NOTHING_EXPECTED "{\"format\":1,\"expectations\":[],\"fail\":0}"
+
+static void classes_are_listed(void) {
+    /* Without entities a port has no table and no mapper, and none is named. */
+    CHECK(covered("", &port_257, 0) == 0 && HAS(3, UNREAD(1), UNREAD(2), NO_MAPPER));
+    is_shown(cover_named, "", "{\"format\":1,\"classes\":[]}");
+    CHECK(covered(SET_UP, NULL, 0) == 0 && HAS(5, UNREAD(1), UNREAD(2), ENTRY(0), ENTRY(1), ENTRY(2)));
+    CHECK(covered(SET_UP, &port_257, 60) == 0 && HAS(3, ENTRY(0), ENTRY(1), ENTRY(2)) && strstr(found, "unread") == NULL);
+    CHECK(covered(SET_UP, &port_258, 0) == 0 && HAS(3, UNREAD(1), UNREAD(2), "\"port\":258,\"use\":\"no-table\",\"reason\":5,"));
+    /* The predefined entry for no tag, entry 1, is used for no frame then. */
+    CHECK(covered(TRACE_OF(TO_100), NULL, 0) == 0 && HAS(5, UNREAD(1), UNREAD(2), ENTRY(0), ENTRY(2), ENTRY(3)));
+    CHECK(strstr(found, "\"entry\":1,") == NULL);
+    /* Entries 2 and 3 keep the frames' priorities, and entry 0 adds a tag of priority 0. */
+    CHECK(covered(TRACE_OF(TO_100, POINTER_5), NULL, 0) == 0);
+    CHECK(HAS(7, UNREAD(1), UNREAD(2), ENTRY(0), ENTRY(2), LOST(2), ENTRY(3), LOST(3)));
+}
+
+static void differences_are_listed(void) {
+    is_shown(differences_from_0, "f 257 00\n", SAME);
+    is_shown(differences_of_same, SET_UP, SAME);
+    const char *tagged = TRACE_OF(TO_100);
+    /* Frames without a tag leave with one. */
+    CHECK(differing(tagged, 4, NULL, ONU_AT_END, NULL, 0) == 1);
+    CHECK(HAS(1, "\"port\":257,\"frame\":\"" AD "0800", BEFORE(ENTRY(0)) "\"frame\":\"" AD "0800", AFTER(ENTRY(0)) "\"frame\":\"" AD "810000640800"));
+    CHECK(differing(SET_UP, ONU_AT_END, tagged, ONU_AT_END, &port_257, 0) == 1 && HAS(1, BEFORE(ENTRY(0)), AFTER(ENTRY(0))));
+    CHECK(differing(tagged, ONU_AT_END, tagged, 4, NULL, 0) == 1 && HAS(1, BEFORE(ENTRY(0)), AFTER(ENTRY(0))));
+    CHECK(differing(tagged, 4, tagged, 4, NULL, 0) == 0 && says((uint8_t *)found, strlen(found), SAME));
+    CHECK(differing(tagged, 5, NULL, ONU_AT_END, NULL, 0) == 0 && differing(tagged, ONU_AT_END, NULL, ONU_AT_END, NULL, 0) == 0);
+    CHECK(differing(tagged, 4, NULL, ONU_AT_END, &port_258, 0) == 0 && says((uint8_t *)found, strlen(found), SAME));
+    /* By another input TPID frames are cut that were long enough; all others leave with the same bytes. */
+    const char *with_9100 = TRACE_OF(INPUT_9100);
+    CHECK(differing(with_9100, 4, NULL, ONU_AT_END, NULL, 0) == 1);
+    CHECK(HAS(2, BEFORE(ENTRY(0)), AFTER(UNREAD(2)), BEFORE(ENTRY(1)), AFTER(UNREAD(2))));
+    CHECK(differing(with_9100, 4, NULL, ONU_AT_END, NULL, 60) == 0 && says((uint8_t *)found, strlen(found), SAME));
+    /* What was a type behind one tag is a second tag then, and what was a type is a tag. */
+    CHECK(differing(TRACE_OF(ONE_TAG_DROPPED, INPUT_9100), 5, NULL, ONU_AT_END, NULL, 0) == 1);
+    CHECK(HAS(4, BEFORE(DROPPING(0)), AFTER(UNREAD(2)), BEFORE(DROPPING(0)), AFTER(ENTRY(3)), BEFORE(ENTRY(1)), AFTER(UNREAD(2)),
+              BEFORE(ENTRY(1)), AFTER(DROPPING(0))));
+}
+
+static void torn_moments_are_listed(void) {
+    is_shown(hitless_from_0, SET_UP, HITLESS);
+    /* An entry is deleted, and set again: frames without a tag leave without one in between. */
+    const char *torn = TRACE_OF(TO_100, DELETED, TO_200_AGAIN);
+    CHECK(tearing(torn, 5, ONU_AT_END, NULL) == 1);
+    CHECK(HAS(1, "\"version\":6,\"line\":6,\"port\":257,\"frame\":\"" AD "0800", BEFORE(ENTRY(0)) "\"frame\":\"" AD "810000640800",
+              HERE(ENTRY(0)) "\"frame\":\"" AD "0800", AFTER(ENTRY(0)) "\"frame\":\"" AD "810000c80800"));
+    CHECK(tearing(torn, 5, 7, &port_257) == 1 && HAS(1, "\"version\":6,"));
+    CHECK(tearing(torn, 5, ONU_AT_END, &port_258) == 0 && says((uint8_t *)found, strlen(found), HITLESS));
+    CHECK(tearing(torn, 5, 6, NULL) == 0 && tearing(torn, 6, ONU_AT_END, NULL) == 0 && tearing(torn, 7, 7, NULL) == 0);
+    /* One that is overwritten is hitless. */
+    CHECK(tearing(TRACE_OF(TO_100, TO_200_AGAIN), 5, ONU_AT_END, NULL) == 0 && says((uint8_t *)found, strlen(found), HITLESS));
+    /* Frames that are dropped for one reason and then for another are no tear: all is set up in another order, the GEM port last. */
+    static const int order[] = {2, 3, 1, 0};
+    static char another[4096];
+    another[0] = 0;
+    for (int i = 0; i < 4; i++)
+        put_line(another, "o", set_up[order[i]]);
+    CHECK(tearing(another, 0, ONU_AT_END, NULL) == 0 && says((uint8_t *)found, strlen(found), HITLESS));
+}
+
+static void expectations_are_checked(void) {
+    is_shown(expect_leaving, SET_UP, "{\"format\":1,\"expectations\":[" HOLDS(1) "],\"fail\":0}");
+    is_answered(expect_mistaken, "f 257 00\n", 2,
+                "line1,column16:aVIDisatmost4095,found`5000`"
+                "line3,column12:found`laeve`,expectedany,leave,drop,gem,unchanged,remove,outerorinner;didyoumean`leave`?");
+    CHECK(expecting("", "", ONU_AT_END, ONU_AT_END, 0) == 0 && says((uint8_t *)found, strlen(found), NOTHING_EXPECTED));
+    CHECK(expecting("", "# remark\n", 0, ONU_AT_END, 0) == 0 && says((uint8_t *)found, strlen(found), NOTHING_EXPECTED));
+    /* One holds, a frame fails another, one admits no frame, and at a port without a mapper frames are dropped. */
+    const char *tagged = TRACE_OF(TO_100), *lines = "257 tags=0 -> gem 1024 inner(pcp=0 vid=100 tpid=8100)\n# remark\n257 tags=0 -> drop\n"
+                                                    "257 tags=1 outer(vid=5) -> leave\n258 any -> leave\n";
+    CHECK(expecting(tagged, lines, ONU_AT_END, ONU_AT_END, 0) == 1);
+    CHECK(HAS(4, HOLDS(1) ",", FAILS(257, 3) "\"frame\":\"" AD, HERE(ENTRY(0)) "\"frame\":\"" AD "81000064", VOID(4),
+              FAILS(258, 5) "\"frame\":\"" AD, HERE(NO_MAPPER), "],\"fail\":3}"));
+    CHECK(strstr(found, "version") == NULL);
+    /* Before the entry is set frames leave as they came, and before the last message of the four a port has no table. */
+    CHECK(expecting(tagged, "257 tags=0 -> gem 1024 unchanged\n", ONU_AT_END, 4, 0) == 0);
+    CHECK(expecting(tagged, "257 tags=0 -> gem 1024 unchanged\n", ONU_AT_END, ONU_AT_END, 0) == 1);
+    CHECK(expecting(tagged, "257 tags=0 -> gem 1024 unchanged\n", 4, 4, 0) == 0);
+    CHECK(expecting(tagged, "257 tags=0 -> gem 1024 unchanged\n", 4, ONU_AT_END, 0) == 1);
+    CHECK(HAS(1, FAILS(257, 1) "\"version\":5,\"trace_line\":5,\"frame\":\"" AD, HERE(ENTRY(0))));
+    CHECK(expecting(tagged, LEAVE, 3, ONU_AT_END, 0) == 0 && expecting(tagged, LEAVE, 0, ONU_AT_END, 0) == 1);
+    CHECK(HAS(1, FAILS(257, 1) "\"version\":0,\"trace_line\":0,\"frame\":\"" AD, HERE(NO_MAPPER)));
+    /* An entry is deleted, and set again. */
+    CHECK(expecting(TRACE_OF(TO_100, DELETED, TO_200_AGAIN), "257 tags=0 -> inner(pcp=0 vid=100 tpid=8100)\n", 5, ONU_AT_END, 0) == 1);
+    CHECK(HAS(1, FAILS(257, 1) "\"version\":6,\"trace_line\":6,", HERE(ENTRY(0)) "\"frame\":\"" AD));
+    /* A frame that is shown has as many bytes as are asked for, and so has what leaves. */
+    CHECK(expecting(SET_UP, "257 any -> drop\n", ONU_AT_END, ONU_AT_END, 1500) == 1 && strlen(found) > 4 * 1500);
+}
+
+static void traces_of_a_change_are_read_up_to_their_lines(void) {
+    static const uint8_t bad[] = "#\nx\n", good[] = "#\n";
+    uint8_t room[200];
+    size_t written = 7;
+    uint64_t line = 7;
+    memset(room, 0xee, sizeof room);
+    /* The trace before is named first, and then that after. */
+    CHECK(onu_differences(bad, 4, 2, bad, 4, 2, NULL, 0, room, sizeof room, &written, &line) == ONU_BAD_LINE && line == 2 && written == 0);
+    written = line = 7;
+    CHECK(onu_differences(bad, 4, 1, bad, 4, 2, NULL, 0, room, sizeof room, &written, &line) == ONU_BAD_AFTER && line == 2 && written == 0);
+    CHECK(room[0] == 0xee);
+    CHECK(onu_differences(bad, 4, 1, bad, 4, 0, NULL, 0, room, sizeof room, &written, &line) == 0 && line == 0 && says(room, written, SAME));
+    CHECK(onu_differences(bad, 4, 0, NULL, 0, 2, NULL, 0, room, sizeof room, &written, &line) == ONU_BAD_LINE && line == 2 && written == 0);
+    CHECK(onu_differences(bad, 4, 0, NULL, 0, 1, NULL, 0, room, sizeof room, &written, &line) == 0 && line == 0);
+    /* A trace after a change that is there has no bytes. */
+    CHECK(onu_differences(good, 2, ONU_AT_END, good, 0, 0, NULL, 0, room, sizeof room, &written, &line) == 0 && says(room, written, SAME));
+    CHECK(onu_hitless(bad, 4, 0, 2, NULL, 0, room, sizeof room, &written, &line) == ONU_BAD_LINE && line == 2 && written == 0);
+    CHECK(onu_hitless(bad, 4, 0, 1, NULL, 0, room, sizeof room, &written, &line) == 0 && line == 0 && says(room, written, HITLESS));
+    CHECK(onu_expect(bad, 4, good, 2, 0, 2, 0, room, sizeof room, &written, &line) == ONU_BAD_LINE && line == 2 && written == 0);
+    CHECK(onu_expect(bad, 4, (const uint8_t *)"x", 1, 0, 2, 0, room, sizeof room, &written, &line) == ONU_BAD_LINE && line == 2 && written == 0);
+    CHECK(onu_expect(bad, 4, good, 2, 0, 1, 0, room, sizeof room, &written, &line) == 0 && line == 0 && says(room, written, NOTHING_EXPECTED));
+    CHECK(onu_expect(bad, 4, good, 2, ONU_AT_END, 1, 0, room, sizeof room, &written, &line) == 0 && line == 0);
+    /* No change goes back, but one of two traces may. */
+    memset(room, 0xee, sizeof room);
+    written = line = 7;
+    CHECK(onu_differences(good, 2, 1, NULL, 0, 0, NULL, 0, room, sizeof room, &written, &line) == ONU_BACKWARD);
+    CHECK(onu_hitless(good, 2, ONU_AT_END, 9, NULL, 0, room, sizeof room, &written, &line) == ONU_BACKWARD);
+    CHECK(onu_expect(good, 2, good, 2, 10, 9, 0, room, sizeof room, &written, &line) == ONU_BACKWARD);
+    CHECK(written == 7 && line == 7 && room[0] == 0xee);
+    CHECK(onu_differences(good, 2, 1, good, 2, 0, NULL, 0, room, sizeof room, &written, &line) == 0);
 }
 
 static void units_are_alone(void) {
@@ -720,13 +1027,14 @@ static void memory_for_an_explanation_is_refused(void) {
 }
 
 static void memory_for_texts_is_refused(void) {
-    static char script[4096], answers[4096], history[4096];
+    static char script[4096], answers[4096], history[4096], explained[4096];
     static uint8_t room[4096];
     put_script(script, answers);
     put_history(history, "g 0 1024 " AD "8100006408004500\ng 1 1024 " U "\n");
-    for (int which = 0; which < 3; which++) {
+    put_history(explained, "g 0 1024 " U "\ng 1 1024 " AD "8100006408004500\ne\n");
+    for (int which = 0; which < 4; which++) {
         unsigned long number = 0;
-        int32_t answer;
+        int32_t answer, right = which == 3 ? 1 : 0;
         do {
             size_t written = 7;
             uint64_t line = 7;
@@ -736,15 +1044,22 @@ static void memory_for_texts_is_refused(void) {
                 answer = onu_replay((uint8_t *)script, strlen(script), room, sizeof room, &written, &line);
             else if (which == 1)
                 answer = onu_judge((uint8_t *)history, strlen(history), 0, room, sizeof room, &written, &line);
-            else
+            else if (which == 2)
                 answer = onu_judge_all((uint8_t *)script, strlen(script), (uint8_t *)history, strlen(history), 0, 2, room, sizeof room,
                                        &written, &line);
+            else
+                answer = onu_judge_coverage(NULL, 0, (uint8_t *)explained, strlen(explained), 0, 0, 60, room, sizeof room, &written, &line);
             refuse(0);
-            CHECK(answer == 0 || (answer == ONU_NO_MEMORY && written == 0 && line == 0 && room[0] == 0xee));
+            CHECK(answer == right || (answer == ONU_NO_MEMORY && written == 0 && line == 0 && room[0] == 0xee));
             CHECK(blocks == 0);
-        } while (answer != 0);
+        } while (answer != right);
         CHECK(number > 10);
     }
+}
+
+/* What a call answers after a trace that sets the port up: at first frames are dropped there. */
+static int32_t found_by(look_call *call) {
+    return call == expect_mistaken ? 2 : call == differences_from_0 || call == expect_from_0;
 }
 
 static void memory_for_scripts_is_refused(void) {
@@ -754,7 +1069,7 @@ static void memory_for_scripts_is_refused(void) {
     trace[0] = 0;
     for (int i = 0; i < 5; i++)
         put_line(trace, "o", set_up[i % 4]);
-    for (int which = 0; which < 7; which++) {
+    for (int which = 0; which < 4 + LOOKS; which++) {
         unsigned long number = 0;
         int32_t answer;
         do {
@@ -765,7 +1080,7 @@ static void memory_for_scripts_is_refused(void) {
             answer = which < 4 ? makes[which / 2]((const uint8_t *)texts[which], strlen(texts[which]), room, sizeof room, &written)
                                : looks[which - 4]((uint8_t *)trace, strlen(trace), room, sizeof room, &written, &line);
             refuse(0);
-            CHECK(answer == (which < 4 ? which % 2 : 0) || (answer == ONU_NO_MEMORY && written == 0 && room[0] == 0xee));
+            CHECK(answer == (which < 4 ? which % 2 : found_by(looks[which - 4])) || (answer == ONU_NO_MEMORY && written == 0 && room[0] == 0xee));
             CHECK(line == (which < 4 ? 7 : 0) && blocks == 0);
         } while (answer == ONU_NO_MEMORY);
         CHECK(number > 3);
@@ -784,9 +1099,15 @@ int main(void) {
     a_script_is_answered();
     a_history_is_judged();
     a_history_is_judged_behind_a_script();
+    what_was_tried_is_listed();
     words_become_a_script();
     a_script_is_decoded();
     what_a_trace_leaves_is_shown();
+    classes_are_listed();
+    differences_are_listed();
+    torn_moments_are_listed();
+    expectations_are_checked();
+    traces_of_a_change_are_read_up_to_their_lines();
     units_are_alone();
     CHECK(blocks == 0);
     memory_for_a_unit_is_refused();

@@ -23,17 +23,27 @@ sys.path[:0] = [str(TOP / "python"), str(TOP / "tests/plainly")]
 import onuctl  # noqa: E402
 from dialogues import calls_of  # noqa: E402
 from onuctl import (  # noqa: E402
+    BadAfter,
     BadLine,
     BadStart,
+    Difference,
     Dropped,
+    Fate,
     Forwarded,
+    FrameClass,
     MessageFault,
     Mistake,
     Mistakes,
+    Outcome,
     Reason,
+    Tear,
     Unit,
+    cover,
     decode,
+    differences,
     encode,
+    expect,
+    hitless,
     judge,
     lint,
     mib,
@@ -62,6 +72,13 @@ create vlan 0x0701 association=pptp pointer=0x0101
 # Frames without a tag get one of VID 100; VID 100 becomes VID 200.
 TO_100 = "0005480a00ab0701 0400 f8000000f8000000 000f000000000324"
 TO_200 = "0006480a00ab0701 0400 f800000080320000 400f000000080644"
+# The entry for no tag, deleted, and set again to VID 200; frames of one tag are dropped; and the table's input TPID becomes 0x9100.
+DELETED = "0006480a00ab0701 0400 f8000000f8000000 ffffffffffffffff"
+TO_200_AGAIN = "0007480a00ab0701 0400 f8000000f8000000 000f000000000644"
+ONE_TAG_DROPPED = "0005480a00ab0701 0400 f8000000e8000000 c00f0000000f0000"
+INPUT_9100 = "0006480a00ab0701 2000 9100"
+# The mapper's pointer for priority 5 becomes one to nothing.
+POINTER_5 = "0006480a00820601 0200 0599"
 # Frames without a tag get one of VID 200 around one of VID 100.
 TO_BOTH = "0005480a00ab0701 0400 f8000000f8000000 0000064400000324"
 
@@ -170,7 +187,15 @@ class UnitTest(unittest.TestCase):
         self.assertEqual(self.unit.forward(257, frame("88a80064 810000c8 0800 4500")), Dropped(Reason.RULE_DISCARD))
 
     def test_a_port_has_16_bits(self) -> None:
+        calls: List[Callable[[int], Any]] = [
+            lambda port: cover(b"", port=port),
+            lambda port: differences(b"", b"", port=port),
+            lambda port: hitless(b"", 0, port=port),
+        ]
         for port in (-1, 65536):
+            for call in calls:
+                with self.assertRaisesRegex(ValueError, "^a port is a number from 0 to 65535"):
+                    call(port)
             with self.assertRaises(ValueError):
                 self.unit.forward(port, b"")
             with self.assertRaises(ValueError):
@@ -439,6 +464,10 @@ class GivenTest(unittest.TestCase):
             self.assertEqual(mib(kind(b"# remark\n"))["mib_data_sync"], 0)
             self.assertEqual([each["kind"] for each in lint(kind(b"# remark\n"))], ["empty-trace"])
             self.assertEqual(rules(kind(b"# remark\n"), 257)["entries"], [])
+            self.assertEqual(cover(kind(b"# remark\n")), [])
+            self.assertEqual(differences(kind(b"# remark\n"), kind(b"")), [])
+            self.assertEqual(hitless(kind(b"# remark\n"), 0), [])
+            self.assertEqual(expect(kind(b"# remark\n"), kind(b"257 any -> drop 5")), [Outcome(1, 257, "holds", None, None, None, None)])
             self.unit.message(message("00094f0a00020000"))
 
     def test_what_is_refused_is_named(self) -> None:
@@ -455,6 +484,11 @@ class GivenTest(unittest.TestCase):
             ("trace", mib),
             ("trace", lint),
             ("trace", lambda given: rules(given, 257)),
+            ("trace", cover),
+            ("before", lambda given: differences(given, b"")),
+            ("trace", lambda given: hitless(given, 0)),
+            ("trace", lambda given: expect(given, "")),
+            ("expectations", lambda given: expect("", given)),
         ]
         wrong: List[Any] = [None, 7, [1, 2], ("a",), object()]
         for kinds, calls, values in (
@@ -489,6 +523,7 @@ class FaultTest(unittest.TestCase):
         for fault, said in (
             (BadLine(3, b"-\n"), "line 3 is bad"),
             (BadLine(1), "line 1 is bad"),
+            (BadAfter(4), "line 4 of the trace after is bad"),
             (MessageFault(2), "message fault 2: the destination bit is 1, expected 0"),
             (Mistakes([Mistake(2, 5, "one"), Mistake(3, 1, "two")]), "line 2, column 5: one\nline 3, column 1: two"),
         ):
@@ -625,6 +660,296 @@ class ScriptTest(unittest.TestCase):
         self.assertEqual([each.line for each in raised.exception.mistakes], list(range(1, 2001)))
 
 
+def trace_of(*requests: str) -> str:
+    """A trace with these requests, each on its line."""
+    return "".join("o %s\n" % digits(request) for request in requests)
+
+
+def unit_of(requests: List[str]) -> Unit:
+    """A unit that carried these requests out."""
+    unit = Unit()
+    for request in requests:
+        unit.message(message(request))
+    return unit
+
+
+Ending = Tuple[str, object, object]
+
+
+def ending(found: Union[FrameClass, Fate]) -> Ending:
+    """What is used for a frame, and how it ends: by a GEM port, or for a reason."""
+    if isinstance(found, FrameClass):
+        return found.use, found.entry, found.gem if found.reason is None else found.reason
+    return found.use, found.entry, found.verdict.gem if isinstance(found.verdict, Forwarded) else found.verdict.reason
+
+
+UNREAD_1: Ending = ("unread", None, Reason.RUNT)
+UNREAD_2: Ending = ("unread", None, Reason.CUT_TAG)
+NO_TABLE: Ending = ("no-table", None, Reason.NO_MAPPER)
+
+
+def leaving(entry: int) -> Ending:
+    """That frames leave by an entry."""
+    return "entry", entry, 1024
+
+
+class EveryFrameTest(unittest.TestCase):
+    """Classes, differences and torn moments. Each frame that is shown goes through units, too, which carried out the same requests."""
+
+    def goes_so(self, requests: List[str], port: int, sent: bytes, fate: Fate) -> None:
+        with unit_of(requests) as unit:
+            self.assertEqual(unit.forward(port, sent), fate.verdict)
+
+    def covers(self, requests: List[str], wanted: List[Ending], **options: int) -> None:
+        found = cover(trace_of(*requests), **options)
+        self.assertEqual([ending(each) for each in found], wanted)
+        with unit_of(requests) as unit:
+            for each in found:
+                self.assertEqual((type(each), type(each.frame)), (FrameClass, bytes))
+                self.assertGreaterEqual(len(each.frame), options.get("least", 0))
+                said = unit.forward(each.port, each.frame)
+                self.assertEqual(said.gem if isinstance(said, Forwarded) else said.reason, each.gem if each.reason is None else each.reason)
+
+    def differ(self, before: List[str], after: List[str], wanted: List[Tuple[Ending, Ending]], **options: int) -> None:
+        for found in (
+            differences(trace_of(*before), trace_of(*after), **options),
+            differences(trace_of(*before, *after[len(before) :]), None, from_line=len(before), **options),
+        ):
+            self.assertEqual([(ending(each.before), ending(each.after)) for each in found], wanted)
+            for each in found:
+                self.assertEqual((type(each), type(each.frame), each.port), (Difference, bytes, 257))
+                self.assertNotEqual(each.before.verdict, each.after.verdict)
+                self.goes_so(before, each.port, each.frame, each.before)
+                self.goes_so(after, each.port, each.frame, each.after)
+
+    def test_without_entities_a_port_has_nothing(self) -> None:
+        self.covers([], [UNREAD_1, UNREAD_2, NO_TABLE], port=257)
+        self.assertEqual(cover(""), [])
+
+    def test_classes_of_a_new_table(self) -> None:
+        self.covers(SET_UP, [UNREAD_1, UNREAD_2, leaving(0), leaving(1), leaving(2)])
+        self.covers(SET_UP, [leaving(0), leaving(1), leaving(2)], least=60)
+        self.covers(SET_UP, [UNREAD_1, UNREAD_2, NO_TABLE], port=258)
+        self.assertEqual([each.port for each in cover(trace_of(*SET_UP))], 5 * [257])
+
+    def test_an_entry_that_is_used_for_no_frame(self) -> None:
+        self.covers([*SET_UP, TO_100], [UNREAD_1, UNREAD_2, leaving(0), leaving(2), leaving(3)])
+
+    def test_an_entry_with_two_endings(self) -> None:
+        # Entries 2 and 3 keep the frames' priorities; entry 0 adds a tag of priority 0.
+        lost: List[Ending] = [("entry", number, Reason.NO_INTERWORK) for number in (2, 3)]
+        wanted = [UNREAD_1, UNREAD_2, leaving(0), leaving(2), lost[0], leaving(3), lost[1]]
+        self.covers([*SET_UP, TO_100, POINTER_5], wanted)
+
+    def test_a_tag_is_added(self) -> None:
+        self.differ(SET_UP, [*SET_UP, TO_100], [(leaving(0), leaving(0))])
+        (found,) = differences(trace_of(*SET_UP), trace_of(*SET_UP, TO_100))
+        self.assertEqual(found.frame[12:14], b"\x08\0")
+        self.assertEqual(found.before.verdict, Forwarded(1024, found.frame))
+        self.assertEqual(found.after.verdict, Forwarded(1024, found.frame[:12] + bytes.fromhex("81000064") + found.frame[12:]))
+        # And away again.
+        self.differ([*SET_UP, TO_100], [*SET_UP, TO_100, DELETED], [(leaving(0), leaving(0))])
+
+    def test_another_input_tpid(self) -> None:
+        after = [*SET_UP, INPUT_9100]
+        self.differ(SET_UP, after, [(leaving(0), UNREAD_2), (leaving(1), UNREAD_2)])
+        self.differ(SET_UP, after, [], least=60)
+        before = [*SET_UP, ONE_TAG_DROPPED]
+        dropped: Ending = ("entry", 0, Reason.RULE_DISCARD)
+        wanted = [(dropped, UNREAD_2), (dropped, leaving(3)), (leaving(1), UNREAD_2), (leaving(1), dropped)]
+        self.differ(before, [*before, INPUT_9100], wanted)
+
+    def test_the_same(self) -> None:
+        self.differ(SET_UP, SET_UP, [])
+        self.differ(SET_UP, [*SET_UP, TO_100], [], port=258)
+        self.assertEqual(differences(trace_of(*SET_UP), from_line=100), [])
+        # Ways to the same end.
+        deleted = trace_of(*SET_UP, TO_100, DELETED, TO_200_AGAIN)
+        overwritten = trace_of(*SET_UP, TO_100, TO_200_AGAIN)
+        self.assertEqual(differences(deleted, overwritten), [])
+        self.assertEqual(len(differences(deleted, overwritten, from_line=6)), 1)
+        self.assertEqual(len(differences(deleted, overwritten, until_line=5)), 1)
+        self.assertEqual(differences(deleted, overwritten, from_line=5, until_line=5), [])
+
+    def test_a_torn_moment(self) -> None:
+        requests = [*SET_UP, TO_100, DELETED, TO_200_AGAIN]
+        trace = trace_of(*requests)
+        (found,) = hitless(trace, 5)
+        self.assertEqual((type(found), found.version, found.line, found.port, type(found.frame)), (Tear, 6, 6, 257, bytes))
+        for fate, vid, count in ((found.before, "64", 5), (found.here, None, 6), (found.after, "c8", 7)):
+            tag = b"" if vid is None else bytes.fromhex("810000" + vid)
+            self.assertEqual(fate, Fate("entry", 0, Forwarded(1024, found.frame[:12] + tag + found.frame[12:])))
+            self.goes_so(requests[:count], 257, found.frame, fate)
+        self.assertEqual(hitless(trace, 5, until_line=7, port=257), [found])
+        for nothing in (hitless(trace, 5, port=258), hitless(trace, 5, until_line=6), hitless(trace, 6), hitless(trace, 7)):
+            self.assertEqual(nothing, [])
+
+    def test_a_hitless_change(self) -> None:
+        self.assertEqual(hitless(trace_of(*SET_UP, TO_100, TO_200_AGAIN), 5), [])
+        # Frames are dropped for one reason, and then for another.
+        self.assertEqual(hitless(trace_of(SET_UP[2], SET_UP[3], SET_UP[1], SET_UP[0]), 0), [])
+
+    def expected(self, requests: List[str], words: str, **options: int) -> List[Outcome]:
+        """What is found of expectations; each frame that is shown is looked at by a unit, too."""
+        outcomes = expect(trace_of(*requests), words, **options)
+        for each in outcomes:
+            self.assertEqual((type(each), each.holds), (Outcome, each.outcome == "holds"))
+            self.assertEqual((each.frame is None, each.here is None), (each.outcome != "fails", each.outcome != "fails"))
+            if each.frame is not None and each.here is not None:
+                self.goes_so(requests[: each.version], each.port, each.frame, each.here)
+        return outcomes
+
+    def test_expectations(self) -> None:
+        # Frames without a tag get one, the others leave as they came, and at a port without a mapper all are dropped.
+        words = """\
+257 tags=0 -> gem 1024 inner(pcp=0 vid=100 tpid=8100)
+
+257 tags=0 -> gem 1024 unchanged # a remark
+257 tags=1 outer(vid=5) -> leave
+258 any -> leave
+"""
+        holds, fails, void, dropped = self.expected([*SET_UP, TO_100], words)
+        self.assertEqual(holds, Outcome(1, 257, "holds", None, None, None, None))
+        self.assertEqual(str(holds), "line 1 holds")
+        assert fails.frame is not None and dropped.frame is not None
+        self.assertEqual(fails.frame[12:14], b"\x08\0")
+        tagged = fails.frame[:12] + bytes.fromhex("81000064") + fails.frame[12:]
+        self.assertEqual(fails, Outcome(3, 257, "fails", None, None, fails.frame, Fate("entry", 0, Forwarded(1024, tagged))))
+        self.assertEqual(str(fails), "line 3 fails: frame %s\n  entry 0 g 1024 %s" % (fails.frame.hex(), tagged.hex()))
+        self.assertEqual(void, Outcome(4, 257, "void", None, None, None, None))
+        self.assertEqual(str(void), "line 4 admits no frame")
+        self.assertEqual((dropped.line, dropped.port, dropped.here), (5, 258, Fate("no-table", None, Dropped(Reason.NO_MAPPER))))
+        self.assertEqual(str(dropped), "line 5 fails: frame %s\n  no-table d 5" % dropped.frame.hex())
+
+    def test_expectations_of_each_version(self) -> None:
+        requests, words = [*SET_UP, TO_100, DELETED, TO_200_AGAIN], "257 tags=0 -> inner(pcp=0 vid=100 tpid=8100)\n257 any -> leave\n"
+        (fails, leaves) = self.expected(requests, words, from_line=5)
+        assert fails.frame is not None
+        self.assertEqual((fails.version, fails.trace_line, fails.here), (6, 6, Fate("entry", 0, Forwarded(1024, fails.frame))))
+        self.assertTrue(str(fails).startswith("line 1 fails at version 6 trace line 6: frame %s\n" % fails.frame.hex()))
+        self.assertTrue(leaves.holds)
+        self.assertTrue(all(each.holds for each in self.expected(requests, words, from_line=5, until_line=5)))
+        self.assertTrue(all(each.holds for each in self.expected(requests, words, until_line=5)))
+        self.assertEqual([each.holds for each in expect(trace_of(*requests), words)], [False, True])
+        (opening, anything) = self.expected(requests, "257 any -> leave\n257 any -> any\n", from_line=0)
+        self.assertEqual((opening.version, opening.trace_line, opening.outcome, anything.outcome), (0, 0, "fails", "holds"))
+        (void,) = expect("", "257 tags=1 outer(vid=5) -> leave", from_line=0)
+        self.assertEqual(str(void), "line 1 admits no frame at version 0 trace line 0")
+
+    def test_nothing_is_expected(self) -> None:
+        for words in ("", "\n# remark\n"):
+            self.assertEqual(expect(trace_of(*SET_UP), words), [])
+
+    def test_expectations_have_a_least_length(self) -> None:
+        (found,) = self.expected(SET_UP, "257 any -> drop", least=1500)
+        assert found.frame is not None
+        self.assertEqual(len(found.frame), 1500)
+
+    def test_mistakes_of_expectations(self) -> None:
+        folder = TOP / "examples/expect"
+        with self.assertRaises(Mistakes) as raised:
+            expect("", (folder / "mistakes.expected").read_bytes())
+        self.assertEqual(str(raised.exception), (folder / "mistakes.said").read_text().rstrip("\n"))
+        self.assertEqual((raised.exception.line, raised.exception.column, type(raised.exception)), (2, 16, Mistakes))
+        self.assertEqual(raised.exception.mistakes[1], Mistake(3, 19, "a GEM port is at most 65535, found `70000`"))
+
+    def test_all_is_as_the_program_writes_it(self) -> None:
+        def stored(name: str, key: str) -> Tuple[str, List[Dict[str, Any]]]:
+            folder = TOP / "examples/changes"
+            found: List[Dict[str, Any]] = json.loads((folder / (name + ".json")).read_text())[key]
+            return (folder / (name + ".trace")).read_text(), found
+
+        def sides(found: Union[Difference, Tear]) -> Tuple[str, List[Dict[str, Any]]]:
+            fates = [found.before, found.after] if isinstance(found, Difference) else [found.before, found.here, found.after]
+            sent = [each.verdict for each in fates if isinstance(each.verdict, Forwarded)]
+            return found.frame.hex(), [{"gem": each.gem, "frame": each.frame.hex()} for each in sent]
+
+        def listed(found: Dict[str, Any]) -> Tuple[str, List[Dict[str, Any]]]:
+            keys = [key for key in ("before", "here", "after") if key in found]
+            return found["frame"], [{"gem": found[key]["gem"], "frame": found[key]["frame"]} for key in keys]
+
+        trace, written = stored("overwritten", "differences")
+        self.assertEqual([*map(sides, differences(trace, from_line=5))], [*map(listed, written)])
+        trace, written = stored("deleted_and_set", "torn")
+        self.assertEqual([*map(sides, hitless(trace, 5))], [*map(listed, written)])
+        classes = json.loads((TOP / "examples/cover/up.json").read_text())["classes"]
+        wanted = [(each["port"], each["use"], each["frame"]) for each in classes]
+        outcomes = expect((TOP / "examples/looking/inside.trace").read_text(), (TOP / "examples/expect/inside.expected").read_text())
+        said = (TOP / "examples/expect/inside.found").read_text()
+        self.assertEqual("".join("%s\n" % each for each in outcomes), said[: said.index("expectations ")])
+        self.assertEqual([(each.port, each.use, each.frame.hex()) for each in cover((TOP / "examples/run/up.trace").read_bytes())], wanted)
+
+    def test_lists_of_any_length(self) -> None:
+        # What is found of a table of 125 entries is longer than the room that is tried first.
+        entry = "entry vlan 0x0701 tags=1 vid=%d -> remove=1 inner(pcp=inner vid=%d tpid=8100)\n"
+        trace = encode(SET_UP_WORDS + "".join(entry % (vid, vid + 1) for vid in range(1, 126)))
+        self.assertEqual(len(cover(trace)), 130)
+        found = differences(trace, from_line=4, least=1500)
+        self.assertEqual(len(found), 125)
+        self.assertEqual({len(each.frame) for each in found}, {1500})
+        outcomes = expect(trace, "".join("257 tags=1 vid=%d -> drop\n" % vid for vid in range(1, 126)), least=1500)
+        self.assertEqual({len(each.frame or b"") for each in outcomes}, {1500})
+
+    def test_what_is_refused(self) -> None:
+        bad = "# remark\nx\n"
+        calls: List[Callable[[], Any]] = [
+            lambda: cover(bad),
+            lambda: differences(bad, ""),
+            lambda: differences(bad, bad),
+            lambda: differences(bad, from_line=0),
+            lambda: hitless(bad, 0),
+            lambda: expect(bad, "257 any -> leave"),
+            # That is told before what is wrong with the expectations.
+            lambda: expect(bad, "257 any -> laeve"),
+        ]
+        for call in calls:
+            with self.assertRaisesRegex(BadLine, "^line 2 is bad$") as raised:
+                call()
+            self.assertEqual((raised.exception.line, type(raised.exception)), (2, BadLine))
+        with self.assertRaisesRegex(BadAfter, "^line 2 of the trace after is bad$") as raised_after:
+            differences("", bad)
+        self.assertEqual(raised_after.exception.line, 2)
+        # No line behind the last one is read.
+        self.assertEqual(differences(bad, bad, from_line=1, until_line=1), [])
+        self.assertEqual(hitless(bad, 0, until_line=1), [])
+        self.assertEqual(expect(bad, "", until_line=1), [])
+        backward: List[Callable[[], Any]] = [
+            lambda: differences("", from_line=2, until_line=1),
+            lambda: hitless("", 2, until_line=1),
+            lambda: expect("", "", from_line=2, until_line=1),
+        ]
+        for call in backward:
+            with self.assertRaisesRegex(ValueError, "^from_line is behind until_line$"):
+                call()
+        self.assertEqual(differences("", "", from_line=2, until_line=1), [])
+        with self.assertRaisesRegex(TypeError, "^differences needs after or from_line$"):
+            differences("", until_line=1)
+
+    def test_lines_and_lengths_are_numbers(self) -> None:
+        wrong: Any = "1"
+        calls: List[Tuple[str, Callable[[Any], Any]]] = [
+            ("least", lambda given: cover("", least=given)),
+            ("least", lambda given: differences("", "", least=given)),
+            ("from_line", lambda given: differences("", from_line=given)),
+            ("until_line", lambda given: differences("", "", until_line=given)),
+            ("from_line", lambda given: hitless("", given)),
+            ("until_line", lambda given: hitless("", 0, until_line=given)),
+            ("least", lambda given: hitless("", 0, least=given)),
+            ("from_line", lambda given: expect("", "", from_line=given)),
+            ("until_line", lambda given: expect("", "", until_line=given)),
+            ("least", lambda given: expect("", "", least=given)),
+        ]
+        for name, call in calls:
+            with self.assertRaisesRegex(TypeError, "^%s must be an int, not str$" % name):
+                call(wrong)
+            with self.assertRaisesRegex(ValueError, "^%s is a number from 0" % name):
+                call(-1)
+        with self.assertRaisesRegex(ValueError, "^least is a number from 0 to 65535, not 65536$"):
+            cover("", least=65536)
+        self.assertEqual(differences("", from_line=2**70, until_line=2**80), [])
+        self.assertEqual(expect("", "", from_line=2**70, until_line=1), [])
+
+
 class TextTest(unittest.TestCase):
     def script(self) -> str:
         return "".join("o %s\n" % digits(request) for request in SET_UP) + "f 257 " + UNTAGGED + "\n"
@@ -710,7 +1035,8 @@ class TextTest(unittest.TestCase):
         start = "".join("o %s\n" % digits(request) for request in SET_UP) + "f 257 00\n"
         history = "w\nf 257 %s\ng 0 1024 %s\ne\n" % (UNTAGGED, UNTAGGED)
         self.assertEqual(judge(history).line, 3)
-        for given in (start, start.encode(), bytearray(start.encode())):
+        kinds: List[Union[str, bytes, bytearray]] = [start, start.encode(), bytearray(start.encode())]
+        for given in kinds:
             found = judge(history, start=given)
             self.assertEqual((found.explained, found.details["start"], found.deviations), (True, len(SET_UP), []))
         self.assertNotIn("start", judge(history, start="").details)
@@ -719,6 +1045,24 @@ class TextTest(unittest.TestCase):
         self.assertEqual(raised.exception.line, 2)
         with self.assertRaisesRegex(TypeError, "^start must be str, bytes, bytearray or memoryview, not int$"):
             judge(history, start=7)  # type: ignore[arg-type]
+
+    def test_what_was_tried(self) -> None:
+        # Line 12's frame is judged by version 4, where each frame leaves as it came; line 13's by version 5, whose entry 0 tags frames without a tag.
+        history = self.history("g 0 1024 " + UNTAGGED, "g 1 1024 " + ADDRESSES + "8100006408004500", "e")
+        stretches = judge(history, coverage=True).coverage or []
+        self.assertEqual([(each["port"], each["version"], each["seen"], each["classes"]) for each in stretches], [(257, 4, 1, 5), (257, 5, 1, 5)])
+        self.assertEqual([each.get("entry") for each in stretches[0]["unseen"]], [None, None, 1, 2])
+        longer = judge(history, coverage=True, least=60).coverage or []
+        self.assertEqual([[each.get("entry") for each in stretch["unseen"]] for stretch in longer], [[1, 2], [2, 3]])
+        self.assertIsNone(judge(history).coverage)
+        found = judge(self.history("g 0 1024 " + ADDRESSES + "8100006408004500", "g 1 1024 " + UNTAGGED, "e"), coverage=True, most=2)
+        self.assertEqual((found.line, found.coverage, len(found.deviations)), (13, None, 1))
+        with self.assertRaisesRegex(ValueError, "^coverage goes by the least versions of frames, and with unordered they have none$"):
+            judge(history, coverage=True, unordered=True)
+        with self.assertRaisesRegex(ValueError, "^least is said of coverage$"):
+            judge(history, least=60)
+        with self.assertRaisesRegex(ValueError, "^least is a number from 0 to 65535, not 65536$"):
+            judge(history, coverage=True, least=65536)
 
     def test_every_deviation(self) -> None:
         history = self.history("g 0 1024 " + ADDRESSES + "8100006408004500", "g 1 1024 " + UNTAGGED, "s any 00", "e")

@@ -12,9 +12,11 @@ A file of dialogues has the lines of scripts, each before its answer, and what e
   !! TEXT            a further line of that, and !! alone an empty one
   > LINE             a line of a history, as above, but that g N GEM DIGITS is frame N as it left; w and w N stand as they are
   @ LINE             a line of the script that was carried out before the history: the word @ behind judge stands for a file with these lines
+  % LINE             a line with an expectation: the next expect is given it and those ahead of it; frames that it shows are compared as those of diff
   $ WORDS            the program is asked with these words, and with the messages so far as its trace; judge with the history so far
   < LINE             a line that is decoded, as above; those that follow one another are decoded together
-  | TEXT             a line that is written then, with the same escapes; of cover, diff and hitless `..` stands for digits of frames, whichever they show
+  | TEXT             a line that is written then, with the same escapes; of cover, diff and hitless, and in the coverage of judge, `..` stands for digits
+                     of frames, whichever they show
 
 Blanks among digits are left out. Any other line is a fault."""
 import re
@@ -31,7 +33,7 @@ LEFT = re.compile("(g [0-9]+ [0-9]+ )" + DIGITS)
 PLAIN = re.compile("-|[md] [0-9]+")
 WAIT = re.compile("w( [0-9]+)?|d [0-9]+")
 # The commands that show frames of their own choice.
-SHOWING = ("cover", "diff", "hitless")
+SHOWING = ("cover", "diff", "hitless", "expect")
 STATUS = re.compile("! ([0-9]+)(?: (.*))?")
 ESCAPES = (("\\r", "\r"), ("\\t", "\t"), ("\\040", " "))
 
@@ -83,24 +85,27 @@ def stands_for(wanted, line):
 
 
 class Call:
-    """A call of the program: the dialogue that asks for it, its words, the text that it is given, the script before a history, and what must
-    come of it. Lines that it must write and say stand with the numbers of the lines that ask for them; `at` is the line by which the call
+    """A call of the program: the dialogue that asks for it, its words, the text that it is given, the script before a history, the expectations, and
+    what must come of it. Lines that it must write and say stand with the numbers of the lines that ask for them; `at` is the line by which the call
     begins."""
 
     def __init__(self, file, name, at, words, given, start=""):
         self.file, self.name, self.at, self.words, self.given, self.start = file, name, at, words, given, start
         self.wanted, self.errors, self.status, self.status_at = [], [], 0, at
+        self.expected = ""
 
     def ends_well(self):
         return self.status == 0
 
+    def shows(self, wanted):
+        """Whether a line of this call shows frames of the program's own choice."""
+        return self.words[0] in SHOWING or self.words[0] == "judge" and (wanted.startswith("unseen ") or '"unseen":' in wanted)
+
     def compared(self, written):
         """What is compared of that which is written: `..` for the digits of frames where a wanted line has it in their place."""
-        if self.words[0] not in SHOWING:
-            return written
         lines = written.decode("latin1").split("\n")
         for place, (_, wanted) in enumerate(self.wanted[:len(lines)]):
-            if stands_for(wanted, lines[place]):
+            if self.shows(wanted) and stands_for(wanted, lines[place]):
                 lines[place] = wanted
         return "\n".join(lines).encode("latin1")
 
@@ -115,6 +120,7 @@ class Reader:
         self.end()
         self.name, self.at, self.looks = name, number, 0
         self.script, self.history, self.start, self.answers = "", "", "", []
+        self.expected = ""
         self.look, self.decoded, self.shown = None, "", []
         self.forget_end()
         for at, line in self.opening:
@@ -126,6 +132,8 @@ class Reader:
     def call(self, at, words, given, wanted):
         call = Call(self.file, self.name, at, words, given, self.start)
         call.wanted, call.errors, call.status, call.status_at = wanted, self.errors, self.status, self.status_at
+        if words[0] == "expect":
+            call.expected, self.expected = self.expected, ""
         self.calls.append(call)
 
     def end_look(self):
@@ -159,7 +167,7 @@ class Reader:
         if not line or line.startswith("#"):
             return
         taken = self.take_end(number, line) if line[0] in "!|" else self.take_decoded(number, line) if line[0] == "<" else \
-            self.take_script(number, line)
+            self.take_expected(line) if line[0] == "%" else self.take_script(number, line)
         if not taken:
             raise BadDialogue(self.file, number, line)
 
@@ -188,6 +196,12 @@ class Reader:
                 self.look = number, ["decode"]
             self.decoded += text + "\n"
         return text is not None
+
+    def take_expected(self, line):
+        """A line of expectations, which the next expect is given."""
+        self.end_look()
+        self.expected += line[2:] + "\n"
+        return line == "%" or line.startswith("% ")
 
     def take_script(self, number, line):
         """A line of the script, an answer, a line of the history, or other words."""

@@ -1,4 +1,4 @@
-"""The texts of all helps of the program, of `python -m onuctl.live`, and of `install` and `release`, word by word."""
+"""The texts of all helps of the program, of `python -m onuctl.live`, `onuctl.fleet` and `onuctl.report`, and of `install` and `release`, word by word."""
 
 PROGRAM = """\
 Answer OMCI messages and forward Ethernet frames, as an optical network unit does
@@ -21,6 +21,7 @@ Commands:
   cover    List which frames a test must send after a trace: one for each entry that is used, with each way to end
   diff     Say which frames two configurations treat differently, with a frame of each kind
   hitless  Say which frames a change treats on its way as neither its beginning nor its end does
+  expect   Say of each expectation whether all frames after a trace do as it says, or show one that doesn't
   help     Print this message or the help of the given subcommand(s)
 
 Options:
@@ -195,6 +196,8 @@ Options:
       --start <FILE>      Script, or words for one, whose messages the unit had carried out before the first line, a file; its frames are passed over [example: up.script]
       --all               List every deviation; behind each the judge goes on as if the unit had been right there; has no value [example: --all]
       --most <N>          How many deviations --all lists at most, from 1; 100 without it [example: 20]
+      --coverage          Behind an explained history list which classes of frames were tried and which not, with a frame to send for each; has no value [example: --coverage]
+      --least <BYTES>     List with --coverage what frames of at least so many bytes can have, 0 to 9989; of any length without it [example: 60]
       --json              Show it as JSON, for other programs; has no value [example: --json]
   -h, --help              Print help
 
@@ -310,6 +313,31 @@ Options:
 A moment between is torn for a frame that leaves there with a GEM port or bytes of neither, or is dropped there and by neither.
 Status: 3 where a moment is torn; onuctl help statuses has the others
 Example: onuctl hitless up.script --from 5""",
+    "expect": """\
+Say of each expectation whether all frames after a trace do as it says, or show one that doesn't
+
+Usage: onuctl expect [OPTIONS] <TRACE> [FILE]
+
+Arguments:
+  <TRACE>  Script, or words for one, whose messages are applied, a file; also behind --trace [example: up.script]
+  [FILE]   Expectations in words, a file; standard input without it [example: up.expected]
+
+Options:
+      --until <LINE>   Stop behind this line of the trace, from 1 [example: 20]
+      --strict         Stop where a message of the trace has a fault or is refused; has no value [example: --strict]
+      --from <LINE>    Check behind this line of the trace, 0 for the opening state, and by each version from there on; at the end alone without it [example: 5]
+      --least <BYTES>  Check frames of at least so many bytes, 0 to 9989; of any length without it [example: 60]
+      --json           Show it as JSON, for other programs; has no value [example: --json]
+  -h, --help           Print help
+
+An expectation is a line: PORT FILTER -> ENDING TREATMENT; `#` begins a remark. Numbers are decimal or begin with 0x.
+FILTER: any, or tags=0|1|2, pcp=, vid=, tpid=, dei=, outer(..), inner(..), type=, dscp=
+ENDING: any, leave, drop, drop REASON or gem GEM
+TREATMENT: unchanged, or remove=N outer(pcp= vid= tpid= dei=) inner(..)
+It holds where some frame passes the filter, and each that does ends and leaves so.
+All mistakes in the words are reported, by line and column, and then nothing is checked.
+Status: 3 where one doesn't hold; onuctl help statuses has the others
+Example: onuctl expect up.script up.expected""",
     "encode": """\
 Make a script of a text in words
 
@@ -397,10 +425,10 @@ What lint finds, the most severe first: `--ignore KIND` leaves findings of a kin
   not-modelled (note): a class or an action that this model doesn't have; once for each""",
     "statuses": """\
 The status with which the program ends
-  0  all is written; judge explained the whole history, lint found nothing as severe as --fail-on, diff no difference, and hitless no torn moment
+  0  all is written; judge explained the whole history, lint found nothing as severe as --fail-on, diff no difference, hitless no torn moment, and expect nothing that doesn't hold
   1  the words are wrong, a read or a write failed, or there is no memory or no room
   2  a line, a text or a capture is bad, or --strict met a message that wasn't carried out
-  3  judge found a deviation, lint something as severe as --fail-on, diff a difference, or hitless a torn moment; all is written
+  3  judge found a deviation, lint something as severe as --fail-on, diff a difference, hitless a torn moment, or expect what doesn't hold; all is written
   4  judge found no deviation, but the history may be cut, or nothing of it was judged; all is written
   141  nobody reads standard output any more""",
 }
@@ -427,6 +455,73 @@ SIGTERM or SIGINT ends it, and it writes its totals to standard output.
 Status: 0; 1 where the words are wrong, an interface can't be used or a write failed; 141 where nobody reads standard output
 Example: python -m onuctl.live --omci omci0 --uni 257=uni0 --gem 1024=gem0
 Example: python -m onuctl.live --omci omci0 --uni 257=uni0 --uni 258=uni1 --pon pon0 --gem-vlan"""
+
+# Of many files at once.
+FLEET = """\
+Put a question to many files: judge histories, and look into, compare and check provisionings
+
+Usage: python -m onuctl.fleet [OPTIONS] <QUESTION> <PATH>...
+
+Arguments:
+  <QUESTION>  judge: may a right unit have done what a history says; lint: what is wrong in a provisioning; diff: which frames it treats differently; expect: whether it does what is expected [example: judge]
+  <PATH>...   File, folder, glob in quotes, tar archive, or - for a list of paths on standard input [example: night]
+
+Options:
+      --workers <COUNT>      Processes of this machine, 1 to 1024; one for each processor without it [example: 8]
+      --cluster <ADDRESS>    Scheduler of a cluster of Dask, in place of processes [example: tcp://10.0.0.1:8786]
+      --shared               Have the cluster's machines read the files, which all of them see; has no value [example: --shared]
+      --only-found           Write no line for a file of which nothing is found; has no value [example: --only-found]
+      --modelled             judge: don't compare contents of replies that the model lacks, nor read-only values; has no value [example: --modelled]
+      --unordered            judge: judge each frame by itself; has no value [example: --unordered]
+      --allow-strays         judge: let frames leave that nobody sent; has no value [example: --allow-strays]
+      --padded               judge: let short frames be seen with zeros behind them; has no value [example: --padded]
+      --allow-unfinished     judge: let a history have no end line; has no value [example: --allow-unfinished]
+      --repeats              judge: let a message that is sent twice in a row be carried out once; has no value [example: --repeats]
+      --start <SCRIPT>       judge: script, or words for one, that each unit had carried out before line 1 [example: up.script]
+      --report <FOLDER>      judge: write a page of each history that deviates to this folder, and an index of all, by onuctl.report [example: pages]
+      --most <COUNT>         judge: list so many deviations of a history; the first alone without it [example: 100]
+      --ignore <KIND>        lint: leave the findings of a kind out; may be given several times [example: not-modelled]
+      --fail-on <SEVERITY>   lint: a file with a finding as severe is found: error, warning or note; error without it [example: warning]
+      --to <PATH>            diff: compare each file with this one, or with that of its name below this folder [example: new]
+      --port <PORT>          diff: of frames that come in at this port, 0 to 65535 [example: 257]
+      --expectations <FILE>  expect: expectations of all files; without it NAME.expect beside each [example: all.expect]
+      --from <LINE>          diff, expect: begin behind this line of each file; 0 is the opening state [example: 40]
+      --until <LINE>         diff, expect: stop behind this line [example: 60]
+      --least <BYTES>        diff, expect: of frames of at least so many bytes [example: 60]
+  -h, --help                 Print help
+
+Standard output gets an object of JSON for each file, in the order of the paths, and a summary behind them.
+Status: 0; 1 where the words are wrong or nothing more can be answered; 2 where files couldn't be read; else 3 where something was found, and 4 where histories weren't judged to their end; 130 behind an interrupt; 141 where nobody reads standard output
+Example: python -m onuctl.fleet judge --padded night
+Example: python -m onuctl.fleet diff --to new old"""
+
+REPORT = """\
+Write a page on what a unit did: the verdict on a history, what it rests on, and each deviation beside what is right
+
+Usage: python -m onuctl.report [OPTIONS] --out <FILE> <HISTORY>
+
+Arguments:
+  <HISTORY>  History, a file; - is standard input [example: bench.history]
+
+Options:
+      --out <FILE>         The page, a file of HTML; - is standard output [example: report.html]
+      --trace <FILE>       Script, or words for one, whose configuration is shown; without it what was sent to the unit [example: up.script]
+      --start <SCRIPT>     Script, or words for one, that the unit had carried out before line 1 [example: up.script]
+      --modelled           Don't compare contents of replies that the model lacks, nor read-only values; has no value [example: --modelled]
+      --unordered          Judge each frame by itself; has no value [example: --unordered]
+      --allow-strays       Let frames leave that nobody sent; has no value [example: --allow-strays]
+      --padded             Let short frames be seen with zeros behind them; has no value [example: --padded]
+      --allow-unfinished   Let a history have no end line; has no value [example: --allow-unfinished]
+      --repeats            Let a message that is sent twice in a row be carried out once; has no value [example: --repeats]
+      --most <COUNT>       How many deviations are looked for, from 1; 100 without it, and the page shows 100 at most [example: 1000]
+      --least <BYTES>      Coverage is of frames of at least so many bytes, 0 to 9989; 0 without it [example: 60]
+  -h, --help               Print help
+
+The page stands alone: it needs no network and no script, has light and dark colours, and prints on A4.
+It takes Jinja2, Debian's package python3-jinja2. Graphviz draws the graph of the configuration where it is installed.
+Status: that of judge: 0 explained, 3 a deviation, 4 nothing deviates but it's no pass; 2 a text is bad, 1 else, and then there is no page
+Example: python -m onuctl.report --out report.html bench.history
+Example: python -m onuctl.report --start up.script --padded --out report.html bench.history"""
 
 # Of scripts at the top.
 INSTALL = """\
