@@ -10,7 +10,7 @@ use Rattle.mib_state.specs.After.{after}
 use Rattle.frame_sameness.specs.Same.{AreSame}
 use Rattle.bench_judge.proofs.Afters.{after_more}
 use Rattle.bench_coverage.specs.Stretches.{IsInStretch, entities_by}
-use Rattle.bench_coverage.proofs.Stretched.{begins_next, same_itself, stays}
+use Rattle.bench_coverage.proofs.Stretched.{begins_itself, begins_next, same_itself, stays}
 
 -- those that the request leaves that leads to it
 pub next_by : (requests : List Request) (base v : ℕ) (q : Request) → slice_get requests (base + v) ≡ Some q
@@ -38,7 +38,7 @@ pub next_inside : (entities : ℕ → Entities) (port least first v : ℕ) (same
     → IsInStretch entities port least (if same then first else (v + 1)) (v + 1)
 next_inside entities port least first v true inside is = stays entities port least first v inside (is.0 refl)
 next_inside entities port least first v false inside is =
-    begins_next entities port least v (λ step. let no : false ≡ true = is.1 step in absurd (cc no))
+    begins_itself entities port least (v + 1) (begins_next entities port least v (λ step. let no : false ≡ true = is.1 step in absurd (cc no)))
 
 pub last_inside : (requests : List Request) (base port least first v : ℕ) → length requests ≤ base + v
     → IsInStretch (entities_by requests base) port least first v → IsInStretch (entities_by requests base) port least first (v + 1)

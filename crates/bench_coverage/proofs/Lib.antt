@@ -1,6 +1,7 @@
 pub mod Heads
 pub mod Stretched
 pub mod Afters
+pub mod Kept
 pub mod Ready
 pub mod Used
 pub mod Placed

@@ -53,9 +53,9 @@ module _ (entities : ℕ → Entities) (port least : ℕ) where
       let down = firsts_rise other first v v also inside (omega arith) in
       omega (arith, up, down)
 
-  -- version 0 begins the first of all
-  pub first_of_all : IsInStretch entities port least 0 0
-  first_of_all = record { begins = tt; from = omega arith; row = λ w from within. absurd (omega (arith, within)) }
+  -- a version that begins a stretch is one of it
+  pub begins_itself : (v : ℕ) → Begins entities port least v → IsInStretch entities port least v v
+  begins_itself v begins = record { begins = begins; from = omega arith; row = λ w from within. absurd (omega (arith, from, within)) }
 
   -- the next version is of the same stretch, or begins another
   pub stays : (first v : ℕ) → IsInStretch entities port least first v → IsStep entities port least v → IsInStretch entities port least first (v + 1)
@@ -70,14 +70,10 @@ module _ (entities : ℕ → Entities) (port least : ℕ) where
             ];
       }
 
-  pub begins_next : (v : ℕ) → ¬ (IsStep entities port least v) → IsInStretch entities port least (v + 1) (v + 1)
+  pub begins_next : (v : ℕ) → ¬ (IsStep entities port least v) → Begins entities port least (v + 1)
   begins_next v apart =
       let same : suc v ≡ v + 1 = omega arith in
-      record {
-        begins = subst (λ (n : ℕ). Begins entities port least n) same apart;
-        from = omega arith;
-        row = λ w from within. absurd (omega (arith, from, within));
-      }
+      subst (λ (n : ℕ). Begins entities port least n) same apart
 
   -- the port means the same by all versions of a stretch
   same_by : (first count : ℕ) → ((w : ℕ) → first ≤ w → w < first + count → IsStep entities port least w)

@@ -175,7 +175,7 @@ fn note_rest(
     Ok(())
 }
 
-/// The stretches of frames that are in order, by a passage at version 0.
+/// The stretches of frames that are in order, by a passage at the version of the first.
 fn stretches_along(
     alloc: Global,
     passage: &mut Passage<'_>,
@@ -185,7 +185,7 @@ fn stretches_along(
     requires sorted { IsNonDecreasingBy frame_number frames.now }
     requires first { slice_get frames.now 0 ≡ Some first.now }
     requires ready { IsReady passage.old }
-    requires start { passage.old.version ≡ 0 }
+    requires start { passage.old.version ≡ first.now.version }
     ensures { IfOk result (λ stretches.
         IsCoverage (entities_in passage.old) passage.old.least frames.now stretches.items) }
 {
@@ -213,7 +213,8 @@ fn stretches_of(
     let Some(first) = frames.first() else {
         return Ok(Vec::new(alloc));
     };
-    let mut passage = Passage::at(alloc, requests, base, first.port, least)?;
+    let (port, version) = (first.port, first.version);
+    let mut passage = Passage::to(alloc, requests, base, port, least, version)?;
     stretches_along(alloc, &mut passage, first, frames)
 }
 

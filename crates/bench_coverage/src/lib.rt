@@ -12,11 +12,13 @@
 //! known, the front gives the class.
 //!
 //! **The way.** The frames are put in order, by ports and within a port by versions. A passage goes once through the versions of a port,
-//! with the managed entities before and behind each message; where some frame tells them apart, a stretch begins (passage). A frame's
-//! class is found by an index of the table and the compiled plan, whatever the number of entries (uses).
+//! with the managed entities before and behind each message; where some frame tells them apart, a stretch begins (passage). The first
+//! version of a port that a frame met mostly begins one, and then none before it is looked at. A frame's class is found by an index of the
+//! table and the compiled plan, whatever the number of entries (uses); that of a frame which begins as one before it did is known.
 #![tactic(auto)]
 
 mod covering;
+mod known;
 mod marking;
 mod passage;
 mod stretch;

@@ -1,14 +1,18 @@
 //! The way through the versions at one port.
-ghost use Rattle.std.specs.Prelude.{◌≡◌, ◌+◌, ◌<◌, ◌≤◌, ◌^◌, ℕ, All, IfOk, List, OnOk, Some, if◌then◌else◌, slice_get, take};
+ghost use Rattle.std.specs.Prelude.{◌≡◌, ◌+◌, ◌-◌, ◌<◌, ◌≤◌, ◌^◌, ℕ, All, Decides, IfOk, IfSome, List, OnOk, Some, if◌then◌else◌, slice_get, take};
 ghost use Rattle.std.specs.Option.{option_map};
 ghost use Rattle.mib_state.specs.Entities.{nothing};
 ghost use Rattle.mib_state.specs.After.{after};
+ghost use Rattle.mib_state.specs.Step.{left};
 ghost use Rattle.frame_meaning.specs.Meaning.{meaning};
 ghost use Rattle.frame_rows.specs.Class.{class_of, ending_by};
 ghost use Rattle.frame_classes.specs.Classes.{AreClasses};
+ghost use Rattle.frame_sameness.specs.Same.{AreSame};
 ghost use Rattle.script_heads.specs.Heads.{IsHeadOf};
 ghost use Rattle.bench_coverage.specs.Coverage.{examples_of};
+ghost use Rattle.bench_coverage.specs.Stretches.{Begins, entities_by};
 
+use crate::known::KnownClasses;
 use crate::uses::EntryUses;
 use bench_history::Digits;
 use forward_plan::{Live, Verdict};
@@ -34,12 +38,18 @@ pub(crate) struct Passage<'r> {
     version: usize,
     // The first version of its stretch.
     pub(crate) first: usize,
-    // The managed entities of the version, twice: one of them goes ahead to the next version.
-    before: Mib,
-    here: Live,
+    states: States,
     // What is kept for the frames of the version.
     uses: Option<EntryUses>,
     rows: Rows,
+    known: KnownClasses,
+}
+
+/// The managed entities of a version, twice: one of them goes ahead to the next version.
+#[derive(Drop)]
+struct States {
+    before: Mib,
+    here: Live,
 }
 
 /// Carries out the first of some requests: so many, or all.
@@ -56,6 +66,42 @@ fn carry_out_first(requests: &[Request], count: usize, before: &mut Mib, here: &
     }
 }
 
+impl States {
+    /// Those that the first of some requests leave: so many, or all.
+    fn behind(alloc: Global, requests: &[Request], count: usize) -> Result<States, AllocError>
+        ensures before { IfOk result (λ states. states.before.entities ≡ after (take count requests.now)) }
+        ensures here { IfOk result (λ states. states.here ≡ after (take count requests.now)) }
+    {
+        let mut before = Mib::new(alloc)?;
+        let Ok(mut here) = Live::new(alloc) else {
+            drop(before);
+            return Err(AllocError);
+        };
+        carry_out_first(requests, count, &mut before, &mut here);
+        Ok(States { before, here })
+    }
+
+    /// Goes to the next version, and says whether it is the same for each frame of at least so many bytes that comes in at a port.
+    fn go_on(
+        &mut self,
+        alloc: Global,
+        request: &Request,
+        port: u16,
+        least: usize,
+    ) -> Result<bool, AllocError>
+        ensures before { OnOk result (self.new.before.entities
+            ≡ left request.now.action self.old.before.entities request.now) }
+        ensures here { OnOk result (self.new.here ≡ left request.now.action self.old.here request.now) }
+        ensures same { IfOk result (λ same. Decides same
+            (AreSame self.old.before.entities (left request.now.action self.old.here request.now) port least)) }
+    {
+        self.here.apply(request);
+        let same = are_same(alloc, &self.before, self.here.mib(), port, least)?;
+        let _ = self.before.carry_out(request);
+        Ok(same)
+    }
+}
+
 /// The first version of the stretch of the next one, which is the same to all frames as this one or not.
 fn first_of_next(same: bool, first: usize, version: usize) -> usize
     requires { version + 1 < 2 ^ 64 }
@@ -64,8 +110,62 @@ fn first_of_next(same: bool, first: usize, version: usize) -> usize
     if same { first } else { version + 1 }
 }
 
+/// The place of the request that leads to a version, if one does.
+fn place_before(base: usize, version: usize) -> Option<usize>
+    ensures { IfSome result (λ place. (1 ≤ version) × (place ≡ base + (version - 1))) }
+{
+    base.checked_add(version.checked_sub(1)?)
+}
+
 impl<'r> Passage<'r> {
-    ghost use Rattle.bench_coverage.specs.Passage.{GoesOn, IsPassage, IsReady, entities_in};
+    ghost use Rattle.bench_coverage.specs.Passage.{GoesOn, IsAt, IsPassage, IsReady, entities_in};
+
+    /// A version of a port that begins a stretch, with the managed entities of that version.
+    fn first_of(
+        alloc: Global,
+        requests: &'r [Request],
+        base: usize,
+        port: u16,
+        least: usize,
+        version: usize,
+        states: States,
+    ) -> Result<Passage<'r>, AllocError>
+        requires before { states.before.entities ≡ entities_by requests.now base version }
+        requires here { states.here ≡ entities_by requests.now base version }
+        requires begins { Begins (entities_by requests.now base) port least version }
+        ensures ready { IfOk result IsReady }
+        ensures requests { IfOk result (λ passage. passage.requests.now ≡ requests.now) }
+        ensures base { IfOk result (λ passage. passage.base ≡ base) }
+        ensures port { IfOk result (λ passage. passage.port ≡ port) }
+        ensures least { IfOk result (λ passage. passage.least ≡ least) }
+        ensures version { IfOk result (λ passage. passage.version ≡ version) }
+    {
+        // What is owned is let go by calls, so that a proof of this function doesn't see each part of it on each way out.
+        let Ok(uses) = EntryUses::at(alloc, states.here.mib(), port) else {
+            drop(states);
+            return Err(AllocError);
+        };
+        let Ok(rows) = Rows::of(alloc, states.here.mib(), port) else {
+            drop((states, uses));
+            return Err(AllocError);
+        };
+        let Ok(known) = KnownClasses::new(alloc) else {
+            drop((states, uses, rows));
+            return Err(AllocError);
+        };
+        Ok(Passage {
+            requests,
+            base,
+            port,
+            least,
+            version,
+            first: version,
+            states,
+            uses,
+            rows,
+            known,
+        })
+    }
 
     /// The version 0 of a port.
     pub(crate) fn at(
@@ -82,33 +182,53 @@ impl<'r> Passage<'r> {
         ensures least { IfOk result (λ passage. passage.least ≡ least) }
         ensures version { IfOk result (λ passage. passage.version ≡ 0) }
     {
-        // What is owned is let go by calls, so that a proof of this function doesn't see each part of it on each way out.
-        let mut before = Mib::new(alloc)?;
-        let Ok(mut here) = Live::new(alloc) else {
-            drop(before);
-            return Err(AllocError);
+        let states = States::behind(alloc, requests, base)?;
+        Passage::first_of(alloc, requests, base, port, least, 0, states)
+    }
+
+    /// A version of a port, if it begins a stretch behind the first one: if some frame tells it from the version before.
+    fn begun(
+        alloc: Global,
+        requests: &'r [Request],
+        base: usize,
+        port: u16,
+        least: usize,
+        version: usize,
+    ) -> Result<Option<Passage<'r>>, AllocError>
+        ensures { IfOk result (λ found. IfSome found (IsAt requests.now base port least version)) }
+    {
+        let Some(place) = place_before(base, version) else {
+            return Ok(None);
         };
-        carry_out_first(requests, base, &mut before, &mut here);
-        let Ok(uses) = EntryUses::at(alloc, here.mib(), port) else {
-            drop((before, here));
-            return Err(AllocError);
+        let Some(request) = requests.get(place) else {
+            return Ok(None);
         };
-        let Ok(rows) = Rows::of(alloc, here.mib(), port) else {
-            drop((before, here, uses));
-            return Err(AllocError);
-        };
-        Ok(Passage {
-            requests,
-            base,
-            port,
-            least,
-            version: 0,
-            first: 0,
-            before,
-            here,
-            uses,
-            rows,
-        })
+        let mut states = States::behind(alloc, requests, place)?;
+        if states.go_on(alloc, request, port, least)? {
+            return Ok(None);
+        }
+        let passage = Passage::first_of(alloc, requests, base, port, least, version, states)?;
+        Ok(Some(passage))
+    }
+
+    /// A version of a port.
+    pub(crate) fn to(
+        alloc: Global,
+        requests: &'r [Request],
+        base: usize,
+        port: u16,
+        least: usize,
+        version: usize,
+    ) -> Result<Passage<'r>, AllocError>
+        ensures { IfOk result (IsAt requests.now base port least version) }
+    {
+        // Where frames wait for a set-up, its last request mostly changes what becomes of them: then none before it needs a look.
+        if let Some(passage) = Passage::begun(alloc, requests, base, port, least, version)? {
+            return Ok(passage);
+        }
+        let mut passage = Passage::at(alloc, requests, base, port, least)?;
+        passage.advance(alloc, version)?;
+        Ok(passage)
     }
 
     /// The request that leads to the next version, if there is one.
@@ -132,11 +252,8 @@ impl<'r> Passage<'r> {
         ensures port { OnOk result (self.new.port ≡ self.old.port) }
         ensures goes_on { OnOk result (GoesOn self.old self.new) }
     {
-        self.here.apply(request);
-        let here = self.here.mib();
-        let same = are_same(alloc, &self.before, here, self.port, self.least)?;
+        let same = self.states.go_on(alloc, request, self.port, self.least)?;
         self.first = first_of_next(same, self.first, self.version);
-        let _ = self.before.carry_out(request);
         self.version += 1;
         Ok(())
     }
@@ -172,8 +289,9 @@ impl<'r> Passage<'r> {
         'each_version: while self.version < version {
             self.step(alloc)?;
         }
-        self.uses = EntryUses::at(alloc, self.here.mib(), self.port)?;
-        self.rows = Rows::of(alloc, self.here.mib(), self.port)?;
+        self.uses = EntryUses::at(alloc, self.states.here.mib(), self.port)?;
+        self.rows = Rows::of(alloc, self.states.here.mib(), self.port)?;
+        self.known = KnownClasses::new(alloc)?;
         Ok(())
     }
 
@@ -194,15 +312,15 @@ impl<'r> Passage<'r> {
         if self.port == port {
             return self.advance(alloc, version);
         }
-        *self = Passage::at(alloc, self.requests, self.base, port, self.least)?;
-        self.advance(alloc, version)
+        *self = Passage::to(alloc, self.requests, self.base, port, self.least, version)?;
+        Ok(())
     }
 
     /// How a frame ends that comes in by this version.
     fn ending(&self, bytes: &[u8]) -> Ending
-        ensures { result ≡ ending_by (meaning self.now.here self.now.port bytes.now) }
+        ensures { result ≡ ending_by (meaning self.now.states.here self.now.port bytes.now) }
     {
-        match self.here.forward(self.port, bytes) {
+        match self.states.here.forward(self.port, bytes) {
             Verdict::Forward { gem, .. } => Ending::Gem(gem),
             Verdict::Drop(reason) => Ending::Dropped(reason),
         }
@@ -221,12 +339,23 @@ impl<'r> Passage<'r> {
     }
 
     /// The class of a frame by this version. The buffer takes its first bytes.
-    pub(crate) fn class_of(&self, frame: &Digits<'_>, buffer: &mut [u8; MOST_SPELLED]) -> FrameClass
-        requires { IsReady self.now }
-        ensures { result ≡ class_of (entities_in self.now self.now.version) self.now.port frame.now }
+    pub(crate) fn class_of(
+        &mut self,
+        frame: &Digits<'_>,
+        buffer: &mut [u8; MOST_SPELLED],
+    ) -> FrameClass
+        requires { IsReady self.old }
+        ensures class { result ≡ class_of (entities_in self.old self.old.version) self.old.port frame.now }
+        ensures ready { IsReady self.new }
+        ensures kept { self.new ≡ record self.old { known = self.new.known } }
     {
         let head = read_head(frame.as_digits(), buffer);
-        self.class_by(head)
+        if let Some(class) = self.known.find(head) {
+            return class;
+        }
+        let class = self.class_by(head);
+        self.known.keep(head, class);
+        class
     }
 
     /// The classes of the stretch.
@@ -235,6 +364,6 @@ impl<'r> Passage<'r> {
         ensures { IfOk result (λ list. AreClasses (entities_in self.now self.now.first) self.now.port self.now.least
             (examples_of list.items)) }
     {
-        classes(alloc, self.here.mib(), self.port, self.least)
+        classes(alloc, self.states.here.mib(), self.port, self.least)
     }
 }

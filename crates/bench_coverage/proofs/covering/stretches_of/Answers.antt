@@ -24,9 +24,9 @@ returns c =
     let passage = c.in_ok-passage.passage in
     let frames = c.args.frames.now in
     subst (λ (n : ℕ). IfOk c.stretches_along.result (λ (s : Vec Stretch Global). IsCoverage (entities_by c.args.requests.now c.args.base) n frames s.items))
-    made.least
+    made.least_same
     (subst (λ (n : ℕ). IfOk c.stretches_along.result (λ (s : Vec Stretch Global). IsCoverage (entities_by c.args.requests.now n) passage.least frames s.items))
-    made.base
+    made.base_same
     (subst (λ (qs : List Request).
-    IfOk c.stretches_along.result (λ (s : Vec Stretch Global). IsCoverage (entities_by qs passage.base) passage.least frames s.items)) made.requests
+    IfOk c.stretches_along.result (λ (s : Vec Stretch Global). IsCoverage (entities_by qs passage.base) passage.least frames s.items)) made.requests_same
     c.stretches_along.ensures))
