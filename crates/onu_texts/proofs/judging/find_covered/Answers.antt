@@ -1,1 +1,0 @@
-use Rattle.onu_texts.proofs.judging.find_covered.Goals as goal
