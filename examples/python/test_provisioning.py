@@ -69,7 +69,7 @@ def explained(unit: Unit, sent: bytes) -> str:
 
 
 def test_each_instance_is_reached() -> None:
-    assert "not-reached" not in [found["kind"] for found in lint(encode(PROVISIONING))]
+    assert "not-reached" not in [found.kind for found in lint(encode(PROVISIONING))]
 
 
 @pytest.mark.parametrize("name, sent, expected", FRAMES, ids=[name for name, _, _ in FRAMES])

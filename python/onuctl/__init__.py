@@ -23,7 +23,7 @@ The package needs nothing but Python 3.8 and the shared library, which ``./build
 from . import steps
 from ._frames import BadAfter, Difference, Fate, FrameClass, Outcome, Tear, Use, cover, differences, expect, hitless
 from ._library import version
-from ._scripts import Mistake, Mistakes, decode, encode, lint, mib, rules
+from ._scripts import LintFinding, Mistake, Mistakes, decode, encode, lint, mib, rules
 from ._texts import BadLine, BadStart, Finding, judge, replay
 from ._unit import Dropped, Forwarded, MessageFault, Reason, Unit
 
@@ -38,6 +38,7 @@ __all__ = [
     "Finding",
     "Forwarded",
     "FrameClass",
+    "LintFinding",
     "MessageFault",
     "Mistake",
     "Mistakes",

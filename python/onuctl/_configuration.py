@@ -7,7 +7,7 @@ from typing import Any, Dict, Iterator, List, NamedTuple, Optional, Sequence, Tu
 from xml.etree import ElementTree
 
 from ._deviations import in_hex
-from ._scripts import lint, mib, rules
+from ._scripts import LintFinding, lint, mib, rules
 
 MAPPER, TABLE, INTERWORK, GEM_PORT = 130, 171, 266, 268
 _WORDS = {MAPPER: "mapper", TABLE: "vlan", INTERWORK: "interwork", GEM_PORT: "gem-port"}
@@ -308,15 +308,15 @@ class Reader:
     def _words(self, words: str) -> str:
         return _LINE.sub(lambda found: self.line(int(found[1])), words) if self.before else words
 
-    def _finding(self, found: Dict[str, Any]) -> Finding:
-        if "line" in found:
-            where = self.line(found["line"])
-        elif "class" in found and "instance" in found:
-            of = found["class"]
-            where = _name(of, found["instance"]) if of in _WORDS else "class %d, %s" % (of, in_hex(found["instance"]))
-        else:
+    def _finding(self, found: LintFinding) -> Finding:
+        of = found.entity_class
+        if found.line is not None:
+            where = self.line(found.line)
+        elif of is None or found.instance is None:
             where = "the trace"
-        return Finding(found["severity"], where, found["kind"], self._words(found["words"]))
+        else:
+            where = _name(of, found.instance) if of in _WORDS else "class %d, %s" % (of, in_hex(found.instance))
+        return Finding(found.severity, where, found.kind, self._words(found.words))
 
     def table(self, port: int) -> Table:
         """The table in force at a port."""

@@ -44,7 +44,7 @@ class Processes:
     """Processes of this machine, which read the files themselves."""
 
     #: A group has so many files at most, and stops behind so many bytes.
-    most_files, most_bytes = 32, 4 << 20
+    most_files, most_bytes = 64, 16 << 20
 
     def __init__(self, count: int) -> None:
         self._count = count

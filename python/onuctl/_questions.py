@@ -10,15 +10,17 @@ import onuctl
 
 from ._frames import differences, expect
 from ._given import text_of
-from ._scripts import Mistakes, encode, lint
+from ._scripts import Mistakes, encode, findings_of
 from ._settings import SETTINGS
 from ._sources import Source, reason_of
-from ._texts import BadLine, judge
+from ._texts import BadLine, judged
 from ._unit import Dropped, Forwarded
 from ._written import script_of, without_mark
 
 # What is found of a file: the status of `onuctl` on it alone.
 RIGHT, UNREAD, FOUND, UNJUDGED = 0, 2, 3, 4
+# Of the numbers by which the library says what it finds of a history.
+_STATUSES = {0: FOUND, 1: RIGHT, 2: UNJUDGED}
 SEVERITIES = ("note", "warning", "error")
 
 
@@ -48,7 +50,12 @@ class Question(NamedTuple):
     report: Optional[str] = None
 
 
-_Found = Tuple[int, Dict[str, Any]]
+# A status, and an object of JSON.
+_Found = Tuple[int, str]
+
+
+def _written(found: Dict[str, Any]) -> str:
+    return json.dumps(found, separators=(",", ":"))
 
 
 def plain(value: Any) -> Any:
@@ -69,21 +76,21 @@ def plain(value: Any) -> Any:
 
 
 def _judged(text: bytes, _: Optional[bytes], settings: Dict[str, Any]) -> _Found:
-    finding = judge(without_mark(text), **settings)
-    status = RIGHT if finding.explained else UNJUDGED if finding.line is None else FOUND
-    return status, finding.details
+    found = judged(without_mark(text), settings["start"], [settings[name] for name in SETTINGS], settings["most"])
+    # The text is the library's: its lines end where JSON has space.
+    return _STATUSES[found.number], found.text.decode().replace("\n", "")
 
 
 def _linted(text: bytes, _: Optional[bytes], settings: Dict[str, Any]) -> _Found:
-    listed = [each for each in lint(script_of(text)) if each["kind"] not in settings["ignore"]]
+    listed = [each for each in findings_of(script_of(text)) if each["kind"] not in settings["ignore"]]
     severe = SEVERITIES[SEVERITIES.index(settings["fail_on"]) :]
-    return FOUND if any(each["severity"] in severe for each in listed) else RIGHT, {"format": 1, "findings": listed}
+    return FOUND if any(each["severity"] in severe for each in listed) else RIGHT, _written({"format": 1, "findings": listed})
 
 
 def _differing(text: bytes, beside: Optional[bytes], settings: Dict[str, Any]) -> _Found:
     after = None if beside is None else script_of(beside)
     listed = plain(differences(script_of(text), after, **settings))
-    return FOUND if listed else RIGHT, {"format": 1, "differences": listed}
+    return FOUND if listed else RIGHT, _written({"format": 1, "differences": listed})
 
 
 def _expecting(text: bytes, beside: Optional[bytes], settings: Dict[str, Any]) -> _Found:
@@ -93,7 +100,7 @@ def _expecting(text: bytes, beside: Optional[bytes], settings: Dict[str, Any]) -
     except Mistakes as mistakes:
         raise BadExpectations(mistakes.mistakes) from None
     failing = sum(not each.holds for each in outcomes)
-    return FOUND if failing else RIGHT, {"format": 1, "expectations": plain(outcomes), "fail": failing}
+    return FOUND if failing else RIGHT, _written({"format": 1, "expectations": plain(outcomes), "fail": failing})
 
 
 _ANSWERERS: Dict[str, Callable[[bytes, Optional[bytes], Dict[str, Any]], _Found]] = {
@@ -105,8 +112,8 @@ _ANSWERERS: Dict[str, Callable[[bytes, Optional[bytes], Dict[str, Any]], _Found]
 
 
 def _read(path: str) -> bytes:
-    with open(path, "rb") as file:
-        return file.read()
+    with open(path, "rb", buffering=0) as file:
+        return file.readall()
 
 
 def _texts(source: Source) -> Tuple[bytes, Optional[bytes]]:
@@ -133,7 +140,7 @@ def loaded(source: Source) -> Source:
 
 def unread(name: str, why: str, **more: Any) -> Answer:
     """The answer of a file that can't be read."""
-    return Answer(UNREAD, name, json.dumps({"file": name, "format": 1, "error": why, **more}), why)
+    return Answer(UNREAD, name, _written({"file": name, "format": 1, "error": why, **more}), why)
 
 
 def page_of(name: str, history: bytes, settings: Dict[str, Any], start_name: str) -> bytes:
@@ -210,7 +217,7 @@ def answer(question: Question, source: Source) -> Answer:
         raise
     except Exception as fault:
         return unread(name, reason_of(fault))
-    return Answer(status, name, json.dumps({"file": name, **found}), page=page)
+    return Answer(status, name, '{"file":%s,%s' % (json.dumps(name), found[1:]), page=page)
 
 
 def answer_all(question: Question, sources: Sequence[Source]) -> Tuple[str, List[Answer]]:

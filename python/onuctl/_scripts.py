@@ -3,7 +3,8 @@
 import json
 import operator
 import re
-from typing import Any, Callable, Dict, List, NamedTuple, Union
+from dataclasses import dataclass
+from typing import Any, Callable, Dict, List, Literal, NamedTuple, Optional, Union
 
 from . import _library
 from ._given import Bytes, port_of, text_of
@@ -94,12 +95,52 @@ def mib(trace: Union[Bytes, str]) -> Dict[str, Any]:
     return _shown(lambda *room: _library.mib(text, len(text), *room))
 
 
-def lint(trace: Union[Bytes, str]) -> List[Dict[str, Any]]:
-    """What is wrong with the managed entities after a trace, and which of its messages have a fault or are refused: the ``findings`` that
-    ``onuctl lint --json`` writes (docs/FORMATS.md). Raises :class:`BadLine`."""
+@dataclass(frozen=True)
+class LintFinding:
+    """What is wrong after a trace, or has no effect: with one of the managed entities, with a line of the trace, or with the whole of it."""
+
+    severity: Literal["note", "warning", "error"]
+    #: The kind, one of those that ``onuctl help findings`` lists, and a sentence that says it.
+    kind: str
+    words: str
+    #: The number of the line of the trace, from 1, or None of an entity or of the whole trace.
+    line: Optional[int]
+    #: The class and the instance of the entity, or those that the message of the line names; None where there are none.
+    entity_class: Optional[int]
+    instance: Optional[int]
+    #: The object that ``onuctl lint --json`` writes, with the numbers that the finding names (docs/FORMATS.md).
+    details: Dict[str, Any]
+
+    def __str__(self) -> str:
+        """As the program writes it: ``error mapper 0x0601 null-pointer: ..``, ``error line 15 message-refused: ..``."""
+        if self.line is not None:
+            where = "line %d" % self.line
+        elif self.instance is None:
+            where = "trace"
+        else:
+            where = "%s 0x%04x" % (_CLASSES.get(self.entity_class or 0, "class %s" % self.entity_class), self.instance)
+        return "%s %s %s: %s" % (self.severity, where, self.kind, self.words)
+
+
+# The words for the classes whose instances are looked at.
+_CLASSES = {130: "mapper", 171: "vlan", 266: "interwork", 268: "gem-port"}
+
+
+def findings_of(trace: Union[Bytes, str]) -> List[Dict[str, Any]]:
+    """The ``findings`` that ``onuctl lint --json`` writes of a trace. Raises :class:`BadLine`."""
     text = text_of("trace", trace)
     found: List[Dict[str, Any]] = _shown(lambda *room: _library.lint(text, len(text), *room))["findings"]
     return found
+
+
+def _finding(found: Dict[str, Any]) -> LintFinding:
+    return LintFinding(found["severity"], found["kind"], found["words"], found.get("line"), found.get("class"), found.get("instance"), found)
+
+
+def lint(trace: Union[Bytes, str]) -> List[LintFinding]:
+    """What is wrong with the managed entities after a trace, and which of its messages have a fault or are refused, in the order of ``onuctl lint``.
+    Raises :class:`BadLine`."""
+    return [_finding(found) for found in findings_of(trace)]
 
 
 def rules(trace: Union[Bytes, str], port: int) -> Dict[str, Any]:

@@ -107,7 +107,7 @@ class Shown:
         counted = self._counted()
         summary = {"format": 1, "summary": dict(counted), "version": version()}
         try:
-            sys.stdout.write(json.dumps(summary) + "\n")
+            sys.stdout.write(json.dumps(summary, separators=(",", ":")) + "\n")
             sys.stdout.flush()
             if self._reports is not None:
                 self._reports.end(dict(counted), list(settings))

@@ -1,7 +1,7 @@
 """Whole texts: a script and its answers, a history and its judgement."""
 
 import json
-from typing import Any, Dict, List, NamedTuple, Optional, Union
+from typing import Any, Dict, List, NamedTuple, Optional, Sequence, Union
 
 from . import _library
 from ._given import Bytes, least_of, most_of, text_of
@@ -98,13 +98,35 @@ def judge(
     history without an end line be explained; and ``repeats`` lets a unit answer a message with the bytes of the one before it from memory, or
     not at all. Raises :class:`BadLine`, and :class:`BadStart` for a line of ``start``.
     """
+    settings = (modelled, unordered, allow_strays, padded, allow_unfinished, repeats)
+    found = judged(history, start, settings, most, coverage, least)
+    # With 1 and 2 no line deviates.
+    return Finding(found.number == 1, found.line if found.number == 0 else None, json.loads(found.text))
+
+
+class Judged(NamedTuple):
+    """What the library finds of a history: its number, the line that it names, and the object that ``onuctl judge --json`` writes."""
+
+    number: int
+    line: int
+    text: bytes
+
+
+def judged(
+    history: Union[Bytes, str],
+    start: Union[Bytes, str, None],
+    settings: Sequence[bool],
+    most: Optional[int] = None,
+    coverage: bool = False,
+    least: int = 0,
+) -> Judged:
+    """What :func:`judge` finds, as the library says it. The settings are in the order of its flags, of which ``unordered`` is the second."""
     given, limit, shortest = text_of("history", history), most_of(most), least_of(least)
-    if coverage and unordered:
+    if coverage and settings[1]:
         raise ValueError("coverage goes by the least versions of frames, and with unordered they have none")
     if shortest and not coverage:
         raise ValueError("least is said of coverage")
     script = b"" if start is None else text_of("start", start)
-    settings = (modelled, unordered, allow_strays, padded, allow_unfinished, repeats)
     flags = sum(1 << bit for bit, is_set in enumerate(settings) if is_set)
     line = Line()
     texts = (script, len(script), given, len(given))
@@ -118,5 +140,4 @@ def judge(
         raise BadStart(line.value)
     if number == BAD_LINE:
         raise BadLine(line.value)
-    # With 1 and 2 no line deviates.
-    return Finding(number == 1, line.value if number == 0 else None, json.loads(text))
+    return Judged(number, line.value, text)

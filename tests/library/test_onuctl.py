@@ -462,7 +462,7 @@ class GivenTest(unittest.TestCase):
             self.assertEqual(encode(kind(b"# remark\n")), "# remark\n")
             self.assertEqual(decode(kind(b"# remark\n")), [{"format": 1, "line": 1, "kind": "remark", "text": "# remark"}])
             self.assertEqual(mib(kind(b"# remark\n"))["mib_data_sync"], 0)
-            self.assertEqual([each["kind"] for each in lint(kind(b"# remark\n"))], ["empty-trace"])
+            self.assertEqual([str(each) for each in lint(kind(b"# remark\n"))], ["warning trace empty-trace: it has no message"])
             self.assertEqual(rules(kind(b"# remark\n"), 257)["entries"], [])
             self.assertEqual(cover(kind(b"# remark\n")), [])
             self.assertEqual(differences(kind(b"# remark\n"), kind(b"")), [])
@@ -617,11 +617,13 @@ class ScriptTest(unittest.TestCase):
         self.assertEqual(lint(self.script()), [])
         # The GEM port exists, result 7; and the destination bit of a message is 1.
         found = lint(self.script(SET_UP[0], "0001c40a010c0401"))
-        self.assertEqual([(each["line"], each["kind"]) for each in found], [(5, "message-refused"), (6, "message-fault")])
-        self.assertEqual((found[0]["result"], found[1]["fault"]), (7, 2))
+        self.assertEqual([(each.line, each.kind, each.severity) for each in found], [(5, "message-refused", "error"), (6, "message-fault", "error")])
+        self.assertEqual((found[0].details["result"], found[1].details["fault"]), (7, 2))
+        self.assertEqual((found[0].entity_class, found[0].instance), (268, 0x0401))
         # No frame comes by a GEM port that nothing points to.
         found = lint("o %s\n" % digits(SET_UP[0]))
-        self.assertEqual([(each["class"], each["instance"], each["kind"]) for each in found], [(268, 0x0401, "not-reached")])
+        self.assertEqual([(each.entity_class, each.instance, each.line, each.kind) for each in found], [(268, 0x0401, None, "not-reached")])
+        self.assertTrue(str(found[0]).startswith("warning gem-port 0x0401 not-reached: "))
 
     def test_the_table_in_force_is_shown(self) -> None:
         shown = rules(self.script(TO_100), 257)
@@ -637,7 +639,8 @@ class ScriptTest(unittest.TestCase):
         trace = (folder / "inside.trace").read_text()
         self.assertEqual(encode((folder / "inside.onu").read_bytes()), trace)
         self.assertEqual(mib(trace), json.loads((folder / "inside.mib.json").read_text()))
-        self.assertEqual(lint(trace), json.loads((folder / "inside.lint.json").read_text())["findings"])
+        self.assertEqual([each.details for each in lint(trace)], json.loads((folder / "inside.lint.json").read_text())["findings"])
+        self.assertEqual("".join("%s\n" % each for each in lint(trace)), (folder / "inside.lint").read_text())
         self.assertEqual(rules(trace, 257), json.loads((folder / "inside.rules.json").read_text()))
 
     def test_a_bad_line_of_a_trace(self) -> None:
@@ -1047,12 +1050,16 @@ class TextTest(unittest.TestCase):
             judge(history, start=7)  # type: ignore[arg-type]
 
     def test_what_was_tried(self) -> None:
-        # Line 12's frame is judged by version 4, where each frame leaves as it came; line 13's by version 5, whose entry 0 tags frames without a tag.
+        # The second frame left by the entry that line 9's request sets: version 5, whose entry 0 tags frames without a tag. The first left as it came:
+        # that is what version 3 says, without a table. Where it waits for the replies to the set-up it is version 4, by a table's predefined entries.
         history = self.history("g 0 1024 " + UNTAGGED, "g 1 1024 " + ADDRESSES + "8100006408004500", "e")
         stretches = judge(history, coverage=True).coverage or []
+        self.assertEqual([(each["port"], each["version"], each["seen"], each["classes"]) for each in stretches], [(257, 3, 1, 3), (257, 5, 1, 5)])
+        waiting = history.replace("f 257", "w\nf 257", 1)
+        stretches = judge(waiting, coverage=True).coverage or []
         self.assertEqual([(each["port"], each["version"], each["seen"], each["classes"]) for each in stretches], [(257, 4, 1, 5), (257, 5, 1, 5)])
         self.assertEqual([each.get("entry") for each in stretches[0]["unseen"]], [None, None, 1, 2])
-        longer = judge(history, coverage=True, least=60).coverage or []
+        longer = judge(waiting, coverage=True, least=60).coverage or []
         self.assertEqual([[each.get("entry") for each in stretch["unseen"]] for stretch in longer], [[1, 2], [2, 3]])
         self.assertIsNone(judge(history).coverage)
         found = judge(self.history("g 0 1024 " + ADDRESSES + "8100006408004500", "g 1 1024 " + UNTAGGED, "e"), coverage=True, most=2)
