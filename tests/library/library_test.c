@@ -633,10 +633,10 @@ static void what_was_tried_is_listed(void) {
     CHECK(covered_behind(script, left, 0, 0, 0, of_all, &line) == 1 && line == 0);
     CHECK(covered_behind(script, left, 0, 9, 60, of_long, &line) == 1 && line == 0);
     /* Where nothing was judged, nothing was tried. */
-    CHECK(covered_behind(script, "", 0, 0, 0, "\"coverage\":[]}", &line) == 2 && line == 0);
+    CHECK(covered_behind(script, "", 0, 0, 0, "\"coverage\":[\n]}", &line) == 2 && line == 0);
     /* A history that deviates is listed as without coverage. */
     CHECK(covered_behind(script, "s 7 00\n", 0, 0, 0, "\"explained\":false,\"line\":1,\"stray\":{\"gem\":7,\"frame\":\"00\"}}", &line) == 0 && line == 1);
-    CHECK(covered_behind(script, "s 7 00\n", 0, 9, 0, "\"stray\":{\"gem\":7,\"frame\":\"00\"}}],\"more\":false}", &line) == 0 && line == 1);
+    CHECK(covered_behind(script, "s 7 00\n", 0, 9, 0, "\"stray\":{\"gem\":7,\"frame\":\"00\"}}\n],\"more\":false}", &line) == 0 && line == 1);
     CHECK(covered_behind(script, "\nx\n", 0, 0, 0, "", &line) == ONU_BAD_LINE && line == 2);
     CHECK(covered_behind("x\n", left, 0, 0, 0, "", &line) == ONU_BAD_START && line == 1);
     /* No frame has a least version where each is judged by itself. */
