@@ -1,0 +1,4 @@
+pub mod Telling
+pub mod Migration
+pub mod Ports
+pub mod Following
