@@ -295,7 +295,25 @@ impl<'r> Passage<'r> {
         Ok(())
     }
 
-    /// Goes ahead to a version of a port, which is the same or another.
+    /// Goes ahead to a version of a port, one of which is another.
+    // It stands apart, since a call of it clears what it may need on the stack, which is much, and most frames are of the version before.
+    #[inline(never)]
+    fn move_to(&mut self, alloc: Global, port: u16, version: usize) -> Result<(), AllocError>
+        requires ready { IsReady self.old }
+        requires ahead { self.old.port ≡ port → self.old.version ≤ version }
+        ensures ready { OnOk result (IsReady self.new) }
+        ensures version { OnOk result (self.new.version ≡ version) }
+        ensures port { OnOk result (self.new.port ≡ port) }
+        ensures goes_on { OnOk result (GoesOn self.old self.new) }
+    {
+        if self.port == port {
+            return self.advance(alloc, version);
+        }
+        *self = Passage::to(alloc, self.requests, self.base, port, self.least, version)?;
+        Ok(())
+    }
+
+    /// Goes ahead to a version of a port, which are the same or others.
     pub(crate) fn go_to(
         &mut self,
         alloc: Global,
@@ -309,11 +327,10 @@ impl<'r> Passage<'r> {
         ensures port { OnOk result (self.new.port ≡ port) }
         ensures goes_on { OnOk result (GoesOn self.old self.new) }
     {
-        if self.port == port {
-            return self.advance(alloc, version);
+        if self.port == port && self.version == version {
+            return Ok(());
         }
-        *self = Passage::to(alloc, self.requests, self.base, port, self.least, version)?;
-        Ok(())
+        self.move_to(alloc, port, version)
     }
 
     /// How a frame ends that comes in by this version.
