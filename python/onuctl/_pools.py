@@ -22,6 +22,9 @@ Answers = Tuple[str, List[Answer]]
 _REACHED = 5
 GONE = "the cluster's scheduler is gone"
 _PR_SET_PDEATHSIG = 1
+# Parameters of glibc's mallopt, and how many bytes a process keeps.
+_M_TRIM_THRESHOLD, _M_MMAP_THRESHOLD = -1, -3
+_KEPT, _KEPT_AT_ONCE = 256 << 20, 32 << 20
 
 
 class Trouble(Exception):
@@ -36,8 +39,18 @@ def _end_with(parent: int) -> None:
             signal.signal(number, signal.SIG_DFL)
     if sys.platform == "linux":
         ctypes.CDLL(None).prctl(_PR_SET_PDEATHSIG, signal.SIGKILL)
+        keep_memory()
     if os.getppid() != parent:
         os._exit(1)
+
+
+def keep_memory() -> None:
+    """Has this process keep the memory of a file for the next one, where the C library is glibc: to give it back and take it again costs more than
+    a judgement."""
+    library = ctypes.CDLL(None)
+    with contextlib.suppress(AttributeError):
+        library.mallopt(_M_MMAP_THRESHOLD, _KEPT_AT_ONCE)
+        library.mallopt(_M_TRIM_THRESHOLD, _KEPT)
 
 
 class Processes:
