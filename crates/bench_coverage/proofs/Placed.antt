@@ -7,7 +7,7 @@ use Rattle.std.proofs.lemmas.Option.{get_or_from_slice_get, slice_get-get_or, sl
 use Rattle.frame_rows.specs.declared.class.FrameClass.{FrameClass}
 use Rattle.frame_rows.specs.Class.{class_number}
 use Rattle.frame_classes.specs.declared.example.ClassExample.{ClassExample}
-use Rattle.bench_coverage.specs.Marks.{Ascend, AreMarked, HasClass}
+use Rattle.bench_coverage.specs.Marks.{Ascend, AreMarked, HasClass, IsAmong, IsPlaceFor}
 
 abbrev number_of : ClassExample → ℕ
 number_of e = class_number e.class
@@ -113,20 +113,19 @@ module _ (classes : List ClassExample) (ascend : Ascend classes) where
             )
 
     -- it isn't, and none of the others has it
-    nowhere : (IsThere → ⊥) → ((k : ℕ) (d : ClassExample) → k < place → number_of (get_or classes k d) < class_number class)
-        → ((d : ClassExample) → place < length classes → class_number class ≤ number_of (get_or classes place d))
+    nowhere : (IsThere → ⊥) → IsAmong classes class place
         → (k : ℕ) (example : ClassExample) → slice_get classes k ≡ Some example → example.class ≡ class → ⊥
-    nowhere none low high k example at is =
+    nowhere none among k example at is =
         elim (cases_lt k place) [
           | inl less ↦
-              let under = low k example less in
+              let under = among.before k example less in
               omega (arith, under, ap number_of (get_or_from_slice_get classes k example example at), ap class_number is)
           | inr past ↦
               elim (cases_lt place k) [
                 | inl more ↦
                     let within : place < length classes = let far = slice_get_within classes k example at in omega (arith, more, far) in
                     let up = rises place k (get_or classes place example) example (slice_get-get_or classes place example within) at more in
-                    let over = high example within in
+                    let over = among.behind example within in
                     omega (arith, up, over, ap class_number is)
                 | inr level ↦
                     let same : k ≡ place = omega (arith, past, level) in
@@ -134,16 +133,15 @@ module _ (classes : List ClassExample) (ascend : Ascend classes) where
               ]
         ]
 
-    pub marks : (after : List Bool) → AreMarked classes place class before after → IsThere ⊎ (IsThere → ⊥)
-        → ((k : ℕ) (d : ClassExample) → k < place → number_of (get_or classes k d) < class_number class)
-        → ((d : ClassExample) → place < length classes → class_number class ≤ number_of (get_or classes place d))
+    pub marks : (after : List Bool) → AreMarked classes place class before after → IsThere ⊎ (IsThere → ⊥) → IsPlaceFor classes class place
         → (k : ℕ) (example : ClassExample) → slice_get classes k ≡ Some example
         → Decides (slice_index_or after k false) ((slice_index_or before k false ≡ true) ⊎ (example.class ≡ class))
-    marks after marked (inl has) low high k example at =
+    marks after marked (inl has) stands k example at =
         subst (λ (l : List Bool). Decides (slice_index_or l k false) ((slice_index_or before k false ≡ true) ⊎ (example.class ≡ class))) (sym (marked.there has))
         (there has k example at)
-    marks after marked (inr none) low high k example at =
+    marks after marked (inr none) (inl has) k example at = absurd (none has)
+    marks after marked (inr none) (inr among) k example at =
         subst (λ (l : List Bool). Decides (slice_index_or l k false) ((slice_index_or before k false ≡ true) ⊎ (example.class ≡ class))) (sym (marked.elsewhere none)) (
           λ is. inl is,
-          λ or. elim or [ inl is ↦ is | inr is ↦ absurd (nowhere none low high k example at is) ],
+          λ or. elim or [ inl is ↦ is | inr is ↦ absurd (nowhere none among k example at is) ],
         )

@@ -8,6 +8,7 @@ ghost use Rattle.bench_coverage.specs.Noting.{IsFresh, IsGoing, IsNext, IsNotBeh
 ghost use Rattle.bench_coverage.specs.Passage.{GoesOn, IsReady, entities_in, frame_number};
 ghost use Rattle.bench_coverage.specs.Stretches.{entities_by};
 
+use crate::hints::Hints;
 use crate::passage::Passage;
 use crate::stretch::Stretch;
 use bench_judge::{Course, JudgedFrame};
@@ -47,6 +48,13 @@ fn fresh_stretch(alloc: Global, passage: &Passage<'_>) -> Result<Stretch, AllocE
     })
 }
 
+/// What is at hand from frame to frame: the first bytes of one, and where classes were marked last.
+#[derive(Drop)]
+struct Room {
+    buffer: [u8; MOST_SPELLED],
+    hints: Hints,
+}
+
 /// Makes the last stretch that of a passage. The stretches that are done stand apart.
 fn turn_to(
     alloc: Global,
@@ -72,6 +80,7 @@ fn note(
     alloc: Global,
     passage: &Passage<'_>,
     class: &FrameClass,
+    hints: &mut Hints,
     done: &mut Vec<Stretch>,
     last: &mut Stretch,
 ) -> Result<(), AllocError>
@@ -83,7 +92,7 @@ fn note(
         → OnOk result (IsSoFar (entities_in passage.now) passage.now.least (frames ++ frame ∷ []) done.new.items last.new) }
 {
     turn_to(alloc, passage, done, last)?;
-    last.mark(class);
+    last.mark(class, hints);
     Ok(())
 }
 
@@ -92,6 +101,7 @@ fn first_stretch(
     alloc: Global,
     passage: &Passage<'_>,
     class: &FrameClass,
+    hints: &mut Hints,
 ) -> Result<Stretch, AllocError>
     requires { IsReady passage.now }
     ensures whole { IfOk result IsWhole }
@@ -99,7 +109,7 @@ fn first_stretch(
         → IfOk result (IsSoFar (entities_in passage.now) passage.now.least (frame ∷ []) []) }
 {
     let mut stretch = fresh_stretch(alloc, passage)?;
-    stretch.mark(class);
+    stretch.mark(class, hints);
     Ok(stretch)
 }
 
@@ -130,7 +140,7 @@ fn note_next(
     alloc: Global,
     passage: &mut Passage<'_>,
     judged: &JudgedFrame<'_>,
-    buffer: &mut [u8; MOST_SPELLED],
+    room: &mut Room,
     done: &mut Vec<Stretch>,
     last: &mut Stretch,
 ) -> Result<(), AllocError>
@@ -148,8 +158,8 @@ fn note_next(
         → IsSoFar (entities_in passage.new) passage.new.least frames done.old.items last.old
         → OnOk result (IsSoFar (entities_in passage.new) passage.new.least (frames ++ judged.now ∷ []) done.new.items last.new) }
 {
-    let class = class_next(alloc, passage, judged, buffer)?;
-    note(alloc, passage, &class, done, last)?;
+    let class = class_next(alloc, passage, judged, &mut room.buffer)?;
+    note(alloc, passage, &class, &mut room.hints, done, last)?;
     Ok(())
 }
 
@@ -158,7 +168,7 @@ fn note_rest(
     alloc: Global,
     passage: &mut Passage<'_>,
     frames: &[JudgedFrame<'_>],
-    buffer: &mut [u8; MOST_SPELLED],
+    room: &mut Room,
     done: &mut Vec<Stretch>,
     last: &mut Stretch,
 ) -> Result<(), AllocError>
@@ -170,7 +180,7 @@ fn note_rest(
 {
     for place in 1..frames.len() {
         let judged = &frames[place];
-        note_next(alloc, passage, judged, buffer, done, last)?;
+        note_next(alloc, passage, judged, room, done, last)?;
     }
     Ok(())
 }
@@ -189,11 +199,14 @@ fn stretches_along(
     ensures { IfOk result (λ stretches.
         IsCoverage (entities_in passage.old) passage.old.least frames.now stretches.items) }
 {
-    let mut buffer = [0; MOST_SPELLED];
-    let class = class_next(alloc, passage, first, &mut buffer)?;
-    let mut last = first_stretch(alloc, passage, &class)?;
+    let mut room = Room {
+        buffer: [0; MOST_SPELLED],
+        hints: Hints::new(),
+    };
+    let class = class_next(alloc, passage, first, &mut room.buffer)?;
+    let mut last = first_stretch(alloc, passage, &class, &mut room.hints)?;
     let mut done = Vec::new(alloc);
-    note_rest(alloc, passage, frames, &mut buffer, &mut done, &mut last)?;
+    note_rest(alloc, passage, frames, &mut room, &mut done, &mut last)?;
     done.push(last)?;
     Ok(done)
 }

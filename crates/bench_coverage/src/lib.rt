@@ -18,6 +18,7 @@
 #![tactic(auto)]
 
 mod covering;
+mod hints;
 mod known;
 mod marking;
 mod passage;

@@ -2,8 +2,9 @@
 ghost use Rattle.std.specs.Prelude.{◌≡◌, ◌<◌, ◌≤◌, ◌⊎◌, ℕ, Decides, Some, false, length, slice_get, slice_index_or, slice_set, true};
 ghost use Rattle.frame_rows.specs.Class.{class_number};
 ghost use Rattle.frame_classes.specs.declared.example.ClassExample.{ClassExample as TheExample};
-ghost use Rattle.bench_coverage.specs.Marks.{Ascend, AreMarked, HasClass};
+ghost use Rattle.bench_coverage.specs.Marks.{Ascend, AreMarked, HasClass, IsPlaceFor};
 
+use crate::hints::Hints;
 use crate::stretch::Stretch;
 use frame_classes::{ClassExample, FrameClass};
 
@@ -46,6 +47,17 @@ fn is_at(classes: &[ClassExample], place: usize, class: &FrameClass) -> bool
     }
 }
 
+/// The place of a class: a guess where that is right, or else how many have smaller numbers.
+fn place_for(classes: &[ClassExample], class: &FrameClass, guess: usize) -> usize
+    requires { Ascend classes.now }
+    ensures { IsPlaceFor classes.now class.now result }
+{
+    if is_at(classes, guess, class) {
+        return guess;
+    }
+    place_of(classes, class.number())
+}
+
 /// Marks the class at a place, if it is this one.
 fn mark_at(classes: &[ClassExample], tried: &mut Vec<bool>, place: usize, class: &FrameClass)
     ensures marked { AreMarked classes.now place class.now tried.old.items tried.new.items }
@@ -68,7 +80,7 @@ fn set_mark(tried: &mut Vec<bool>, place: usize)
 
 impl Stretch {
     /// Marks the class of a frame, if it is one of the stretch: a frame that is shorter than those that are listed may have another.
-    pub(crate) fn mark(&mut self, class: &FrameClass)
+    pub(crate) fn mark(&mut self, class: &FrameClass, hints: &mut Hints)
         requires ascend { Ascend self.old.classes.items }
         requires marks { length self.old.tried.items ≡ length self.old.classes.items }
         ensures same { self.new ≡ record self.old { tried = self.new.tried } }
@@ -77,7 +89,9 @@ impl Stretch {
             → Decides (slice_index_or self.new.tried.items k false)
             ((slice_index_or self.old.tried.items k false ≡ true) ⊎ (example.class ≡ class.now)) }
     {
-        let place = place_of(&self.classes, class.number());
+        let number = class.number();
+        let place = place_for(&self.classes, class, hints.of(number));
+        hints.keep(number, place);
         mark_at(&self.classes, &mut self.tried, place, class);
     }
 }
