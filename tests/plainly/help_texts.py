@@ -22,6 +22,7 @@ Commands:
   diff     Say which frames two configurations treat differently, with a frame of each kind
   hitless  Say which frames a change treats on its way as neither its beginning nor its end does
   expect   Say of each expectation whether all frames after a trace do as it says, or show one that doesn't
+  migrate  Look for messages that change one configuration into another without a hit
   help     Print this message or the help of the given subcommand(s)
 
 Options:
@@ -313,6 +314,32 @@ Options:
 A moment between is torn for a frame that leaves there with a GEM port or bytes of neither, or is dropped there and by neither.
 Status: 3 where a moment is torn; onuctl help statuses has the others
 Example: onuctl hitless up.script --from 5""",
+    "migrate": """\
+Look for messages that change one configuration into another without a hit
+
+Usage: onuctl migrate [OPTIONS] <TRACE>
+
+Arguments:
+  <TRACE>  Script, or words for one, whose messages are applied, a file; also behind --trace [example: up.script]
+
+Options:
+      --until <LINE>  Stop behind this line of the trace, from 1 [example: 20]
+      --strict        Stop where a message of the trace has a fault or is refused; has no value [example: --strict]
+      --from <LINE>   Before: behind this line of the trace, 0 for the opening state; at its end without it [example: 40]
+      --to <FILE>     After: what this trace leads to, a file; without it the same trace, which then wants --from [example: new.script]
+      --leave         Be done where every frame is treated as after, whatever instances are left
+      --id <NUMBER>   Transaction correlation identifier of the first message, 0 to 65535; without it the one behind the last of the trace [example: 100]
+      --no-ties       Let no two mappers, and no two tables, name one port on the way
+      --json          Show it as JSON, for other programs; has no value [example: --json]
+  -h, --help          Print help
+
+The messages are a script, each below a remark; hitless confirms them.
+No frame, whenever it comes, is treated otherwise than by the configuration before or the one after.
+Where none are found, the frames for which the best that was tried is torn are shown on standard error; there may be a way all the same.
+The line of --until, and its end, is that of the configuration after.
+Status: 3 where no way is found; onuctl help statuses has the others
+Example: onuctl migrate up.script --from 4
+Example: onuctl migrate up.script --to new.script > way.script""",
     "expect": """\
 Say of each expectation whether all frames after a trace do as it says, or show one that doesn't
 
@@ -425,10 +452,10 @@ What lint finds, the most severe first: `--ignore KIND` leaves findings of a kin
   not-modelled (note): a class or an action that this model doesn't have; once for each""",
     "statuses": """\
 The status with which the program ends
-  0  all is written; judge explained the whole history, lint found nothing as severe as --fail-on, diff no difference, hitless no torn moment, and expect nothing that doesn't hold
+  0  all is written; judge explained the whole history, lint found nothing as severe as --fail-on, diff no difference, hitless no torn moment, expect nothing that doesn't hold, and migrate a way
   1  the words are wrong, a read or a write failed, or there is no memory or no room
   2  a line, a text or a capture is bad, or --strict met a message that wasn't carried out
-  3  judge found a deviation, lint something as severe as --fail-on, diff a difference, hitless a torn moment, or expect what doesn't hold; all is written
+  3  judge found a deviation, lint something as severe as --fail-on, diff a difference, hitless a torn moment, or expect what doesn't hold, and all is written; or migrate found no way
   4  judge found no deviation, but the history may be cut, or nothing of it was judged; all is written
   141  nobody reads standard output any more""",
 }

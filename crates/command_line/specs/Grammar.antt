@@ -275,6 +275,21 @@ by_versions = with_rule (over_trace (codes "expect")) (optional (codes "from") b
 abbrev pub expect : App
 expect = with_rule (with_rule (with_rule by_versions least) json) expectations
 
+-- the identifier of the first message
+abbrev pub identifier : Rule
+identifier = optional (codes "id") (Signed (pos 0) (pos 65535))
+
+-- what names two configurations between which a way is looked for
+abbrev pub between_sides : App
+between_sides = with_rule (with_rule (over_trace (codes "migrate")) (optional (codes "from") beginning)) (optional (codes "to") NonEmptyString)
+
+-- and what says which
+abbrev pub by_wants : App
+by_wants = with_rule (with_rule (with_rule between_sides (flag (codes "leave"))) identifier) (flag (codes "no-ties"))
+
+abbrev pub migrate : App
+migrate = with_rule by_wants json
+
 -- what says how a history is judged
 abbrev pub by_settings : App
 by_settings =
@@ -290,10 +305,6 @@ by_frames = with_rule (with_rule by_wishes coverage) least
 
 abbrev pub judge : App
 judge = with_rule (with_rule by_frames json) history
-
--- the identifier of the first message
-abbrev pub identifier : Rule
-identifier = optional (codes "id") (Signed (pos 0) (pos 65535))
 
 -- a file with a text in words, which may be left out
 abbrev pub text : Rule
@@ -348,7 +359,8 @@ with_pictures app = with_subcommand (with_subcommand app lint.top) graph.top
 
 -- what says what becomes of every frame
 abbrev pub with_frames : App → App
-with_frames app = with_subcommand (with_subcommand (with_subcommand (with_subcommand app cover.top) diff.top) hitless.top) expect.top
+with_frames app =
+    with_subcommand (with_subcommand (with_subcommand (with_subcommand (with_subcommand app cover.top) diff.top) hitless.top) expect.top) migrate.top
 
 abbrev pub onuctl : App
 onuctl = with_frames (with_pictures (with_captures (with_looking (with_doing alone))))

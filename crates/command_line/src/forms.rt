@@ -25,6 +25,7 @@ const OVER_FILES: &[(&str, &str)] = &[
     ("diff", TRACE),
     ("hitless", TRACE),
     ("expect", TRACE),
+    ("migrate", TRACE),
 ];
 
 /// What becomes of a word.

@@ -16,6 +16,7 @@ mod hitless;
 mod judge;
 mod lint;
 mod mib;
+mod migrate;
 mod record;
 mod replay;
 mod rules;
@@ -64,7 +65,8 @@ pub fn onuctl<'a>(alloc: Global) -> Result<Command<'a>, AllocError>
     let covering = with_sub(drawing, cover::cover(alloc));
     let comparing = with_sub(covering, diff::diff(alloc));
     let watching = with_sub(comparing, hitless::hitless(alloc));
-    with_sub(watching, expect::expect(alloc))
+    let expecting = with_sub(watching, expect::expect(alloc));
+    with_sub(expecting, migrate::migrate(alloc))
 }
 
 /// The command of this name alone, or the program where there is none.
@@ -86,6 +88,7 @@ pub fn named<'a>(alloc: Global, name: &str) -> Result<Command<'a>, AllocError> {
         "diff" => diff::diff(alloc),
         "hitless" => hitless::hitless(alloc),
         "expect" => expect::expect(alloc),
+        "migrate" => migrate::migrate(alloc),
         _ => onuctl(alloc),
     }
 }

@@ -19,17 +19,26 @@ sides_same None (Some other) same from until are = absurd (cc)
 sides_same (Some one) None same from until are = absurd (cc)
 
 module _ (f : Found) where
+  -- what is read names no two configurations, so nothing that is asked does
+  pub sides_apart : (to asked : Option (Bor Text)) (from wanted until last : Option ℕ)
+      → first_of (codes "to") (rows_of f) ≡ option_map (λ (name : Bor Text). name.now) to
+      → IsOptionalNumber (codes "from") (rows_of f) from → IsOptionalNumber (codes "until") (rows_of f) until → (AreSides to from until → ⊥)
+      → first_of (codes "to") (rows_of f) ≡ option_map (λ (name : Bor Text). name.now) asked
+      → IsOptionalNumber (codes "from") (rows_of f) wanted → IsOptionalNumber (codes "until") (rows_of f) last → AreSides asked wanted last → ⊥
+  sides_apart to asked from wanted until last read_to read_from read_until none asked_to asked_from asked_until are =
+      let same_to : option_map (λ (name : Bor Text). name.now) asked ≡ option_map (λ (name : Bor Text). name.now) to = sym asked_to ∙ read_to in
+      let same_from = option_same (codes "from") (rows_of f) wanted from asked_from read_from in
+      let same_until = option_same (codes "until") (rows_of f) last until asked_until read_until in
+      let with_to = sides_same asked to same_to wanted last are in
+      let with_from = subst (λ (n : Option ℕ). AreSides to n last) same_from with_to in
+      none (subst (λ (n : Option ℕ). AreSides to from n) same_until with_from)
+
   pub sides_unread : (to : Option (Bor Text)) (from until : Option ℕ)
       → first_of (codes "to") (rows_of f) ≡ option_map (λ (name : Bor Text). name.now) to
       → IsOptionalNumber (codes "from") (rows_of f) from → IsOptionalNumber (codes "until") (rows_of f) until → (AreSides to from until → ⊥)
       → (words : DiffWords) → IsDiff (rows_of f) words → IsLine words.from → IsShort words.port → IsShort words.least → IsLine words.trace.until → ⊥
   sides_unread to from until read_to read_from read_until none words is line port least last =
-      let same_to : option_map (λ (name : Bor Text). name.now) words.to ≡ option_map (λ (name : Bor Text). name.now) to = sym is.to ∙ read_to in
-      let same_from = option_same (codes "from") (rows_of f) words.from from is.from read_from in
-      let same_until = option_same (codes "until") (rows_of f) words.trace.until until is.trace.until read_until in
-      let with_to = sides_same words.to to same_to words.from words.trace.until is.sides in
-      let with_from = subst (λ (n : Option ℕ). AreSides to n words.trace.until) same_from with_to in
-      none (subst (λ (n : Option ℕ). AreSides to from n) same_until with_from)
+      sides_apart to words.to from words.from until words.trace.until read_to read_from read_until none is.to is.from is.trace.until is.sides
 
   pub behind_unread : (from : ℕ) (until : Option ℕ) → IsNumber (codes "from") (rows_of f) from → IsOptionalNumber (codes "until") (rows_of f) until
       → (IsNotBehind until from → ⊥)

@@ -22,11 +22,12 @@ use Rattle.command_words.specs.declared.words.CoverWords.{CoverWords}
 use Rattle.command_words.specs.declared.words.DiffWords.{DiffWords}
 use Rattle.command_words.specs.declared.words.HitlessWords.{HitlessWords}
 use Rattle.command_words.specs.declared.expecting.ExpectWords.{ExpectWords}
+use Rattle.command_words.specs.declared.migrating.MigrateWords.{MigrateWords}
 use Rattle.command_words.specs.declared.words.GraphWords.{GraphWords}
 use Rattle.command_words.specs.declared.words.DecodeWords.{DecodeWords}
 use Rattle.command_words.specs.declared.words.EncodeWords.{EncodeWords}
 use Rattle.command_words.specs.declared.words.Words.{Words}
-use Rattle.command_words.specs.declared.words.Words.TheVariants.{Replay, Run, Decode, Mib, Rules, Explain, Judge, Forward, Record, Encode, Lint, Graph, Cover, Diff, Hitless, Expect}
+use Rattle.command_words.specs.declared.words.Words.TheVariants.{Replay, Run, Decode, Mib, Rules, Explain, Judge, Forward, Record, Encode, Lint, Graph, Cover, Diff, Hitless, Expect, Migrate}
 
 -- the value of an option is a number in decimal digits
 pub record IsNumber (name : Text) (rows : List Row) (n : ℕ) : Type 0 where
@@ -269,6 +270,17 @@ pub record IsExpect (rows : List Row) (words : ExpectWords) : Type 0 where
   pub least : IsOptionalNumber (codes "least") rows words.least
   pub json : IsFlag (codes "json") rows words.json
 
+-- those behind `migrate`
+pub record IsMigrate (rows : List Row) (words : MigrateWords) : Type 0 where
+  pub trace : IsTrace rows words.trace
+  pub from : IsOptionalNumber (codes "from") rows words.from
+  pub to : first_of (codes "to") rows ≡ option_map (λ (name : _). name.now) words.to
+  pub sides : AreSides words.to words.from words.trace.until
+  pub leave : IsFlag (codes "leave") rows words.leave
+  pub identifier : IsOptionalNumber (codes "id") rows words.identifier
+  pub no_ties : IsFlag (codes "no-ties") rows words.no_ties
+  pub json : IsFlag (codes "json") rows words.json
+
 -- those behind `encode`
 pub record IsEncode (rows : List Row) (words : EncodeWords) : Type 0 where
   pub file : first_of (codes "text") rows ≡ option_map (λ (name : _). name.now) words.file
@@ -293,6 +305,7 @@ IsAskedBy (Some (name, rows)) (Cover words) = (name ≡ codes "cover") × IsCove
 IsAskedBy (Some (name, rows)) (Diff words) = (name ≡ codes "diff") × IsDiff rows words
 IsAskedBy (Some (name, rows)) (Hitless words) = (name ≡ codes "hitless") × IsHitless rows words
 IsAskedBy (Some (name, rows)) (Expect words) = (name ≡ codes "expect") × IsExpect rows words
+IsAskedBy (Some (name, rows)) (Migrate words) = (name ≡ codes "migrate") × IsMigrate rows words
 
 -- all but what names files or options several times
 abbrev pub HasNoList : Words → Type 0
@@ -312,6 +325,7 @@ HasNoList (Cover words) = Unit {0}
 HasNoList (Diff words) = Unit {0}
 HasNoList (Hitless words) = Unit {0}
 HasNoList (Expect words) = Unit {0}
+HasNoList (Migrate words) = Unit {0}
 
 -- what shows where the frames of a port go
 abbrev pub IsLook : Words → Type 0
@@ -331,3 +345,4 @@ IsLook (Cover words) = Unit {0}
 IsLook (Diff words) = Unit {0}
 IsLook (Hitless words) = Unit {0}
 IsLook (Expect words) = Unit {0}
+IsLook (Migrate words) = Unit {0}

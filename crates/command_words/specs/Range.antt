@@ -3,7 +3,7 @@ use Rattle.std.specs.Prelude.{◌≤◌, ℕ, Option, IfSome}
 use Rattle.run_settings.specs.Settings.{CanRun}
 use Rattle.run_settings.specs.declared.settings.RunSettings.{RunSettings}
 use Rattle.command_words.specs.declared.words.Words.{Words}
-use Rattle.command_words.specs.declared.words.Words.TheVariants.{Replay, Run, Decode, Mib, Rules, Explain, Judge, Forward, Record, Encode, Lint, Graph, Cover, Diff, Hitless, Expect}
+use Rattle.command_words.specs.declared.words.Words.TheVariants.{Replay, Run, Decode, Mib, Rules, Explain, Judge, Forward, Record, Encode, Lint, Graph, Cover, Diff, Hitless, Expect, Migrate}
 use Rattle.command_words.specs.declared.words.FrameWords.{FrameWords}
 use Rattle.command_words.specs.declared.words.FrameWords.TheVariants.{Bytes, Captured}
 
@@ -43,3 +43,4 @@ IsInRange (Cover words) = IsShort words.port × IsShort words.least × IsLine wo
 IsInRange (Diff words) = IsLine words.from × IsShort words.port × IsShort words.least × IsLine words.trace.until
 IsInRange (Hitless words) = (words.from ≤ 4294967295) × IsShort words.port × IsShort words.least × IsLine words.trace.until
 IsInRange (Expect words) = IsLine words.from × IsShort words.least × IsLine words.trace.until
+IsInRange (Migrate words) = IsLine words.from × IsShort words.identifier × IsLine words.trace.until

@@ -2,6 +2,7 @@
 #![tactic(auto)]
 
 mod expecting;
+mod migrating;
 mod numbered;
 mod reading;
 mod report;
@@ -9,6 +10,7 @@ mod skewed;
 mod words;
 
 pub use expecting::ExpectWords;
+pub use migrating::MigrateWords;
 pub use numbered::{LeftBy, LeftFile, NumberedFile, read_left, read_numbered, read_tpid};
 pub use reading::{complaint, read_matches};
 pub use report::report_words;

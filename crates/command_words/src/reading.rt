@@ -22,6 +22,7 @@ ghost use Rattle.command_words.specs.declared.words.TracesWords.{TracesWords};
 ghost use Rattle.command_words.specs.Range.{AreInRange, IsFrameInRange, IsShort, IsInRange, IsLine};
 
 use crate::expecting::read_expect;
+use crate::migrating::read_migrate;
 use crate::words::{
     CoverWords, DecodeWords, DiffWords, EncodeWords, ExplainWords, ForwardWords, FrameWords,
     GraphWords, HitlessWords, JudgeWords, LintWords, MibWords, RecordWords, ReplayWords,
@@ -187,7 +188,7 @@ pub(crate) fn is_not_behind(until: Option<u32>, from: u32) -> bool
 
 /// Whether two configurations are named: by a trace of its own for the one after; or by a line of the only trace for the one before, which
 /// isn't behind that for the one after.
-fn are_sides(to: Option<&str>, from: Option<u32>, until: Option<u32>) -> bool
+pub(crate) fn are_sides(to: Option<&str>, from: Option<u32>, until: Option<u32>) -> bool
     ensures yes { result ≡ true → AreSides to.entry from until }
     ensures no { result ≡ false → AreSides to.entry from until → ⊥ }
 {
@@ -561,6 +562,9 @@ fn read_look<'a>(matches: &ArgMatches<'a>) -> Option<Words<'a>>
     if let Some(given) = matches.subcommand_matches("expect") {
         return Some(Words::Expect(read_expect(given)?));
     }
+    if let Some(given) = matches.subcommand_matches("migrate") {
+        return Some(Words::Migrate(read_migrate(given)?));
+    }
     let given = matches.subcommand_matches("graph")?;
     Some(Words::Graph(read_graph(given)?))
 }
@@ -646,7 +650,7 @@ fn has_no_trace(given: &ArgMatches<'_>) -> bool {
 /// What is said of a line that stands behind the one that ends.
 const BEHIND: &str = "the line of --from is behind that of --until";
 
-/// What is said of the words of `diff` that name no two configurations.
+/// What is said of the words of `diff` or `migrate` that name no two configurations.
 fn sides_complaint(given: &ArgMatches<'_>) -> &'static str {
     if given.get_str("from").is_some() {
         BEHIND
@@ -669,6 +673,9 @@ fn judge_complaint(given: &ArgMatches<'_>) -> &'static str {
 /// What is said where clap takes words that ask for nothing, of all but `explain`.
 fn others_complaint(matches: &ArgMatches<'_>) -> &'static str {
     if let Some(given) = matches.subcommand_matches("diff") {
+        return sides_complaint(given);
+    }
+    if let Some(given) = matches.subcommand_matches("migrate") {
         return sides_complaint(given);
     }
     if matches.subcommand_matches("hitless").is_some()

@@ -1,5 +1,6 @@
 //! What the words of a command line ask for.
 use crate::expecting::ExpectWords;
+use crate::migrating::MigrateWords;
 use run_settings::RunSettings;
 
 /// What the words of the command line ask for. The names of files lie in the words.
@@ -37,6 +38,8 @@ pub enum Words<'a> {
     Hitless(HitlessWords<'a>),
     /// Whether frames end as is expected.
     Expect(ExpectWords<'a>),
+    /// A way between two configurations on which no frame is torn.
+    Migrate(MigrateWords<'a>),
 }
 
 /// How `replay` is to answer.

@@ -1,5 +1,5 @@
 //! Which frames two configurations treat differently, written.
-use crate::sides::{Sides, sides_of};
+use crate::sides::{BothSides, sides_of};
 use command_words::DiffWords;
 use commands_files::report_text;
 use script_trace::Applied;
@@ -23,7 +23,7 @@ fn traced(applied: &Applied) -> Traced<'_> {
 fn write_sides<W: Write>(
     alloc: Global,
     words: &DiffWords<'_>,
-    sides: &Sides,
+    sides: &BothSides,
     writer: &mut W,
 ) -> Result<bool, TextFault> {
     let frames = Frames {

@@ -10,3 +10,4 @@ mod sides;
 
 pub use comparing::diff;
 pub use moments::hitless;
+pub use sides::{BothSides, sides_of};

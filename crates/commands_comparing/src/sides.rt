@@ -9,9 +9,9 @@ use text_writing::Status;
 
 /// What two traces left, or one trace at two moments.
 #[derive(Drop)]
-pub(crate) struct Sides {
-    pub(crate) before: Applied,
-    pub(crate) after: Applied,
+pub struct BothSides {
+    pub before: Applied,
+    pub after: Applied,
 }
 
 /// What a trace left at two moments, or the status where it can't be had.
@@ -19,14 +19,14 @@ fn of_moments<R: Files + Alloc<A = Global>, E: Write>(
     rt: &R,
     words: &DiffWords<'_>,
     err: &mut E,
-) -> Result<Sides, Status> {
+) -> Result<BothSides, Status> {
     let Linted { script, applied } = apply_kept(rt, &words.trace, err)?;
     if let Some(from) = words.from {
         report_short(&script, words.trace.file, "--from", from, err);
     }
     let line = words.from.or(words.trace.until).map(u64::from);
     match apply_script(rt.alloc(), &script, line) {
-        Ok(before) => Ok(Sides {
+        Ok(before) => Ok(BothSides {
             before,
             after: applied,
         }),
@@ -41,7 +41,7 @@ fn of_traces<R: Files + Alloc<A = Global>, E: Write>(
     words: &DiffWords<'_>,
     to: &str,
     err: &mut E,
-) -> Result<Sides, Status> {
+) -> Result<BothSides, Status> {
     refuse_twice(&[words.trace.file, to], err)?;
     let before = TraceWords {
         file: words.trace.file,
@@ -53,18 +53,18 @@ fn of_traces<R: Files + Alloc<A = Global>, E: Write>(
         until: words.trace.until,
         strict: words.trace.strict,
     };
-    Ok(Sides {
+    Ok(BothSides {
         before: apply_named(rt, &before, "--from", err)?,
         after: apply_named(rt, &after, "--until", err)?,
     })
 }
 
 /// The two configurations that the words of `diff` name, or the status where one can't be had; why is written to `err`.
-pub(crate) fn sides_of<R: Files + Alloc<A = Global>, E: Write>(
+pub fn sides_of<R: Files + Alloc<A = Global>, E: Write>(
     rt: &R,
     words: &DiffWords<'_>,
     err: &mut E,
-) -> Result<Sides, Status> {
+) -> Result<BothSides, Status> {
     match words.to {
         Some(to) => of_traces(rt, words, to, err),
         None => of_moments(rt, words, err),

@@ -90,11 +90,33 @@ fn put_findings(text: &mut String) -> Result<(), AllocError> {
     put_kinds(text)
 }
 
+/// When the program ends with a status, in words.
+fn words_of(status: Status) -> &'static str {
+    match status {
+        Status::Done => {
+            "all is written; judge explained the whole history, lint found nothing as severe as --fail-on, diff no difference, hitless no torn moment, expect nothing that doesn't hold, and migrate a way"
+        }
+        Status::Failed => {
+            "the words are wrong, a read or a write failed, or there is no memory or no room"
+        }
+        Status::Bad => {
+            "a line, a text or a capture is bad, or --strict met a message that wasn't carried out"
+        }
+        Status::Found => {
+            "judge found a deviation, lint something as severe as --fail-on, diff a difference, hitless a torn moment, or expect what doesn't hold, and all is written; or migrate found no way"
+        }
+        Status::Undecided => {
+            "judge found no deviation, but the history may be cut, or nothing of it was judged; all is written"
+        }
+        Status::Unread => "nobody reads standard output any more",
+    }
+}
+
 /// Puts the statuses.
 fn put_statuses(text: &mut String) -> Result<(), AllocError> {
     text.push_str("The status with which the program ends\n")?;
     for status in &Status::ALL {
-        let (number, words) = (status.code(), status.words());
+        let (number, words) = (status.code(), words_of(*status));
         writeln!(text, "  {number}  {words}")?;
     }
     Ok(())

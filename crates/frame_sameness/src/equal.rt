@@ -46,8 +46,8 @@ fn is_same_ask(one: &Ask, other: &Ask) -> bool
     one == other
 }
 
-/// Whether the same is asked of each field.
-fn are_same_asks(asks: &[Ask], others: &[Ask]) -> bool
+/// Whether the same is asked of each field, in the same order: true only where the two lists are one.
+pub fn are_same_asks(asks: &[Ask], others: &[Ask]) -> bool
     ensures { result ≡ true → asks.now ≡ others.now }
 {
     if asks.len() != others.len() {
@@ -61,8 +61,8 @@ fn are_same_asks(asks: &[Ask], others: &[Ask]) -> bool
     true
 }
 
-/// Whether a row is another.
-fn is_same_row(one: &Row, other: &Row) -> bool
+/// Whether a row is another: true only where all of it is, what it is used as and its tags among it.
+pub fn is_same_row(one: &Row, other: &Row) -> bool
     ensures { result ≡ true → one.now ≡ other.now }
 {
     (one.used == other.used && one.tags == other.tags)

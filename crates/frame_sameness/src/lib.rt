@@ -7,4 +7,5 @@
 mod equal;
 mod sameness;
 
+pub use equal::{are_same_asks, is_same_row};
 pub use sameness::are_same;

@@ -11,10 +11,11 @@ ghost use Rattle.migration_check.specs.Following.{ChangedAreWhole, IsFollowed, I
 ghost use Rattle.migration_check.specs.Migration.{IsHitlessAt};
 ghost use Rattle.migration_check.specs.Telling.{Tells};
 
-use crate::equal::{are_asked_alike, is_same_row};
+use crate::equal::are_asked_alike;
 use crate::hitless::is_hitless_at;
 use frame_classes::{Use, torn_by};
 use frame_rows::{Row, Rows};
+use frame_sameness::is_same_row;
 use mib_state::Mib;
 use std::alloc::{AllocError, Global};
 

@@ -9,6 +9,7 @@ use commands_expecting::expect;
 use commands_files::Unread;
 use commands_judging::judge_history;
 use commands_looking::{draw_graph, explain_frame, lint, show_mib, show_rules};
+use commands_migrating::migrate;
 use commands_recording::record;
 use commands_running::run;
 use commands_scripts::{decode_script, encode_text, replay_script, show_topic, topic_of};
@@ -74,6 +75,7 @@ fn obey<
         Words::Diff(words) => diff(rt, words, out, err),
         Words::Hitless(words) => hitless(rt, words, out, err),
         Words::Expect(words) => expect(rt, words, input, out, err),
+        Words::Migrate(words) => migrate(rt, words, out, err),
     }
 }
 

@@ -9,7 +9,7 @@ pub enum Status {
     Failed,
     /// A line, a text or a capture is bad, or `--strict` met a message that wasn't carried out.
     Bad,
-    /// `judge`, `lint`, `diff`, `hitless` or `expect` found what they look for: a deviation, say. All is written.
+    /// A command found what it looks for, a deviation or a difference, say, and all is written; or it found nothing of what it was to find.
     Found,
     /// `judge` found no deviation, but the history may be cut, or nothing of it was judged. All is written.
     Undecided,
@@ -58,28 +58,6 @@ impl Status {
             4 => Status::Undecided,
             141 => Status::Unread,
             _ => Status::Failed,
-        }
-    }
-
-    /// When the program ends so, in words.
-    pub fn words(self) -> &'static str {
-        match self {
-            Status::Done => {
-                "all is written; judge explained the whole history, lint found nothing as severe as --fail-on, diff no difference, hitless no torn moment, and expect nothing that doesn't hold"
-            }
-            Status::Failed => {
-                "the words are wrong, a read or a write failed, or there is no memory or no room"
-            }
-            Status::Bad => {
-                "a line, a text or a capture is bad, or --strict met a message that wasn't carried out"
-            }
-            Status::Found => {
-                "judge found a deviation, lint something as severe as --fail-on, diff a difference, hitless a torn moment, or expect what doesn't hold; all is written"
-            }
-            Status::Undecided => {
-                "judge found no deviation, but the history may be cut, or nothing of it was judged; all is written"
-            }
-            Status::Unread => "nobody reads standard output any more",
         }
     }
 }

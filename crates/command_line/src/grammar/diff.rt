@@ -10,7 +10,7 @@ use clap::{Arg, Command, value_parser};
 use std::alloc::{AllocError, Global};
 
 /// The line behind which the configuration before stands.
-fn from<'a>(alloc: Global) -> Arg<'a>
+pub(super) fn from<'a>(alloc: Global) -> Arg<'a>
     ensures rule { rule_of result ≡ optional (codes "from") beginning }
     ensures local { result.global ≡ false }
 {
@@ -25,7 +25,7 @@ fn from<'a>(alloc: Global) -> Arg<'a>
 }
 
 /// The trace of the configuration after.
-fn to<'a>(alloc: Global) -> Arg<'a>
+pub(super) fn to<'a>(alloc: Global) -> Arg<'a>
     ensures rule { rule_of result ≡ optional (codes "to") NonEmptyString }
     ensures local { result.global ≡ false }
 {

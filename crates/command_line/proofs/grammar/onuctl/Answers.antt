@@ -19,4 +19,5 @@ returns c =
     let covering = c.with_sub-covering.ensures _ _ drawing c.cover.ensures in
     let comparing = c.with_sub-comparing.ensures _ _ covering c.diff.ensures in
     let watching = c.with_sub-watching.ensures _ _ comparing c.hitless.ensures in
-    c.with_sub.ensures _ _ watching c.expect.ensures
+    let expecting = c.with_sub-expecting.ensures _ _ watching c.expect.ensures in
+    c.with_sub.ensures _ _ expecting c.migrate.ensures

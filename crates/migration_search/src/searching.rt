@@ -1,0 +1,122 @@
+//! The ways, one after the other.
+ghost use Rattle.std.specs.Prelude.{IfOk};
+ghost use Rattle.mib_state.specs.After.{after};
+ghost use Rattle.migration_search.specs.Found.{IsFound};
+
+use crate::found::{Found, Way};
+use migration_asides::{make_chain_aside, make_mapper_aside, make_table_aside};
+use migration_check::{Wanted, is_migration};
+use migration_draft::{Draft, Sides};
+use migration_steps::{Came, Splitting, find_understudy, finish, force, least_of};
+use omci_msg::Request;
+use std::alloc::{AllocError, Global};
+
+/// How often understudies help where nothing may be next: there are no more entries that move.
+const MOST_UNDERSTUDIES: u32 = 300;
+
+/// How often another way helps.
+const MOST_ASIDES: u32 = 2;
+
+impl Way {
+    /// All ways, in the order in which they are tried.
+    const ALL: [Way; 6] = [
+        Way::InPlace,
+        Way::Understudy,
+        Way::ChainAside,
+        Way::MapperAside,
+        Way::TableAside,
+        Way::BothAside,
+    ];
+
+    /// How often it helps where nothing may be next.
+    fn most_helps(self) -> u32 {
+        match self {
+            Way::InPlace => 1,
+            Way::Understudy => MOST_UNDERSTUDIES,
+            _ => MOST_ASIDES,
+        }
+    }
+
+    /// Whether it lets two mappers, or two tables, name one port.
+    fn ties(self) -> bool {
+        matches!(self, Way::MapperAside | Way::TableAside | Way::BothAside)
+    }
+
+    /// Helps a draft on where nothing may be next, and gives whether it did.
+    fn help(self, draft: &mut Draft<'_>) -> Result<bool, AllocError> {
+        match self {
+            Way::InPlace => Ok(false),
+            Way::Understudy => find_understudy(draft),
+            Way::ChainAside => make_chain_aside(draft),
+            Way::MapperAside => make_mapper_aside(draft, false),
+            Way::TableAside => make_table_aside(draft),
+            Way::BothAside => make_mapper_aside(draft, true),
+        }
+    }
+}
+
+/// Requests that lead to the goal by a way, if it finds some.
+fn by_way(alloc: Global, sides: Sides<'_>, way: Way) -> Result<Option<Vec<Request>>, AllocError> {
+    let mut draft = Draft::new(alloc, sides)?;
+    for _ in 0..=way.most_helps() {
+        if finish(&mut draft, Splitting::Whole)? == Came::Through {
+            return Ok(Some(least_of(draft)?));
+        }
+        if !way.help(&mut draft)? {
+            break;
+        }
+    }
+    match finish(&mut draft, Splitting::ByAttributes)? {
+        Came::Through => Ok(Some(least_of(draft)?)),
+        Came::Stuck => Ok(None),
+    }
+}
+
+/// The requests, numbered one after the other.
+fn numbered(alloc: Global, requests: &[Request], first: u16) -> Result<Vec<Request>, AllocError> {
+    let mut list = Vec::with_capacity(alloc, requests.len())?;
+    let mut identifier = first;
+    for request in requests {
+        let mut each = *request;
+        each.tci = identifier;
+        identifier = identifier.wrapping_add(1);
+        list.push(each)?;
+    }
+    Ok(list)
+}
+
+/// What is done in place, whatever is torn on the way.
+fn forced(alloc: Global, sides: Sides<'_>) -> Result<Vec<Request>, AllocError> {
+    let mut draft = Draft::new(alloc, sides)?;
+    finish(&mut draft, Splitting::Whole)?;
+    force(&mut draft)?;
+    numbered(alloc, &draft.plan, sides.identifier)
+}
+
+/// Looks for a way from one configuration to another on which no frame is torn. What is found is a migration (migration_check): each request is accepted in
+/// its turn, they lead to the goal, and no configuration between is torn for any frame at any port. Where none is found there may be one all the same.
+/// Err only where memory is refused.
+pub fn migrate(alloc: Global, sides: &Sides<'_>) -> Result<Found, AllocError>
+    ensures { IfOk result (IsFound sides.now.aim (after sides.now.earlier.now)
+        sides.now.goal.now.entities) }
+{
+    for way in Way::ALL {
+        if way.ties() && !sides.ties {
+            continue;
+        }
+        let Some(requests) = by_way(alloc, *sides, way)? else {
+            continue;
+        };
+        let requests = numbered(alloc, &requests, sides.identifier)?;
+        let wanted = Wanted {
+            goal: sides.goal,
+            aim: sides.aim,
+        };
+        let is_way = is_migration(alloc, sides.earlier, &requests, &wanted)?;
+        if is_way {
+            return Ok(Found::Migration(requests, way));
+        }
+    }
+    let nearest = forced(alloc, *sides)?;
+    Ok(Found::NoWay(nearest))
+}
