@@ -68,7 +68,7 @@ pub(crate) fn take_aside(
 }
 
 /// Whether a pointer of a mapper leads to the same here as in the goal: to an interworking point and a GEM port of the same attributes.
-fn is_chain_there(draft: &Draft<'_>, pointer: u16) -> bool {
+pub(crate) fn is_chain_there(draft: &Draft<'_>, pointer: u16) -> bool {
     let (here, goal) = (&draft.here, draft.sides.goal);
     match (here.interwork(pointer), goal.interwork(pointer)) {
         (Some(held), Some(wanted)) => {
@@ -237,6 +237,21 @@ pub(crate) fn ports_of(draft: &Draft<'_>) -> Result<Vec<u16>, AllocError> {
     ports.sort_unstable();
     ports.dedup();
     Ok(ports)
+}
+
+/// Whether a port's table has the settings and the entries of the goal's already, or neither has one.
+pub(crate) fn is_table_there(draft: &Draft<'_>, port: u16) -> Result<bool, AllocError> {
+    match (
+        table_at(&draft.here, port),
+        table_at(draft.sides.goal, port),
+    ) {
+        (Some(held), Some(wanted)) => {
+            let left = changed_entries(draft.alloc, 0, &held.table, &wanted.table, &[])?;
+            Ok(held.settings == wanted.settings && left.is_empty())
+        }
+        (None, None) => Ok(true),
+        _ => Ok(false),
+    }
 }
 
 /// Whether frames are seen otherwise at a port here than in the goal.

@@ -28,6 +28,13 @@ fn at_port(draft: &mut Draft<'_>, port: u16) -> Result<bool, AllocError> {
     let Some(pointers) = chains_for(draft, wanted)? else {
         return Ok(false);
     };
+    let is_there = draft
+        .here
+        .mapper(number)
+        .is_some_and(|held| held.interwork_tp_pointers == pointers);
+    if is_there {
+        return Ok(false);
+    }
     let mut values: ArrayVec<u8, 16> = ArrayVec::new();
     for pointer in &pointers {
         put(&mut values, &pointer.to_be_bytes());

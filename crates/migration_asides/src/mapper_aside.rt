@@ -5,13 +5,14 @@
 //! a lesser number than the one in force. That is then changed out of force, and is in force again when the new one is deleted.
 //! **What it takes of a unit.** A free number, and that of two mappers that name one port the one of least number is in force.
 use crate::aside::{
-    chains_for, differs_at, free_below, free_number, is_zero, ports_of, set_mapping, table_aside,
-    table_at, take_aside,
+    chains_for, differs_at, free_below, free_number, is_chain_there, is_table_there, is_zero,
+    ports_of, set_mapping, table_aside, table_at, take_aside,
 };
 use arrayvec::ArrayVec;
 use managed_entity::Class;
 use mib_state::{ASSOCIATION_MAPPER, ASSOCIATION_UNI, TP_TYPE_UNI};
 use migration_draft::{Draft, MOST_INSTANCES, OUT_OF_FORCE, UNATTACHED, create_mapper, put, set};
+use pmapper::Mapper;
 use std::alloc::AllocError;
 
 /// The mask of a mapper's TP pointer and TP type.
@@ -65,6 +66,19 @@ pub(crate) fn attach_table(
     draft.take(&set(Class::Vlan, number, ASSOCIATED, &values))
 }
 
+/// Whether the mapper in force at a port is as in the goal already, and so is what it leads to.
+fn is_mapper_there(draft: &Draft<'_>, port: u16, wanted: &Mapper) -> bool {
+    let here = &draft.here;
+    let held = here
+        .mapper_of_port(port)
+        .and_then(|number| here.mapper(number));
+    let mut are_there = held.is_some_and(|held| *held == *wanted);
+    for pointer in &wanted.interwork_tp_pointers {
+        are_there = are_there && is_chain_there(draft, *pointer);
+    }
+    are_there
+}
+
 /// Puts the mapper of the goal in force at a port, under a free number; and its table with it, where the table has to change too.
 fn at_port(draft: &mut Draft<'_>, port: u16, with_table: bool) -> Result<bool, AllocError> {
     let goal = draft.sides.goal;
@@ -74,6 +88,9 @@ fn at_port(draft: &mut Draft<'_>, port: u16, with_table: bool) -> Result<bool, A
     else {
         return Ok(false);
     };
+    if is_mapper_there(draft, port, wanted) || with_table && is_table_there(draft, port)? {
+        return Ok(false);
+    }
     let Some(number) = number_for(draft, port) else {
         return Ok(false);
     };

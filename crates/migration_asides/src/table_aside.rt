@@ -6,7 +6,7 @@
 //! again when the new one is deleted.
 //! **What it takes of a unit.** A free number, and that of two tables that name one port the one of least number is in force.
 use crate::aside::{
-    differs_at, free_below, free_number, ports_of, table_aside as make_aside, table_at,
+    free_below, free_number, is_table_there, ports_of, table_aside as make_aside, table_at,
 };
 use crate::mapper_aside::attach_table;
 use managed_entity::Class;
@@ -44,12 +44,12 @@ fn has_entries_left(draft: &Draft<'_>, port: u16) -> Result<bool, AllocError> {
     Ok(!left.is_empty())
 }
 
-/// Does so at the ports where frames are seen otherwise than in the goal, or entries of the table are still to be changed.
+/// Does so at the ports whose table isn't that of the goal yet.
 pub fn make_table_aside(draft: &mut Draft<'_>) -> Result<bool, AllocError> {
     let mut is_done = false;
     for port in &ports_of(draft)? {
         let (count, temporaries) = (draft.plan.len(), draft.temporaries.len());
-        let is_left = differs_at(draft, *port)? || has_entries_left(draft, *port)?;
+        let is_left = !is_table_there(draft, *port)? || has_entries_left(draft, *port)?;
         if !is_left {
             continue;
         }

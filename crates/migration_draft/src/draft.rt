@@ -12,8 +12,24 @@ use std::alloc::{AllocError, Global};
 /// More instances than a unit holds of a class.
 pub const MOST_INSTANCES: usize = 256;
 
-/// How often a draft may be torn before it is given up: another way may find more.
+/// How much may be looked at in vain before a draft is given up, where another way may find more; and where the ways aside are left out.
 const MOST_TEARS: u32 = 200;
+
+const MOST_TEARS_WITHOUT_TIES: u32 = 4000;
+
+/// What a look in vain counts: where an entry comes or goes, all frames of a port are looked at, and else those of the entry alone.
+const ALL_FRAMES: u32 = 8;
+
+const SOME_FRAMES: u32 = 1;
+
+/// How many entries the table of a request has, if it names one.
+fn count_entries(mib: &Mib, request: &Request) -> usize {
+    if request.class != Class::Vlan.number() {
+        return 0;
+    }
+    mib.vlan(request.instance)
+        .map_or(0, |vlan| vlan.table.len())
+}
 
 /// Requests that were taken, one after the other, and what they lead to. None of the configurations on the way is torn.
 #[derive(Drop)]
@@ -28,7 +44,7 @@ pub struct Draft<'a> {
     pub temporaries: Vec<Temporary>,
     /// What ports did with frames behind the plan, or behind a part of it.
     watched: Vec<Watched>,
-    /// How often it was torn.
+    /// How much was looked at in vain.
     tears: u32,
 }
 
@@ -46,6 +62,19 @@ impl<'a> Draft<'a> {
         })
     }
 
+    /// The requests of a plan that was tried before, of which each was taken. Err where memory is refused.
+    pub fn behind(
+        alloc: Global,
+        sides: Sides<'a>,
+        plan: &[Request],
+    ) -> Result<Draft<'a>, AllocError> {
+        let mut draft = Draft::new(alloc, sides)?;
+        for each in plan {
+            draft.force(each)?;
+        }
+        Ok(draft)
+    }
+
     /// Goes back to what the requests of the plan lead to.
     fn restore(&mut self) -> Result<(), AllocError> {
         let mut here = entities_after(self.alloc, self.sides.earlier)?;
@@ -56,8 +85,18 @@ impl<'a> Draft<'a> {
         Ok(())
     }
 
-    /// Whether what is here may stand on the way.
-    fn may_stand(&mut self) -> Result<bool, AllocError> {
+    /// Whether so much was looked at in vain that nothing more is tried.
+    fn is_given_up(&self) -> bool {
+        let most = if self.sides.ties {
+            MOST_TEARS
+        } else {
+            MOST_TEARS_WITHOUT_TIES
+        };
+        self.tears > most
+    }
+
+    /// Whether what is here may stand on the way. Where it is torn, the look counts so much.
+    fn may_stand(&mut self, count: u32) -> Result<bool, AllocError> {
         let (before, goal) = (self.sides.before, self.sides.goal);
         if !self.sides.ties && has_tie(before, &self.here, goal) {
             return Ok(false);
@@ -68,7 +107,7 @@ impl<'a> Draft<'a> {
                 Ok(true)
             }
             None => {
-                self.tears = self.tears.saturating_add(1);
+                self.tears = self.tears.saturating_add(count);
                 Ok(false)
             }
         }
@@ -76,11 +115,17 @@ impl<'a> Draft<'a> {
 
     /// Takes a request into the plan, if it is accepted and what it leads to isn't torn. Err where memory is refused.
     pub fn take(&mut self, request: &Request) -> Result<bool, AllocError> {
-        if self.tears > MOST_TEARS || !self.here.accepts(request) {
+        if self.is_given_up() || !self.here.accepts(request) {
             return Ok(false);
         }
+        let held = count_entries(&self.here, request);
         let _ = self.here.carry_out(request);
-        if self.may_stand()? {
+        let count = if count_entries(&self.here, request) == held {
+            SOME_FRAMES
+        } else {
+            ALL_FRAMES
+        };
+        if self.may_stand(count)? {
             self.plan.push(*request)?;
             return Ok(true);
         }

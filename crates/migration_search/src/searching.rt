@@ -5,7 +5,7 @@ ghost use Rattle.migration_search.specs.Found.{IsFound};
 
 use crate::found::{Found, Way};
 use migration_asides::{make_chain_aside, make_mapper_aside, make_table_aside};
-use migration_check::{Wanted, is_migration};
+use migration_check::{Aim, Wanted, is_migration};
 use migration_draft::{Draft, Sides};
 use migration_steps::{Came, Splitting, find_understudy, finish, force, least_of};
 use omci_msg::Request;
@@ -31,7 +31,7 @@ impl Way {
     /// How often it helps where nothing may be next.
     fn most_helps(self) -> u32 {
         match self {
-            Way::InPlace => 1,
+            Way::InPlace => 0,
             Way::Understudy => MOST_UNDERSTUDIES,
             _ => MOST_ASIDES,
         }
@@ -55,21 +55,46 @@ impl Way {
     }
 }
 
-/// Requests that lead to the goal by a way, if it finds some.
-fn by_way(alloc: Global, sides: Sides<'_>, way: Way) -> Result<Option<Vec<Request>>, AllocError> {
-    let mut draft = Draft::new(alloc, sides)?;
-    for _ in 0..=way.most_helps() {
-        if finish(&mut draft, Splitting::Whole)? == Came::Through {
-            return Ok(Some(least_of(draft)?));
-        }
+/// Whether a draft leads to the goal as far as it came: where frames alone count, it may although something is left to do.
+fn is_enough(draft: &Draft<'_>) -> Result<bool, AllocError> {
+    let sides = draft.sides;
+    if sides.aim == Aim::Instances {
+        return Ok(false);
+    }
+    is_migration(draft.alloc, sides.earlier, &draft.plan, &sides.wanted())
+}
+
+/// The requests of a draft whose last steps are split, if it comes through.
+fn split(mut draft: Draft<'_>) -> Result<Option<Vec<Request>>, AllocError> {
+    let came = finish(&mut draft, Splitting::ByAttributes)?;
+    if came == Came::Through || is_enough(&draft)? {
+        return Ok(Some(least_of(draft)?));
+    }
+    Ok(None)
+}
+
+/// Requests that lead to the goal by a way, if it finds some. The first are those that may be taken in place, behind which it helps.
+fn by_way(
+    alloc: Global,
+    sides: Sides<'_>,
+    first: &[Request],
+    way: Way,
+) -> Result<Option<Vec<Request>>, AllocError> {
+    let mut draft = Draft::behind(alloc, sides, first)?;
+    let mut has_helped = way == Way::InPlace;
+    for _ in 0..way.most_helps() {
         if !way.help(&mut draft)? {
             break;
         }
+        has_helped = true;
+        if finish(&mut draft, Splitting::Whole)? == Came::Through {
+            return Ok(Some(least_of(draft)?));
+        }
     }
-    match finish(&mut draft, Splitting::ByAttributes)? {
-        Came::Through => Ok(Some(least_of(draft)?)),
-        Came::Stuck => Ok(None),
+    if has_helped {
+        return split(draft);
     }
+    Ok(None)
 }
 
 /// The requests, numbered one after the other.
@@ -86,11 +111,36 @@ fn numbered(alloc: Global, requests: &[Request], first: u16) -> Result<Vec<Reque
 }
 
 /// What is done in place, whatever is torn on the way.
-fn forced(alloc: Global, sides: Sides<'_>) -> Result<Vec<Request>, AllocError> {
-    let mut draft = Draft::new(alloc, sides)?;
-    finish(&mut draft, Splitting::Whole)?;
+fn forced(alloc: Global, sides: Sides<'_>, first: &[Request]) -> Result<Vec<Request>, AllocError> {
+    let mut draft = Draft::behind(alloc, sides, first)?;
     force(&mut draft)?;
     numbered(alloc, &draft.plan, sides.identifier)
+}
+
+/// What may be taken in place, and whether it leads to the goal.
+fn in_place(alloc: Global, sides: Sides<'_>) -> Result<(Vec<Request>, Came), AllocError> {
+    let mut draft = Draft::new(alloc, sides)?;
+    let came = finish(&mut draft, Splitting::Whole)?;
+    let first = if came == Came::Through {
+        least_of(draft)?
+    } else {
+        Vec::from_slice(alloc, &draft.plan)?
+    };
+    Ok((first, came))
+}
+
+/// Requests that lead to the goal by a way, if it finds some; in place the first ones, if they do.
+fn candidate(
+    alloc: Global,
+    sides: Sides<'_>,
+    first: &[Request],
+    came: Came,
+    way: Way,
+) -> Result<Option<Vec<Request>>, AllocError> {
+    if way == Way::InPlace && came == Came::Through {
+        return Ok(Some(Vec::from_slice(alloc, first)?));
+    }
+    by_way(alloc, sides, first, way)
 }
 
 /// Looks for a way from one configuration to another on which no frame is torn. What is found is a migration (migration_check): each request is accepted in
@@ -100,11 +150,12 @@ pub fn migrate(alloc: Global, sides: &Sides<'_>) -> Result<Found, AllocError>
     ensures { IfOk result (IsFound sides.now.aim (after sides.now.earlier.now)
         sides.now.goal.now.entities) }
 {
+    let (first, came) = in_place(alloc, *sides)?;
     for way in Way::ALL {
         if way.ties() && !sides.ties {
             continue;
         }
-        let Some(requests) = by_way(alloc, *sides, way)? else {
+        let Some(requests) = candidate(alloc, *sides, &first, came, way)? else {
             continue;
         };
         let requests = numbered(alloc, &requests, sides.identifier)?;
@@ -117,6 +168,6 @@ pub fn migrate(alloc: Global, sides: &Sides<'_>) -> Result<Found, AllocError>
             return Ok(Found::Migration(requests, way));
         }
     }
-    let nearest = forced(alloc, *sides)?;
+    let nearest = forced(alloc, *sides, &first)?;
     Ok(Found::NoWay(nearest))
 }
