@@ -1,7 +1,6 @@
 //! Free numbers, and instances that are made aside.
 use arrayvec::ArrayVec;
 use explain_findings::named_ports;
-use frame_classes::differences;
 use managed_entity::{Class, VlanConfig};
 use mib_state::Mib;
 use migration_draft::{
@@ -252,12 +251,6 @@ pub(crate) fn is_table_there(draft: &Draft<'_>, port: u16) -> Result<bool, Alloc
         (None, None) => Ok(true),
         _ => Ok(false),
     }
-}
-
-/// Whether frames are seen otherwise at a port here than in the goal.
-pub(crate) fn differs_at(draft: &Draft<'_>, port: u16) -> Result<bool, AllocError> {
-    let found = differences(draft.alloc, &draft.here, draft.sides.goal, port, 0)?;
-    Ok(!found.is_empty())
 }
 
 /// The table of a port, of some managed entities.

@@ -4,7 +4,7 @@
 //! **Why it is hitless.** No frame goes by a point to which no mapper points. One Set writes all eight pointers of the mapper (ITU-T G.988, 9.3.10), so
 //! every priority goes from the chain before to the one after at once. Then what the old pointers lead to may be changed, and be pointed to again.
 //! **What it takes of a unit.** Free numbers of both classes, and for a moment more GEM ports, two of them with one port-ID.
-use crate::aside::{chains_for, differs_at, ports_of};
+use crate::aside::{chains_for, ports_of};
 use arrayvec::ArrayVec;
 use managed_entity::Class;
 use migration_draft::{Draft, put, set};
@@ -42,17 +42,14 @@ fn at_port(draft: &mut Draft<'_>, port: u16) -> Result<bool, AllocError> {
     draft.take(&set(Class::Mapper, number, POINTERS, &values))
 }
 
-/// Does so at the ports where frames are seen otherwise than in the goal.
+/// Does so at the ports whose mapper leads elsewhere than in the goal.
 pub fn make_chain_aside(draft: &mut Draft<'_>) -> Result<bool, AllocError> {
     let mut is_done = false;
     for port in &ports_of(draft)? {
         let (count, temporaries) = (draft.plan.len(), draft.temporaries.len());
-        if !differs_at(draft, *port)? {
-            continue;
-        }
         if at_port(draft, *port)? {
             is_done = true;
-        } else {
+        } else if draft.plan.len() > count {
             draft.cut(count, temporaries)?;
         }
     }

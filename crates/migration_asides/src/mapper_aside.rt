@@ -5,8 +5,8 @@
 //! a lesser number than the one in force. That is then changed out of force, and is in force again when the new one is deleted.
 //! **What it takes of a unit.** A free number, and that of two mappers that name one port the one of least number is in force.
 use crate::aside::{
-    chains_for, differs_at, free_below, free_number, is_chain_there, is_table_there, is_zero,
-    ports_of, set_mapping, table_aside, table_at, take_aside,
+    chains_for, free_below, free_number, is_chain_there, is_table_there, is_zero, ports_of,
+    set_mapping, table_aside, table_at, take_aside,
 };
 use arrayvec::ArrayVec;
 use managed_entity::Class;
@@ -88,7 +88,7 @@ fn at_port(draft: &mut Draft<'_>, port: u16, with_table: bool) -> Result<bool, A
     else {
         return Ok(false);
     };
-    if is_mapper_there(draft, port, wanted) || with_table && is_table_there(draft, port)? {
+    if is_mapper_there(draft, port, wanted) {
         return Ok(false);
     }
     let Some(number) = number_for(draft, port) else {
@@ -130,17 +130,15 @@ fn with_its_table(draft: &mut Draft<'_>, port: u16, mapper: u16) -> Result<bool,
     detach_tables(draft, port)
 }
 
-/// Does so at the ports where frames are seen otherwise than in the goal.
+/// Does so at the ports whose mapper isn't that of the goal yet; with its table where that isn't either, if tables may be.
 pub fn make_mapper_aside(draft: &mut Draft<'_>, with_table: bool) -> Result<bool, AllocError> {
     let mut is_done = false;
     for port in &ports_of(draft)? {
         let (count, temporaries) = (draft.plan.len(), draft.temporaries.len());
-        if !differs_at(draft, *port)? {
-            continue;
-        }
-        if at_port(draft, *port, with_table)? {
+        let with_its = with_table && !is_table_there(draft, *port)?;
+        if at_port(draft, *port, with_its)? {
             is_done = true;
-        } else {
+        } else if draft.plan.len() > count {
             draft.cut(count, temporaries)?;
         }
     }

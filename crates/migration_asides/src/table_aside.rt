@@ -55,7 +55,7 @@ pub fn make_table_aside(draft: &mut Draft<'_>) -> Result<bool, AllocError> {
         }
         if at_port(draft, *port)? {
             is_done = true;
-        } else {
+        } else if draft.plan.len() > count {
             draft.cut(count, temporaries)?;
         }
     }

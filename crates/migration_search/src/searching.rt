@@ -18,14 +18,20 @@ const MOST_UNDERSTUDIES: u32 = 300;
 const MOST_ASIDES: u32 = 2;
 
 impl Way {
-    /// All ways, in the order in which they are tried.
-    const ALL: [Way; 6] = [
-        Way::InPlace,
-        Way::Understudy,
-        Way::ChainAside,
-        Way::MapperAside,
-        Way::TableAside,
-        Way::BothAside,
+    /// All ways, in the order in which they are tried: first with whole Sets, and then with steps attribute by attribute.
+    const TRIES: [(Way, Splitting); 12] = [
+        (Way::InPlace, Splitting::Whole),
+        (Way::Understudy, Splitting::Whole),
+        (Way::ChainAside, Splitting::Whole),
+        (Way::MapperAside, Splitting::Whole),
+        (Way::TableAside, Splitting::Whole),
+        (Way::BothAside, Splitting::Whole),
+        (Way::InPlace, Splitting::ByAttributes),
+        (Way::Understudy, Splitting::ByAttributes),
+        (Way::ChainAside, Splitting::ByAttributes),
+        (Way::MapperAside, Splitting::ByAttributes),
+        (Way::TableAside, Splitting::ByAttributes),
+        (Way::BothAside, Splitting::ByAttributes),
     ];
 
     /// How often it helps where nothing may be next.
@@ -79,6 +85,7 @@ fn by_way(
     sides: Sides<'_>,
     first: &[Request],
     way: Way,
+    splitting: Splitting,
 ) -> Result<Option<Vec<Request>>, AllocError> {
     let mut draft = Draft::behind(alloc, sides, first)?;
     let mut has_helped = way == Way::InPlace;
@@ -91,7 +98,7 @@ fn by_way(
             return Ok(Some(least_of(draft)?));
         }
     }
-    if has_helped {
+    if has_helped && splitting == Splitting::ByAttributes {
         return split(draft);
     }
     Ok(None)
@@ -135,12 +142,12 @@ fn candidate(
     sides: Sides<'_>,
     first: &[Request],
     came: Came,
-    way: Way,
+    (way, splitting): (Way, Splitting),
 ) -> Result<Option<Vec<Request>>, AllocError> {
     if way == Way::InPlace && came == Came::Through {
         return Ok(Some(Vec::from_slice(alloc, first)?));
     }
-    by_way(alloc, sides, first, way)
+    by_way(alloc, sides, first, way, splitting)
 }
 
 /// Looks for a way from one configuration to another on which no frame is torn. What is found is a migration (migration_check): each request is accepted in
@@ -151,11 +158,11 @@ pub fn migrate(alloc: Global, sides: &Sides<'_>) -> Result<Found, AllocError>
         sides.now.goal.now.entities) }
 {
     let (first, came) = in_place(alloc, *sides)?;
-    for way in Way::ALL {
+    for (way, splitting) in Way::TRIES {
         if way.ties() && !sides.ties {
             continue;
         }
-        let Some(requests) = candidate(alloc, *sides, &first, came, way)? else {
+        let Some(requests) = candidate(alloc, *sides, &first, came, (way, splitting))? else {
             continue;
         };
         let requests = numbered(alloc, &requests, sides.identifier)?;
